@@ -1,0 +1,5 @@
+pub mod Reading
+pub mod Number
+pub mod Format
+pub mod Wire
+pub mod Answers

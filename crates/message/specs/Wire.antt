@@ -1,0 +1,100 @@
+-- Reading one message from the front of some bytes (document 01, "Messages and carriers"; first fault from the left).
+use Prim.Native.Nat.{ℕ, _+_, _-_}
+use mathlib.Core.List.{List}
+use lib.ListN.{length, take, drop}
+use lib.Dec.{ltb, eqb}
+use Rattle.lists.specs.Choice.{pick}
+use Rattle.message.specs.Reading.{Read, took, refused, andThen}
+use Rattle.message.specs.Number.{fieldAt, digitsAt, sixteen}
+use Rattle.message.specs.Format.{requestBody}
+use Rattle.message.specs.declared.Carrier.{Carrier}
+use Rattle.message.specs.declared.Carrier.the-variants.{Setup, Connect, Facility, ReleaseComplete, Alerting}
+use Rattle.message.specs.declared.Kind.{Kind}
+use Rattle.message.specs.declared.Kind.the-variants.{Ccbs, Ccnr}
+use Rattle.message.specs.declared.Body.{Body}
+use Rattle.message.specs.declared.Body.the-variants.{CcbsRequest, CcnrRequest, RequestResult, RequestError, CcExecPossible, CcRingout, RingoutError, CcSuspend, CcResume, CcCancel, CallAlerts, CallFailed}
+use Rattle.message.specs.declared.Message.{Message}
+
+-- the carrier of a number from 1 to 5
+unfoldable pub carrierOf : ℕ → Carrier
+carrierOf n =
+    pick (eqb n 1) Setup
+    (pick (eqb n 2) Connect
+    (pick (eqb n 3) Facility
+    (pick (eqb n 4) ReleaseComplete
+    Alerting)))
+
+-- 16 raw bytes
+unfoldable pub identifierAt : List ℕ → ℕ → Read (List ℕ)
+identifierAt s at = pick (ltb (length s) (at + 16)) (refused 1) (took (take 16 (drop at s)) (at + 16))
+
+-- the fields of a message that stand from a place on: the places behind numberA and behind numberB, and the body
+pub record Fields : Type 0 where
+  pub behindA : ℕ
+  pub behindB : ℕ
+  pub body : Body
+
+-- numberA, numberB, service, flags
+unfoldable pub requestTail : Kind → List ℕ → ℕ → ℕ → Read Fields
+requestTail kind s behindA behindB =
+    andThen (fieldAt s behindB 0 16383) (λ service next.
+    andThen (fieldAt s next 0 5) (λ flags behind.
+    took (record { behindA = behindA; behindB = behindB; body = requestBody kind service flags }) behind))
+
+unfoldable pub requestAt : Kind → List ℕ → ℕ → Read Fields
+requestAt kind s at =
+    andThen (digitsAt s at 0) (λ a behindA.
+    andThen (digitsAt s behindA 1) (λ b behindB.
+    requestTail kind s behindA behindB))
+
+-- a body without numbers of digits
+abbrev pub plainAt : ℕ → Body → ℕ → Read Fields
+plainAt at body next = took (record { behindA = at; behindB = at; body = body }) next
+
+-- one number, within its range
+abbrev pub oneNumber : (ℕ → Body) → List ℕ → ℕ → ℕ → ℕ → Read Fields
+oneNumber make s at low high = andThen (fieldAt s at low high) (λ value next. plainAt at (make value) next)
+
+-- the fields of each type
+unfoldable pub fieldsAt : ℕ → List ℕ → ℕ → Read Fields
+fieldsAt type s at =
+    pick (eqb type 1) (requestAt Ccbs s at)
+    (pick (eqb type 2) (requestAt Ccnr s at)
+    (pick (eqb type 3) (oneNumber RequestResult s at 0 1)
+    (pick (eqb type 4) (oneNumber RequestError s at 1 2)
+    (pick (eqb type 5) (plainAt at CcExecPossible at)
+    (pick (eqb type 6) (plainAt at CcRingout at)
+    (pick (eqb type 7) (oneNumber RingoutError s at 1 2)
+    (pick (eqb type 8) (plainAt at CcSuspend at)
+    (pick (eqb type 9) (plainAt at CcResume at)
+    (pick (eqb type 10) (plainAt at CcCancel at)
+    (pick (eqb type 11) (plainAt at CallAlerts at)
+    (plainAt at CallFailed at)))))))))))
+
+-- the bytes between two places, kept in sixteen
+abbrev pub between : List ℕ → ℕ → ℕ → List ℕ
+between s from to = sixteen (take (to - from) (drop from s))
+
+abbrev pub messageWith : Carrier → List ℕ → List ℕ → ℕ → Fields → Message
+messageWith carrier identifier s at fields =
+    record {
+      carrier = carrier;
+      identifier = identifier;
+      numberA = between s at (fields .behindA);
+      numberB = between s (fields .behindA) (fields .behindB);
+      body = fields .body
+    }
+
+-- identifier and fields, behind type and carrier
+unfoldable pub behindHead : ℕ → Carrier → List ℕ → ℕ → Read Message
+behindHead type carrier s at =
+    andThen (identifierAt s at) (λ identifier next.
+    andThen (fieldsAt type s next) (λ fields behind.
+    took (messageWith carrier identifier s next fields) behind))
+
+-- one message from the front
+unfoldable pub messageAt : List ℕ → Read Message
+messageAt s =
+    andThen (fieldAt s 0 1 12) (λ type next.
+    andThen (fieldAt s next 1 5) (λ carrier behind.
+    behindHead type (carrierOf carrier) s behind))

@@ -1,0 +1,44 @@
+// Whether every field of a message is in range: refusal 2, the same for the writer and for both desks.
+use crate::Body;
+use crate::Message;
+use crate::digits::digits_in_range;
+ghost use mathlib.Core.Path.{_≡_};
+ghost use Rattle.message.specs.Format.{requestInRange, inRange};
+
+fn request_in_range(numberA: [u8; 16], numberB: [u8; 16], service: u16, flags: u8) -> bool
+    ensures { λ r. ⌜ r ≡ requestInRange numberA numberB service flags ⌝ }
+{
+    if digits_in_range(numberA, 0) {
+        if digits_in_range(numberB, 1) {
+            if service < 16384 {
+                return flags < 6;
+            }
+            return false;
+        }
+        return false;
+    }
+    false
+}
+
+// A message whose fields are all in range.
+pub fn in_range(m: Message) -> bool
+    ensures { λ r. ⌜ r ≡ inRange m ⌝ }
+{
+    let a = m.numberA;
+    let b = m.numberB;
+    let body = m.body;
+    match body {
+        Body::CcbsRequest { service, flags } => request_in_range(a, b, service, flags),
+        Body::CcnrRequest { service, flags } => request_in_range(a, b, service, flags),
+        Body::RequestResult { keep } => keep < 2,
+        Body::RequestError { error } => if 0 < error { error < 3 } else { false },
+        Body::CcExecPossible => true,
+        Body::CcRingout => true,
+        Body::RingoutError { error } => if 0 < error { error < 3 } else { false },
+        Body::CcSuspend => true,
+        Body::CcResume => true,
+        Body::CcCancel => true,
+        Body::CallAlerts => true,
+        Body::CallFailed => true,
+    }
+}

@@ -1,0 +1,96 @@
+-- What is read stands within the bytes: each field ends behind where it starts, a number of digits takes at most sixteen bytes.
+use Prim.Native.Nat.{ℕ, _+_, _-_, _≤_, _<_}
+use mathlib.Core.Path.{_≡_, refl, sym, _∙_, ap}
+use mathlib.Core.Bool.{Bool, true, false}
+use mathlib.Core.List.{List, [], _++_, append-nil}
+use lib.ListN.{length, take, drop, replicate, length-drop}
+use lib.Seq.{length-take-le}
+use lib.Dec.{eqb}
+use native.Mathlib.Omega.{arith}
+use Rattle.lists.proofs.Choice.{pick-elim}
+use Rattle.message.specs.Reading.{Read, took, refused, andThen}
+use Rattle.message.specs.Number.{fieldAt, digitsAt}
+use Rattle.message.specs.Wire.{Fields, requestTail, requestAt, fieldsAt, plainAt, between}
+use Rattle.message.specs.declared.Kind.{Kind}
+use Rattle.message.specs.declared.Kind.the-variants.{Ccbs, Ccnr}
+use Rattle.message.specs.declared.Body.{Body}
+use Rattle.message.specs.declared.Body.the-variants.{RequestResult, RequestError, RingoutError}
+use Rattle.message.proofs.Reading.{never-took, then-elim}
+use Rattle.message.proofs.NumberLaws.{field-read, digits-read}
+
+-- the places of the fields that stand from a place on
+pub record Placed (s : List ℕ) (at : ℕ) (f : Fields) (n : ℕ) : Type 0 where
+  pub startA : at ≤ f .behindA
+  pub sixteenA : f .behindA ≤ at + 16
+  pub startB : f .behindA ≤ f .behindB
+  pub sixteenB : f .behindB ≤ f .behindA + 16
+  pub last : f .behindB ≤ n
+  pub ends : n ≤ length s
+
+abbrev Places : List ℕ → ℕ → Read Fields → Type 0
+Places s at r = (f : Fields) (n : ℕ) → r ≡ took f n → Placed s at f n
+
+no-places : (s : List ℕ) (at x : ℕ) → Places s at (refused x)
+no-places s at x f n e = absurd (never-took e)
+
+plain-places : (s : List ℕ) (at : ℕ) (body : Body) (next : ℕ) → at ≤ next → next ≤ length s → Places s at (plainAt at body next)
+plain-places s at body next h k f n e =
+    let a : at ≡ f .behindA = cc in
+    let b : at ≡ f .behindB = cc in
+    let q : next ≡ n = cc in
+    record { startA = omega arith; sixteenA = omega arith; startB = omega arith; sixteenB = omega arith; last = omega arith; ends = omega arith }
+
+one-places : (make : ℕ → Body) (s : List ℕ) (at low high : ℕ) → Places s at (andThen (fieldAt s at low high) (λ v next. plainAt at (make v) next))
+one-places make s at low high =
+    then-elim (Places s at) (fieldAt s at low high) _ (no-places s at) (λ v next e.
+    let r = field-read s at low high v next e in
+    let later = r .later in
+    plain-places s at (make v) next (omega arith) (r .ends))
+
+request-places : (kind : Kind) (s : List ℕ) (at : ℕ) → Places s at (requestAt kind s at)
+unfolding requestAt requestTail
+request-places kind s at =
+    then-elim (Places s at) (digitsAt s at 0) _ (no-places s at) (λ u na ea.
+    then-elim (Places s at) (digitsAt s na 1) _ (no-places s at) (λ w nb eb.
+    then-elim (Places s at) (fieldAt s nb 0 16383) _ (no-places s at) (λ service ns es.
+    then-elim (Places s at) (fieldAt s ns 0 5) _ (no-places s at) (λ flags nf ef.
+    λ f n e.
+    let a : na ≡ f .behindA = cc in
+    let b : nb ≡ f .behindB = cc in
+    let q : nf ≡ n = cc in
+    let ra = digits-read s at 0 na ea in
+    let rb = digits-read s na 1 nb eb in
+    let rs = field-read s nb 0 16383 service ns es in
+    let rf = field-read s ns 0 5 flags nf ef in
+    record {
+      startA = omega (arith, ra .behind);
+      sixteenA = omega (arith, ra .behind, ra .most);
+      startB = omega (arith, rb .behind);
+      sixteenB = omega (arith, rb .behind, rb .most);
+      last = omega (arith, rs .later, rf .later);
+      ends = omega (arith, rf .ends)
+    }))))
+
+pub fields-places : (type : ℕ) (s : List ℕ) (at : ℕ) → at ≤ length s → Places s at (fieldsAt type s at)
+unfolding fieldsAt
+fields-places type s at h =
+    let P = Places s at in
+    let here : (body : Body) → P (plainAt at body at) = λ body. plain-places s at body at (omega arith) h in
+    pick-elim P (eqb type 1) (λ t. request-places Ccbs s at) (λ t.
+    pick-elim P (eqb type 2) (λ t. request-places Ccnr s at) (λ t.
+    pick-elim P (eqb type 3) (λ t. one-places RequestResult s at 0 1) (λ t.
+    pick-elim P (eqb type 4) (λ t. one-places RequestError s at 1 2) (λ t.
+    pick-elim P (eqb type 5) (λ t. here _) (λ t.
+    pick-elim P (eqb type 6) (λ t. here _) (λ t.
+    pick-elim P (eqb type 7) (λ t. one-places RingoutError s at 1 2) (λ t.
+    pick-elim P (eqb type 8) (λ t. here _) (λ t.
+    pick-elim P (eqb type 9) (λ t. here _) (λ t.
+    pick-elim P (eqb type 10) (λ t. here _) (λ t.
+    pick-elim P (eqb type 11) (λ t. here _) (λ t. here _)))))))))))
+
+-- sixteen bytes leave nothing to be filled up
+pub whole-between : (s : List ℕ) (at : ℕ) → at + 16 ≤ length s → between s at (at + 16) ≡ take 16 (drop at s)
+whole-between s at h =
+    let k : at + 16 - at ≡ 16 = omega arith in
+    let t : length (take 16 (drop at s)) ≡ 16 = length-take-le 16 (drop at s) (omega (arith, length-drop at s)) in
+    rw (k, t) (append-nil (take 16 (drop at s)))

@@ -1,0 +1,35 @@
+-- What the reader's answers are: a message and the first unread place, or document 01's number; and the part of the bytes that follows.
+use Prim.Native.Nat.{ℕ}
+use mathlib.Core.List.{List}
+use lib.ListN.{drop, replicate}
+use Rattle.message.specs.Reading.{Read, took, refused}
+use Rattle.message.specs.Wire.{Fields}
+use Rattle.message.specs.declared.Carrier.the-variants.{Setup}
+use Rattle.message.specs.declared.Body.the-variants.{CallFailed}
+use Rattle.message.specs.declared.Message.{Message}
+use Rattle.message.specs.declared.digits.PlaceRead.{PlaceRead}
+use Rattle.message.specs.declared.digits.PlaceRead.the-variants.{Taken, Refused}
+use Rattle.reader.specs.declared.FieldsRead.{FieldsRead}
+use Rattle.reader.specs.declared.FieldsRead.the-variants as F
+use Rattle.reader.specs.declared.Answer.{Answer}
+
+abbrev pub fieldsTold : FieldsRead → Read Fields
+fieldsTold (F.Whole behindA behindB body next) = took (record { behindA = behindA; behindB = behindB; body = body }) next
+fieldsTold (F.Refused number) = refused number
+
+-- what stands for the message beside a refusal
+abbrev pub blankMessage : Message
+blankMessage =
+    record { carrier = Setup; identifier = replicate 16 0; numberA = replicate 16 0; numberB = replicate 16 0; body = CallFailed }
+
+abbrev pub readAnswer : Read Message → Answer
+readAnswer (took message next) = record { verdict = Taken next; message = message }
+readAnswer (refused number) = record { verdict = Refused number; message = blankMessage }
+
+-- the bytes from the first unread one on: all of them where the message is refused
+abbrev pub restBy : List ℕ → PlaceRead → List ℕ
+restBy s (Taken next) = drop next s
+restBy s (Refused number) = s
+
+abbrev pub restOf : List ℕ → Answer → List ℕ
+restOf s answer = restBy s (answer .verdict)
