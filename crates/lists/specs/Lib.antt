@@ -1,2 +1,5 @@
 pub mod Choice
+pub mod Lists
 pub mod Parts
+pub mod Words
+pub mod Flat
