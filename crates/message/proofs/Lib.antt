@@ -1,3 +1,4 @@
 pub mod Reading
 pub mod NumberLaws
+pub mod NumberBack
 pub mod RangeLaws

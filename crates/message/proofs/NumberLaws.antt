@@ -20,7 +20,7 @@ use Rattle.message.specs.Number.{numberAt, numberBytes, within, fieldAt,
 use Rattle.message.proofs.Reading.{never-took, then-elim}
 
 -- ---- what a number that was read says of the bytes
-number-shape :
+pub number-shape :
     (s : List ℕ) (at v n : ℕ) → numberAt s at ≡ took v n →
     (at < length s) ×
     (((getD s at 0 < 128) × ((v ≡ getD s at 0) × (n ≡ at + 1))) ⊎
