@@ -1,1 +1,3 @@
 pub mod RoundTrip
+pub mod CanonicalLaws
+pub mod Claims

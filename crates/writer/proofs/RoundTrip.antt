@@ -35,7 +35,7 @@ between-is s bytes rest from to e h =
     let k : to - from ≡ length bytes = omega arith in
     rw (e, k, take-at bytes rest (length bytes) refl)
 
-between-none : (s : List ℕ) (at : ℕ) → between s at at ≡ replicate 16 0
+pub between-none : (s : List ℕ) (at : ℕ) → between s at at ≡ replicate 16 0
 between-none s at = let k : at - at ≡ 0 = omega arith in rw k
 
 module _ (carrier : Carrier) (identifier s rest : List ℕ) (at : ℕ) where

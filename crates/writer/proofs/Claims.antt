@@ -1,0 +1,190 @@
+-- The claims of specs/Claims.antt: by the round trip, by the canonical form, and by what the buffer of a taken write is.
+use Prim.Native.Nat.{ℕ, _+_, _≤_, _<_}
+use mathlib.Core.Path.{_≡_, refl, sym, _∙_, ap}
+use mathlib.Core.Bool.{Bool, true, false}
+use mathlib.Core.List.{List, [], _∷_, _++_, append-nil}
+use lib.ListN.{length, getD, take, drop, replicate, length-drop, length-take, length-append}
+use lib.Seq.{take-at, drop-at, drop-drop, length-take-le, drop-append-seam}
+use lib.Dec.{ltb, leb}
+use native.Mathlib.Omega.{arith}
+use native.Mathlib.Numerals.{add-one}
+use borrow.Author.Tests.{leb-true}
+use Rattle.lists.specs.Words.{Bytes}
+use Rattle.lists.proofs.Choice.{no-true, pick-then}
+use Rattle.message.specs.Reading.{Read, took, refused}
+use Rattle.message.specs.Number.{digitsBytes, sixteen}
+use Rattle.message.specs.Format.{inRange, requestInRange, fieldsInRange, fieldBytes, requestBytes, messageBytes}
+use Rattle.message.specs.Equality.{digitsOf, numbersOf, withNumbers, normalNumber, Same, Formed, normal}
+use Rattle.message.specs.Wire.{messageAt}
+use Rattle.message.specs.declared.Body.{Body}
+use Rattle.message.specs.declared.Body.the-variants.{CcbsRequest, CcnrRequest, RequestResult, RequestError, CcExecPossible, CcRingout, RingoutError, CcSuspend, CcResume, CcCancel, CallAlerts, CallFailed}
+use Rattle.message.specs.declared.Message.{Message}
+use Rattle.message.proofs.RangeLaws.{request-ranged, digits-length, fields-length, fieldsOf, message-bytes, message-length}
+use Rattle.writer.specs.Write.{putAt, room, messageWritten, messageBuffer}
+use Rattle.writer.specs.Claims.{Back, WrittenReadsBack, Canonical, ReadIsWritten, SameByBytes, BytesOfSame}
+use Rattle.writer.specs.declared.Written.{Written}
+use Rattle.writer.specs.declared.Written.the-variants.{Wrote, Refused}
+use Rattle.writer.proofs.RoundTrip.{round-trip}
+use Rattle.writer.proofs.CanonicalLaws.{Whole, canonical}
+
+-- ---- equality
+digits-front : (g : List ℕ) → length g ≡ 16 → digitsBytes g ≡ getD g 0 0 ∷ digitsOf g
+digits-front [] l = let z : _≡_ {A = ℕ} 0 16 = l in absurd (omega arith)
+digits-front (x ∷ xs) l = rw (add-one x)
+
+digits-count : (g : List ℕ) → length g ≡ 16 → getD g 0 0 ≤ 15 → length (digitsOf g) ≡ getD g 0 0
+digits-count g l h = length-take-le (getD g 0 0) (drop 1 g) (omega (arith, length-drop 1 g))
+
+-- the normal form has the same digits
+digits-normal : (g : List ℕ) → length g ≡ 16 → getD g 0 0 ≤ 15 → digitsOf (sixteen (digitsBytes g)) ≡ digitsOf g
+digits-normal g l h = rw (digits-front g l) (take-at (digitsOf g) _ (getD g 0 0) (digits-count g l h))
+
+request-numbers :
+    (a b : List ℕ) (service flags : ℕ) → length a ≡ 16 → length b ≡ 16 → requestInRange a b service flags ≡ true →
+    _≡_ {A = List (List ℕ)} (digitsOf (sixteen (digitsBytes a)) ∷ digitsOf (sixteen (digitsBytes b)) ∷ []) (digitsOf a ∷ digitsOf b ∷ [])
+request-numbers a b service flags la lb ok =
+    let r = request-ranged a b service flags ok in
+    rw (digits-normal a la (r .mostA), digits-normal b lb (r .mostB))
+
+body-numbers :
+    (a b : List ℕ) (body : Body) → length a ≡ 16 → length b ≡ 16 → fieldsInRange a b body ≡ true →
+    withNumbers body (digitsOf (normalNumber body a) ∷ digitsOf (normalNumber body b) ∷ []) [] ≡ withNumbers body (digitsOf a ∷ digitsOf b ∷ []) []
+body-numbers a b (CcbsRequest service flags) la lb ok = request-numbers a b service flags la lb ok
+body-numbers a b (CcnrRequest service flags) la lb ok = request-numbers a b service flags la lb ok
+body-numbers a b (RequestResult keep) la lb ok = refl
+body-numbers a b (RequestError error) la lb ok = refl
+body-numbers a b CcExecPossible la lb ok = refl
+body-numbers a b CcRingout la lb ok = refl
+body-numbers a b (RingoutError error) la lb ok = refl
+body-numbers a b CcSuspend la lb ok = refl
+body-numbers a b CcResume la lb ok = refl
+body-numbers a b CcCancel la lb ok = refl
+body-numbers a b CallAlerts la lb ok = refl
+body-numbers a b CallFailed la lb ok = refl
+
+same-normal : (m : Message) → Formed m → inRange m ≡ true → Same (normal m) m
+unfolding normal inRange
+same-normal m f ok = record { carrier = refl; identifier = refl; body = refl; numbers = body-numbers (m .numberA) (m .numberB) (m .body) (f .numberA) (f .numberB) ok }
+
+-- two messages with one normal form
+same-by : (m n : Message) → Same (normal m) m → Same (normal n) n → normal m ≡ normal n → Same m n
+same-by m n p q e =
+    record {
+      carrier = sym (p .carrier) ∙ ap (λ (x : Message). x .carrier) e ∙ q .carrier;
+      identifier = sym (p .identifier) ∙ ap (λ (x : Message). x .identifier) e ∙ q .identifier;
+      body = sym (p .body) ∙ ap (λ (x : Message). x .body) e ∙ q .body;
+      numbers = sym (p .numbers) ∙ ap numbersOf e ∙ q .numbers
+    }
+
+took-first : {A : Type 0} {v w : A} {n k : ℕ} → took v n ≡ took w k → v ≡ w
+took-first e = cc
+
+pub same-by-bytes : SameByBytes
+same-by-bytes m n fm fn om on e =
+    same-by m n (same-normal m fm om) (same-normal n fn on)
+    (took-first (sym (round-trip m [] fm om) ∙ ap (λ (t : List ℕ). messageAt (t ++ [])) e ∙ round-trip n [] fn on))
+
+digits-same : (a b : List ℕ) → length a ≡ 16 → length b ≡ 16 → getD a 0 0 ≤ 15 → getD b 0 0 ≤ 15 → digitsOf a ≡ digitsOf b → digitsBytes a ≡ digitsBytes b
+digits-same a b la lb ha hb e =
+    let k : getD a 0 0 ≡ getD b 0 0 = sym (digits-count a la ha) ∙ ap length e ∙ digits-count b lb hb in
+    digits-front a la ∙ ap (λ (t : List ℕ). getD a 0 0 ∷ t) e ∙ ap (λ (n : ℕ). n ∷ digitsOf b) k ∙ sym (digits-front b lb)
+
+request-same :
+    (a b c d : List ℕ) (service flags : ℕ) → length a ≡ 16 → length b ≡ 16 → length c ≡ 16 → length d ≡ 16 →
+    requestInRange a b service flags ≡ true → requestInRange c d service flags ≡ true →
+    _≡_ {A = List (List ℕ)} (digitsOf a ∷ digitsOf b ∷ []) (digitsOf c ∷ digitsOf d ∷ []) → requestBytes a b service flags ≡ requestBytes c d service flags
+request-same a b c d service flags la lb lc ld ok ok′ e =
+    let r = request-ranged a b service flags ok in
+    let r′ = request-ranged c d service flags ok′ in
+    let ea : digitsOf a ≡ digitsOf c = cc in
+    let eb : digitsOf b ≡ digitsOf d = cc in
+    rw (digits-same a c la lc (r .mostA) (r′ .mostA) ea, digits-same b d lb ld (r .mostB) (r′ .mostB) eb)
+
+body-same :
+    (a b c d : List ℕ) (body : Body) → length a ≡ 16 → length b ≡ 16 → length c ≡ 16 → length d ≡ 16 → fieldsInRange a b body ≡ true → fieldsInRange c d body ≡ true →
+    withNumbers body (digitsOf a ∷ digitsOf b ∷ []) [] ≡ withNumbers body (digitsOf c ∷ digitsOf d ∷ []) [] → fieldBytes a b body ≡ fieldBytes c d body
+body-same a b c d (CcbsRequest service flags) la lb lc ld ok ok′ e = request-same a b c d service flags la lb lc ld ok ok′ e
+body-same a b c d (CcnrRequest service flags) la lb lc ld ok ok′ e = request-same a b c d service flags la lb lc ld ok ok′ e
+body-same a b c d (RequestResult keep) la lb lc ld ok ok′ e = refl
+body-same a b c d (RequestError error) la lb lc ld ok ok′ e = refl
+body-same a b c d CcExecPossible la lb lc ld ok ok′ e = refl
+body-same a b c d CcRingout la lb lc ld ok ok′ e = refl
+body-same a b c d (RingoutError error) la lb lc ld ok ok′ e = refl
+body-same a b c d CcSuspend la lb lc ld ok ok′ e = refl
+body-same a b c d CcResume la lb lc ld ok ok′ e = refl
+body-same a b c d CcCancel la lb lc ld ok ok′ e = refl
+body-same a b c d CallAlerts la lb lc ld ok ok′ e = refl
+body-same a b c d CallFailed la lb lc ld ok ok′ e = refl
+
+fields-same :
+    (a b c d : List ℕ) (body body′ : Body) → body ≡ body′ → length a ≡ 16 → length b ≡ 16 → length c ≡ 16 → length d ≡ 16 →
+    fieldsInRange a b body ≡ true → fieldsInRange c d body′ ≡ true →
+    withNumbers body (digitsOf a ∷ digitsOf b ∷ []) [] ≡ withNumbers body′ (digitsOf c ∷ digitsOf d ∷ []) [] → fieldBytes a b body ≡ fieldBytes c d body′
+fields-same a b c d body body′ h la lb lc ld ok ok′ e = rw (← h) (body-same a b c d body la lb lc ld ok (rw h ok′) (rw (← h) at e))
+
+pub bytes-of-same : BytesOfSame
+unfolding messageBytes inRange
+bytes-of-same m n fm fn om on s =
+    rw (fields-same (m .numberA) (m .numberB) (n .numberA) (n .numberB) (m .body) (n .body) (s .body) (fm .numberA) (fm .numberB) (fn .numberA) (fn .numberB) om on (s .numbers), s .carrier, s .identifier, s .body)
+
+-- ---- written and read
+put-back : (buffer bytes : List ℕ) (place : ℕ) → place + length bytes ≤ length buffer → drop place (putAt buffer place bytes) ≡ bytes ++ drop (place + length bytes) buffer
+put-back buffer bytes place h =
+    drop-at (take place buffer) _ place (length-take-le place buffer (omega arith)) ∙ ap (λ (t : List ℕ). bytes ++ t) (drop-drop (length bytes) place buffer)
+
+no-wrote : {x n : ℕ} → Refused x ≡ Wrote n → ⊥
+no-wrote e = let z : _≡_ {A = ℕ} 0 1 = cc in omega arith
+
+-- what a taken write says
+record Took-place (buffer : List ℕ) (place : ℕ) (m : Message) (n : ℕ) : Type 0 where
+  ranged : inRange m ≡ true
+  fits : place + length (messageBytes m) ≤ length buffer
+  size : length (messageBytes m) ≡ n
+  after : messageBuffer buffer place m ≡ putAt buffer place (messageBytes m)
+
+took-place : (buffer : List ℕ) (place : ℕ) (m : Message) (n : ℕ) → messageWritten buffer place m ≡ Wrote n → Took-place buffer place m n
+unfolding messageWritten messageBuffer
+took-place buffer place m n e =
+    let p = pick-then (inRange m) _ (Refused 2) (Wrote n) no-wrote e in
+    let q = pick-then (room buffer place (messageBytes m)) _ (Refused 12) (Wrote n) no-wrote (p .1) in
+    let k = q .1 in
+    record { ranged = p .0; fits = leb-true _ _ (q .0); size = cc; after = rw (p .0, q .0) }
+
+fields-most : (m : Message) → Formed m → inRange m ≡ true → length (fieldsOf m) ≤ 35
+unfolding inRange
+fields-most m f ok = fields-length (m .numberA) (m .numberB) (m .body) (f .numberA) (f .numberB) ok
+
+pub written-reads-back : WrittenReadsBack
+written-reads-back buffer place m n f e =
+    let t = took-place buffer place m n e in
+    let bytes = messageBytes m in
+    let fits : place + length bytes ≤ length buffer = t .fits in
+    let size : length bytes ≡ n = t .size in
+    let stands : drop place (messageBuffer buffer place m) ≡ bytes ++ drop (place + length bytes) buffer = ap (λ (d : List ℕ). drop place d) (t .after) ∙ put-back buffer bytes place fits in
+    let long = message-length m (f .identifier) in
+    let few = fields-most m f (t .ranged) in
+    record {
+      read = rw stands (round-trip m (drop (place + length bytes) buffer) f (t .ranged) ∙ ap (λ (k : ℕ). took (normal m) k) size);
+      equal = same-normal m f (t .ranged);
+      least = omega (arith, long, size);
+      most = omega (arith, long, size, few);
+      within = omega (arith, fits, size);
+      before = rw (t .after) (take-at (take place buffer) _ place (length-take-le place buffer (omega arith)));
+      behind = sym (drop-drop n place (messageBuffer buffer place m)) ∙ rw (stands, ← size) (drop-append-seam bytes (drop (place + length bytes) buffer))
+    }
+
+pub read-is-written : ReadIsWritten
+read-is-written s m n byte e =
+    let w = canonical s byte m n e in
+    let bytes = messageBytes m in
+    let again : took m n ≡ took (normal m) (length bytes) = sym e ∙ ap messageAt (w .whole) ∙ round-trip m (drop n s) (w .formed) (w .ranged) in
+    let size : n ≡ length bytes = cc in
+    let whole = w .whole in
+    let total : length s ≡ length bytes + length (drop n s) = ap length whole ∙ length-append bytes (drop n s) in
+    record {
+      formed = w .formed;
+      ranged = w .ranged;
+      normalised = sym (took-first again);
+      bytes = ap (λ (t : List ℕ). take n t) whole ∙ take-at bytes (drop n s) n (sym size);
+      ends = omega (arith, total, size)
+    }
