@@ -1,4 +1,5 @@
 pub mod Choice
 pub mod Lists
+pub mod OneResult
 pub mod Parts
 pub mod WordsLaws

@@ -68,7 +68,7 @@ request-ranged a b service flags e =
       leastB = digits-few b 1 (q .0) .0;
       mostB = digits-few b 1 (q .0) .1;
       mostService = ltb-true service 16384 (r .0);
-      mostFlags = ltb-true flags 6 (r .1)
+      mostFlags = ltb-true flags 6 (r .1);
     }
 
 pub error-ranged : (v : ℕ) → errorInRange v ≡ true → (1 ≤ v) × (v ≤ 2)

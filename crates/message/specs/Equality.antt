@@ -48,7 +48,7 @@ normal m =
       identifier = m .identifier;
       numberA = normalNumber (m .body) (m .numberA);
       numberB = normalNumber (m .body) (m .numberB);
-      body = m .body
+      body = m .body;
     }
 
 -- what a value of the code's type has: each of its arrays has sixteen places

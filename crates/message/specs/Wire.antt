@@ -82,7 +82,7 @@ messageWith carrier identifier s at fields =
       identifier = identifier;
       numberA = between s at (fields .behindA);
       numberB = between s (fields .behindA) (fields .behindB);
-      body = fields .body
+      body = fields .body;
     }
 
 -- identifier and fields, behind type and carrier

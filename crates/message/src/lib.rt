@@ -3,6 +3,7 @@
 pub mod digits;
 pub mod number;
 pub mod range;
+
 ghost use mathlib.Core.Path.{_≡_};
 ghost use Rattle.message.specs.Format.{requestBody};
 

@@ -68,7 +68,7 @@ request-places kind s at =
       startB = omega (arith, rb .behind);
       sixteenB = omega (arith, rb .behind, rb .most);
       last = omega (arith, rs .later, rf .later);
-      ends = omega (arith, rf .ends)
+      ends = omega (arith, rf .ends);
     }))))
 
 pub fields-places : (type : ℕ) (s : List ℕ) (at : ℕ) → at ≤ length s → Places s at (fieldsAt type s at)

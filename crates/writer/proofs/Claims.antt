@@ -73,7 +73,7 @@ same-by m n p q e =
       carrier = sym (p .carrier) ∙ ap (λ (x : Message). x .carrier) e ∙ q .carrier;
       identifier = sym (p .identifier) ∙ ap (λ (x : Message). x .identifier) e ∙ q .identifier;
       body = sym (p .body) ∙ ap (λ (x : Message). x .body) e ∙ q .body;
-      numbers = sym (p .numbers) ∙ ap numbersOf e ∙ q .numbers
+      numbers = sym (p .numbers) ∙ ap numbersOf e ∙ q .numbers;
     }
 
 took-first : {A : Type 0} {v w : A} {n k : ℕ} → took v n ≡ took w k → v ≡ w
@@ -170,7 +170,7 @@ written-reads-back buffer place m n f e =
       most = omega (arith, long, size, few);
       within = omega (arith, fits, size);
       before = rw (t .after) (take-at (take place buffer) _ place (length-take-le place buffer (omega arith)));
-      behind = sym (drop-drop n place (messageBuffer buffer place m)) ∙ rw (stands, ← size) (drop-append-seam bytes (drop (place + length bytes) buffer))
+      behind = sym (drop-drop n place (messageBuffer buffer place m)) ∙ rw (stands, ← size) (drop-append-seam bytes (drop (place + length bytes) buffer));
     }
 
 pub read-is-written : ReadIsWritten
@@ -186,5 +186,5 @@ read-is-written s m n byte e =
       ranged = w .ranged;
       normalised = sym (took-first again);
       bytes = ap (λ (t : List ℕ). take n t) whole ∙ take-at bytes (drop n s) n (sym size);
-      ends = omega (arith, total, size)
+      ends = omega (arith, total, size);
     }

@@ -38,7 +38,7 @@ loop-less : tie.Need-loop-less Inv-loop μ-loop
 loop-less c = omega arith
 
 loop-again : tie.Need-loop-again Inv-loop μ-loop
-loop-again c = 
+loop-again c =
     let a = c .before .before .before .args in
     let l = c .before .before .loop in
     let hz : l .i < length {A = ℕ} (replicate 16 0) = omega arith in
@@ -46,7 +46,7 @@ loop-again c =
     (omega arith, rw (l .inv .1, ← getD-drop (a .from) (now (a .s)) (l .i) 0) (front-step (replicate 16 0) (drop (a .from) (now (a .s))) (l .i) hz ht))
 
 returns : tie.Need-returns Inv-loop μ-loop
-returns c = 
+returns c =
     let a = c .before .before .args in
     let e : c .before .loop .i ≡ a .to - a .from = omega arith in
     let t : length (take (a .to - a .from) (drop (a .from) (now (a .s)))) ≡ a .to - a .from = length-take-le (a .to - a .from) (drop (a .from) (now (a .s))) (omega (arith, length-drop (a .from) (now (a .s)))) in

@@ -40,7 +40,7 @@ returns-2 : tie.Need-returns-2
 returns-2 c = search needs
 
 returns-3 : tie.Need-returns-3
-returns-3 c = rw (c .before .before .before .verdict .given .1) 
+returns-3 c = rw (c .before .before .before .verdict .given .1)
     (let s = now (c .before .before .before .before .before .args .s) in
     tail-of (length s) s ∙ drop-of-length-le s {i = length s} (omega arith) ∙ sym (drop-of-length-le s {i = c .before .before .before .verdict .given .0 .0} (omega arith)))
 

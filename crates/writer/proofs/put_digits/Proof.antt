@@ -27,7 +27,7 @@ same-length : tie.Need-same-length
 same-length c = search needs
 
 returns : tie.Need-returns
-returns c = 
+returns c =
     let a = c .before .before .before .before .before .before .args in
     let e = digits-length (a .t2) (search needs) (c .before .before .before .before .before .before .pre .0) in
     (refl, rw e (c .before .before .put-bytes .ensures))

@@ -55,7 +55,7 @@ slice-aggregate-put-bytes : tie.Need-slice-aggregate-put-bytes
 slice-aggregate-put-bytes c = search needs
 
 put-bytes-requires : tie.Need-put-bytes-requires
-put-bytes-requires c κs = 
+put-bytes-requires c κs =
     let l0 = set (set (now (c .before .before .before .before .before .before .before .before .args .d)) 0 (c .before .before .before .type-number .result)) 1 (c .before .before .carrier-number .result) in
     (omega (arith, array-identifier (c .before .before .before .before .before .before .before .before)), rw (tail-of 2 l0) (simp (length-drop, length-set) (omega (arith, room (c .before .before .before .before .before .before .before .before)))))
 
@@ -69,7 +69,7 @@ part-put-fields-end : tie.Need-part-put-fields-end
 part-put-fields-end c = search needs
 
 put-fields-requires : tie.Need-put-fields-requires
-put-fields-requires c κs = 
+put-fields-requires c κs =
     let l0 = set (set (now (c .before .before .before .before .before .before .before .before .before .before .before .before .args .d)) 0 (c .before .before .before .before .before .before .before .type-number .result)) 1 (c .before .before .before .before .before .before .carrier-number .result) in
     let d1 = putMid 2 (length l0 - 2) l0 (c .before .before .before .put-bytes .last .0) in
     let q : length d1 ≡ length (now (c .before .before .before .before .before .before .before .before .before .before .before .before .args .d)) = c .before .before .d .given .1 ∙ length-set2 (now (c .before .before .before .before .before .before .before .before .before .before .before .before .args .d)) 0 1 (c .before .before .before .before .before .before .before .type-number .result) (c .before .before .before .before .before .before .carrier-number .result) in
@@ -79,7 +79,7 @@ same-length : tie.Need-same-length
 same-length c = c .before .d2 .given .1 ∙ (c .before .before .before .before .before .d .given .1 ∙ length-set2 (now (c .before .before .before .before .before .before .before .before .before .before .before .before .before .before .before .args .d)) 0 1 (c .before .before .before .before .before .before .before .before .before .before .type-number .result) (c .before .before .before .before .before .before .before .before .before .carrier-number .result))
 
 returns : tie.Need-returns
-returns c = 
+returns c =
     let a = c .before .before .before .before .before .before .before .before .before .before .before .before .before .before .before .args in
     let d = now (a .d) in
     let m = a .m in

@@ -21,7 +21,7 @@ same-length : tie.Need-same-length
 same-length c = search needs
 
 returns : tie.Need-returns
-returns c = 
+returns c =
     let a = c .before .args in
     let e : a .v % 128 ≡ a .v = omega arith in
     let r : 1 ≤ length (now (a .d)) = simp (lt-ltb _ _ (c .if1 .taken)) at (c .before .pre .1) in
@@ -46,7 +46,7 @@ same-length-2 : tie.Need-same-length-2
 same-length-2 c = search needs
 
 returns-2 : tie.Need-returns-2
-returns-2 c = 
+returns-2 c =
     let a = c .before .args in
     let e : a .v / 128 % 128 ≡ a .v / 128 = omega arith in
     let r : 2 ≤ length (now (a .d)) = simp (le-ltb _ _ (c .if1 .left)) at (c .before .pre .1) in

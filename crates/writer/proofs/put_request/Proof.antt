@@ -55,7 +55,7 @@ part-put-number-end : tie.Need-part-put-number-end
 part-put-number-end c = search needs
 
 put-number-requires : tie.Need-put-number-requires
-put-number-requires c κs = 
+put-number-requires c κs =
     let n1 = c .before .before .before .before .before .before .before .put-digits .result in
     let l1 = c .before .before .before .before .before .before .before .put-digits .last .0 in
     let d2 = putMid n1 (length l1 - n1) l1 (c .before .before .before .put-digits2 .last .0) in
@@ -71,7 +71,7 @@ same-length : tie.Need-same-length
 same-length c = simp length-set (c .before .d3 .given .1 ∙ c .before .before .before .before .before .d2 .given .1 ∙ c .before .before .before .before .before .before .before .before .before .before .put-digits .kept .0)
 
 returns : tie.Need-returns
-returns c = 
+returns c =
     let a = c .before .before .before .before .before .before .before .before .before .before .before .before .before .args in
     let d = now (a .d) in
     let r = ranged (c .before .before .before .before .before .before .before .before .before .before .before .before .before) in

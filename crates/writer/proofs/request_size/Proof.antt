@@ -37,7 +37,7 @@ add-result-2 : tie.Need-add-result-2
 add-result-2 c = let r = ranged (c .before) in omega (arith, r .mostA, r .mostB, number-length (c .before .args .service), c .number-size .ensures)
 
 returns : tie.Need-returns
-returns c = 
+returns c =
     let a = c .before .args in
     rw (request-length (a .t1) (a .t2) (a .service) (a .flags) (search needs) (search needs) (c .before .pre), c .number-size .ensures) (omega arith)
 

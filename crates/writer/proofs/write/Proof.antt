@@ -30,7 +30,7 @@ in-range-requires c κs = search needs
 
 returns : tie.Need-returns
 unfolding messageWritten messageBuffer
-returns c = 
+returns c =
     let h : length (now (c .before .before .before .before .args .d)) < c .before .before .before .before .args .place + length (messageBytes (c .before .before .before .before .args .m)) = omega (arith, size (c .before .before .before .before)) in
     rw (← c .before .before .in-range .ensures, c .before .if1 .taken, lt-leb _ _ h) (refl, refl)
 
@@ -45,7 +45,7 @@ sub-if3 c = search needs
 
 returns-2 : tie.Need-returns-2
 unfolding messageWritten messageBuffer
-returns-2 c = 
+returns-2 c =
     let h : length (now (c .before .before .before .before .before .before .before .before .args .d)) < c .before .before .before .before .before .before .before .before .args .place + length (messageBytes (c .before .before .before .before .before .before .before .before .args .m)) = omega (arith, size (c .before .before .before .before .before .before .before .before), c .before .fields-size .ensures) in
     rw (← c .before .before .before .before .before .before .in-range .ensures, c .before .before .before .before .before .if1 .taken, lt-leb _ _ h) (refl, refl)
 
@@ -66,7 +66,7 @@ same-length c = search needs
 
 returns-3 : tie.Need-returns-3
 unfolding messageWritten messageBuffer
-returns-3 c = 
+returns-3 c =
     let a = c .before .before .before .before .before .before .before .before .before .before .before .before .args in
     let n : 18 + c .before .before .before .before .before .fields-size .result ≡ length (messageBytes (a .m)) = omega (arith, size (c .before .before .before .before .before .before .before .before .before .before .before .before), c .before .before .before .before .before .fields-size .ensures) in
     let h : a .place + length (messageBytes (a .m)) ≤ length (now (a .d)) = omega (arith, n) in

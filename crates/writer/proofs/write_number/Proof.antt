@@ -16,7 +16,7 @@ number-size-requires c κs = search needs
 
 returns : tie.Need-returns
 unfolding numberWritten numberBuffer
-returns c = 
+returns c =
     let a = c .before .before .before .before .args in
     let h : length (now (a .d)) < 0 + length (numberBytes (a .v)) = omega (arith, c .before .number-size .ensures) in
     rw (lt-ltb _ _ (c .before .before .if1 .taken), lt-leb _ _ h) (refl, refl)
@@ -29,7 +29,7 @@ same-length c = search needs
 
 returns-2 : tie.Need-returns-2
 unfolding numberWritten numberBuffer
-returns-2 c = 
+returns-2 c =
     let a = c .before .before .before .before .before .before .before .before .args in
     let h : 0 + length (numberBytes (a .v)) ≤ length (now (a .d)) = omega (arith, c .before .before .before .before .before .number-size .ensures) in
     rw (lt-ltb _ _ (c .before .before .before .before .before .before .if1 .taken), le-leb _ _ h, c .before .before .put-number .ensures .0) (refl, c .before .before .put-number .ensures .1)

@@ -1,0 +1,571 @@
+//! The clerk's desk: User A's endpoint.
+
+use crate::codec::{
+    good_digits, good_number_a, in_range, Carrier, Content, Identifier, Message, Refusal, RequestFields,
+    LARGEST_SERVICE, REMOTE_USER_BUSY_AGAIN, SHORT,
+};
+use crate::outcome::{message, Connection, Kind, Notice, Outcome, T1, T2, T3};
+
+/// "The clerk's desk is User A's endpoint and holds at most 16 records."
+pub const MOST_RECORDS: usize = 16;
+
+/// "States: Wait-Ack (T1 runs), Invoked, Wait-Answer (T3 runs), Ringout,
+/// Suspended."
+#[derive(Clone, Copy, PartialEq, Eq, Debug)]
+pub enum State {
+    WaitAck,
+    Invoked,
+    WaitAnswer,
+    Ringout,
+    Suspended,
+}
+
+impl State {
+    /// REPLAY: "state 1 Wait-Ack, 2 Invoked, 3 Wait-Answer, 4 Ringout,
+    /// 5 Suspended".
+    pub fn number(self) -> u32 {
+        match self {
+            State::WaitAck => 1,
+            State::Invoked => 2,
+            State::WaitAnswer => 3,
+            State::Ringout => 4,
+            State::Suspended => 5,
+        }
+    }
+
+    pub fn name(self) -> &'static str {
+        match self {
+            State::WaitAck => "Wait-Ack",
+            State::Invoked => "Invoked",
+            State::WaitAnswer => "Wait-Answer",
+            State::Ringout => "Ringout",
+            State::Suspended => "Suspended",
+        }
+    }
+
+    /// READINGS 13: what a delete stops, "Wait-Ack T1; Invoked, Suspended,
+    /// Ringout T2; Wait-Answer T2 and T3".
+    fn running(self) -> u32 {
+        match self {
+            State::WaitAck => T1,
+            State::Invoked | State::Suspended | State::Ringout => T2,
+            State::WaitAnswer => T2 + T3,
+        }
+    }
+}
+
+#[derive(Clone, Copy, PartialEq, Eq, Debug)]
+pub enum Timer {
+    T1,
+    T2,
+    T3,
+}
+
+impl Timer {
+    pub fn name(self) -> &'static str {
+        match self {
+            Timer::T1 => "T1",
+            Timer::T2 => "T2",
+            Timer::T3 => "T3",
+        }
+    }
+
+    /// M1: "T1 is taken in Wait-Ack; T2 in Invoked, Wait-Answer and Suspended;
+    /// T3 in Wait-Answer; any other report is refusal 9."
+    fn taken_in(self, state: State) -> bool {
+        match self {
+            Timer::T1 => state == State::WaitAck,
+            Timer::T2 => matches!(state, State::Invoked | State::WaitAnswer | State::Suspended),
+            Timer::T3 => state == State::WaitAnswer,
+        }
+    }
+}
+
+/// "User A free in Suspended, as the host chooses".
+#[derive(Clone, Copy, PartialEq, Eq, Debug)]
+pub enum FreeChoice {
+    Resume,
+    Recall,
+}
+
+/// An ask as the host makes it, in range or not.
+#[derive(Clone, PartialEq, Eq, Debug)]
+pub struct Ask {
+    pub identifier: Identifier,
+    pub kind: Kind,
+    pub number_a: Vec<u8>,
+    pub number_b: Vec<u8>,
+    pub service: u32,
+    pub can_keep: bool,
+    pub preference: u32,
+}
+
+/// "The clerk's desk also stores the can-keep that it sent. Its keep and
+/// connection choices are empty until the acknowledgment".
+#[derive(Clone, PartialEq, Eq, Debug)]
+pub struct Record {
+    pub identifier: Identifier,
+    pub kind: Kind,
+    pub number_a: Vec<u8>,
+    pub number_b: Vec<u8>,
+    pub service: u32,
+    pub can_keep: bool,
+    pub keep: Option<bool>,
+    pub connection: Option<Connection>,
+    pub state: State,
+}
+
+/// READINGS 19: "Records stand compact in the order of storing; a delete
+/// closes the gap".
+#[derive(Clone, PartialEq, Eq, Debug, Default)]
+pub struct ClerkDesk {
+    pub records: Vec<Record>,
+}
+
+/// READINGS 8: "2 (digits, service, preference)".
+fn ask_in_range(ask: &Ask) -> bool {
+    good_number_a(&ask.number_a) && good_digits(&ask.number_b) && ask.service <= LARGEST_SERVICE && ask.preference <= 2
+}
+
+/// "Ask: send type 1 or 2", carrier Setup; "Flags are can-keep (0 or 1) plus
+/// 2 x preference".
+fn request_of(ask: &Ask) -> Message {
+    let fields = RequestFields {
+        number_a: ask.number_a.clone(),
+        number_b: ask.number_b.clone(),
+        service: ask.service,
+        flags: u32::from(ask.can_keep) + 2 * ask.preference,
+    };
+    let content = match ask.kind {
+        Kind::Ccbs => Content::CcbsRequest(fields),
+        Kind::Ccnr => Content::CcnrRequest(fields),
+    };
+    message(Carrier::Setup, ask.identifier, content)
+}
+
+fn record_of(ask: &Ask) -> Record {
+    Record {
+        identifier: ask.identifier,
+        kind: ask.kind,
+        number_a: ask.number_a.clone(),
+        number_b: ask.number_b.clone(),
+        service: ask.service,
+        can_keep: ask.can_keep,
+        keep: None,
+        connection: None,
+        state: State::WaitAck,
+    }
+}
+
+/// The message table's column "To"; READINGS 9: "3 at the clerk: types 1, 2,
+/// 6, 8, 9. .. 10 goes to both."
+fn is_for_clerk(content: &Content) -> bool {
+    match content {
+        Content::CcbsRequest(_) | Content::CcnrRequest(_) => false,
+        Content::CcRingout | Content::CcSuspend | Content::CcResume => false,
+        Content::RequestResult { .. } | Content::RequestError { .. } => true,
+        Content::CcExecPossible | Content::RingoutError { .. } => true,
+        Content::CcCancel | Content::CallAlerts | Content::CallFailed => true,
+    }
+}
+
+/// Refusal 7, "the record's state has no row for this input".
+fn has_row(state: State, content: &Content) -> bool {
+    match content {
+        Content::RequestResult { .. } | Content::RequestError { .. } => state == State::WaitAck,
+        Content::CcExecPossible => state == State::Invoked,
+        Content::RingoutError { .. } | Content::CallAlerts | Content::CallFailed => state == State::Ringout,
+        Content::CcCancel => true,
+        _ => false,
+    }
+}
+
+/// Refusal 8, "carrier not allowed for this type and record"; the message
+/// table's column "Carrier" and READINGS 10.
+fn carrier_allowed(record: &Record, message: &Message) -> bool {
+    let carrier = message.carrier;
+    match message.content {
+        Content::RequestResult { .. } => matches!(carrier, Carrier::Connect | Carrier::ReleaseComplete),
+        Content::RequestError { .. } | Content::RingoutError { .. } | Content::CallFailed => {
+            carrier == Carrier::ReleaseComplete
+        }
+        Content::CcExecPossible => record.connection.map(Connection::facility_or_setup) == Some(carrier),
+        Content::CcCancel => matches!(carrier, Carrier::ReleaseComplete | Carrier::Setup),
+        Content::CallAlerts => matches!(carrier, Carrier::Alerting | Carrier::Connect),
+        _ => false,
+    }
+}
+
+/// M3: "6 on a result or ccExecPossible (any carrier), and 7 or 8 on a
+/// ccExecPossible in Setup: ccCancel in Release Complete." Document 01: "A
+/// reply carries the refused message's identifier. No other refusal has a
+/// reply."
+fn reply_to(refused: &Message, refusal: Refusal) -> Option<Message> {
+    let exec = refused.content == Content::CcExecPossible;
+    let result = matches!(refused.content, Content::RequestResult { .. });
+    let replies = match refusal {
+        Refusal::NoRecord => result || exec,
+        Refusal::NoRow | Refusal::BadCarrier => exec && refused.carrier == Carrier::Setup,
+        _ => false,
+    };
+    replies.then(|| message(Carrier::ReleaseComplete, refused.identifier, Content::CcCancel))
+}
+
+impl Record {
+    fn sends(&self, carrier: Carrier, content: Content) -> Message {
+        message(carrier, self.identifier, content)
+    }
+
+    fn sends_cancel(&self) -> Message {
+        self.sends(Connection::cancel_carrier(self.connection), Content::CcCancel)
+    }
+
+    /// ccExecPossible and ccResume, "RET Facility, RLS Setup". A record that
+    /// sends them has been acknowledged, so the choice is never empty here.
+    fn sends_resume(&self) -> Message {
+        let choice = self.connection.unwrap_or(Connection::Ret);
+        self.sends(choice.facility_or_setup(), Content::CcResume)
+    }
+
+    /// ccSuspend: "RET Facility; RLS Release Complete, or Connect if received",
+    /// so RLS sends it in Release Complete.
+    fn sends_suspend(&self) -> Message {
+        let carrier = match self.connection {
+            Some(Connection::Rls) => Carrier::ReleaseComplete,
+            Some(Connection::Ret) | None => Carrier::Facility,
+        };
+        self.sends(carrier, Content::CcSuspend)
+    }
+
+    /// "Result in Wait-Ack: keep only if can-keep was sent true and keep is 1.
+    /// Stop T1, start T2, Invoked, notice "accepted"." Carrier: "Connect means
+    /// RET, Release Complete means RLS".
+    fn on_result(&mut self, carrier: Carrier, keep: u32) -> Outcome {
+        self.keep = Some(self.can_keep && keep == 1);
+        self.connection = Some(match carrier {
+            Carrier::Connect => Connection::Ret,
+            _ => Connection::Rls,
+        });
+        self.state = State::Invoked;
+        Outcome::done().stopping(T1).starting(T2).telling(Notice::Accepted)
+    }
+
+    /// "start T3, Wait-Answer, "recall"".
+    fn recall(&mut self) -> Outcome {
+        self.state = State::WaitAnswer;
+        Outcome::done().starting(T3).telling(Notice::Recall)
+    }
+
+    /// "ccExecPossible in Invoked, with the host's word on User A: not busy,
+    /// start T3, Wait-Answer, "recall"; busy, send ccSuspend, Suspended."
+    fn on_exec_possible(&mut self, user_a_busy: bool) -> Outcome {
+        if !user_a_busy {
+            return self.recall();
+        }
+        self.state = State::Suspended;
+        Outcome::done().sending(self.sends_suspend())
+    }
+}
+
+impl ClerkDesk {
+    pub fn place_of(&self, identifier: &Identifier) -> Option<usize> {
+        self.records.iter().position(|r| r.identifier == *identifier)
+    }
+
+    /// "Ask: 2, 4, 5." READINGS 8: "It tests no duplicate numbers. A live
+    /// identifier at a full desk is 4."
+    pub fn ask(&mut self, ask: &Ask) -> Outcome {
+        if !ask_in_range(ask) {
+            return Outcome::refused(Refusal::OutOfRange);
+        }
+        if self.place_of(&ask.identifier).is_some() {
+            return Outcome::refused(Refusal::IdentifierLive);
+        }
+        if self.records.len() >= MOST_RECORDS {
+            return Outcome::refused(Refusal::ClerkFull);
+        }
+        // "Ask: send type 1 or 2, start T1, Wait-Ack."
+        self.records.push(record_of(ask));
+        Outcome::done().sending(request_of(ask)).starting(T1)
+    }
+
+    /// "Messages: 2, 3, 6, 7, 8"; all return the number and change nothing.
+    fn judge(&self, message: &Message) -> Result<usize, Refusal> {
+        if !in_range(message) {
+            return Err(Refusal::OutOfRange);
+        }
+        if !is_for_clerk(&message.content) {
+            return Err(Refusal::NotForThisEnd);
+        }
+        let place = self.place_of(&message.identifier).ok_or(Refusal::NoRecord)?;
+        let record = self.records.get(place).ok_or(Refusal::NoRecord)?;
+        // READINGS 10: "7 before 8."
+        if !has_row(record.state, &message.content) {
+            return Err(Refusal::NoRow);
+        }
+        if !carrier_allowed(record, message) {
+            return Err(Refusal::BadCarrier);
+        }
+        Ok(place)
+    }
+
+    /// READINGS 14: "The host's word on User A comes with every message at the
+    /// clerk's desk and matters only for ccExecPossible in Invoked."
+    pub fn take(&mut self, message: &Message, user_a_busy: bool) -> Outcome {
+        match self.judge(message) {
+            Ok(place) => self.step(place, message, user_a_busy),
+            Err(refusal) => {
+                let mut outcome = Outcome::refused(refusal);
+                outcome.message = reply_to(message, refusal);
+                outcome
+            }
+        }
+    }
+
+    fn step(&mut self, place: usize, message: &Message, user_a_busy: bool) -> Outcome {
+        let Some(record) = self.records.get_mut(place) else {
+            return Outcome::refused(Refusal::NoRecord);
+        };
+        match &message.content {
+            Content::RequestResult { keep } => record.on_result(message.carrier, *keep),
+            // "Request error in Wait-Ack: delete, "denied short" or "denied long"."
+            Content::RequestError { error: SHORT } => self.delete(place).telling(Notice::DeniedShort),
+            Content::RequestError { .. } => self.delete(place).telling(Notice::DeniedLong),
+            Content::CcExecPossible => record.on_exec_possible(user_a_busy),
+            Content::RingoutError { error } => self.on_ringout_error(place, *error),
+            // "Type 11 in Ringout: delete, "completed"."
+            Content::CallAlerts => self.delete(place).telling(Notice::Completed),
+            // M2: "in Ringout send ccCancel (Release Complete for RET, Setup for
+            // RLS), delete, "failed". No clear-the-call word: the call is gone."
+            Content::CallFailed => self.cancel_record(place).telling(Notice::Failed),
+            Content::CcCancel => self.on_cancel(place),
+            // Never met: judge has refused the types for the other end with 3.
+            _ => Outcome::refused(Refusal::NotForThisEnd),
+        }
+    }
+
+    /// "Deleting stops all timers of the record."
+    fn delete(&mut self, place: usize) -> Outcome {
+        if place >= self.records.len() {
+            return Outcome::refused(Refusal::NoRecord);
+        }
+        let record = self.records.remove(place);
+        Outcome::done().stopping(record.state.running())
+    }
+
+    /// "send ccCancel, delete".
+    fn cancel_record(&mut self, place: usize) -> Outcome {
+        match self.records.get(place).map(Record::sends_cancel) {
+            Some(cancel) => self.delete(place).sending(cancel),
+            None => Outcome::refused(Refusal::NoRecord),
+        }
+    }
+
+    fn rings_out(&self, place: usize) -> bool {
+        self.records.get(place).is_some_and(|r| r.state == State::Ringout)
+    }
+
+    /// "ccCancel in any state: delete, "failed"." M4: "The host is told to
+    /// clear the call on the user's cancel in Ringout and on a ccCancel
+    /// received in Ringout; nowhere else."
+    fn on_cancel(&mut self, place: usize) -> Outcome {
+        let clear = self.rings_out(place);
+        self.delete(place).telling(Notice::Failed).clearing(clear)
+    }
+
+    /// "Ringout error in Ringout: busy again and keep, Invoked, "busy again,
+    /// kept"; busy again otherwise, delete, "busy again, ended";
+    /// failureToMatch, delete, "failed"."
+    fn on_ringout_error(&mut self, place: usize, error: u32) -> Outcome {
+        if error != REMOTE_USER_BUSY_AGAIN {
+            return self.delete(place).telling(Notice::Failed);
+        }
+        match self.records.get_mut(place) {
+            Some(record) if record.keep == Some(true) => {
+                // READINGS 13: ""busy again, kept" name none" (of the timers).
+                record.state = State::Invoked;
+                Outcome::done().telling(Notice::BusyAgainKept)
+            }
+            _ => self.delete(place).telling(Notice::BusyAgainEnded),
+        }
+    }
+
+    /// "Accept in Wait-Answer: stop T3, send ccRingout, Ringout." Acts: 6, 7.
+    pub fn accept(&mut self, identifier: &Identifier) -> Outcome {
+        let Some(record) = self.records.iter_mut().find(|r| r.identifier == *identifier) else {
+            return Outcome::refused(Refusal::NoRecord);
+        };
+        if record.state != State::WaitAnswer {
+            return Outcome::refused(Refusal::NoRow);
+        }
+        record.state = State::Ringout;
+        let ringout = record.sends(Carrier::Setup, Content::CcRingout);
+        Outcome::done().stopping(T3).sending(ringout)
+    }
+
+    /// "User A free in Suspended, as the host chooses: send ccResume, Invoked;
+    /// or start T3, Wait-Answer, "recall"." Acts: 6, 7.
+    pub fn user_a_free(&mut self, identifier: &Identifier, choice: FreeChoice) -> Outcome {
+        let Some(record) = self.records.iter_mut().find(|r| r.identifier == *identifier) else {
+            return Outcome::refused(Refusal::NoRecord);
+        };
+        if record.state != State::Suspended {
+            return Outcome::refused(Refusal::NoRow);
+        }
+        match choice {
+            FreeChoice::Recall => record.recall(),
+            FreeChoice::Resume => {
+                record.state = State::Invoked;
+                Outcome::done().sending(record.sends_resume())
+            }
+        }
+    }
+
+    /// "User's cancel in any state: send ccCancel, delete, "cancelled". .. In
+    /// Ringout the host is also told to clear the call." Acts: 6, 7.
+    pub fn user_cancels(&mut self, identifier: &Identifier) -> Outcome {
+        let Some(place) = self.place_of(identifier) else {
+            return Outcome::refused(Refusal::NoRecord);
+        };
+        let clear = self.rings_out(place);
+        self.cancel_record(place).telling(Notice::Cancelled).clearing(clear)
+    }
+
+    /// "T1, T2 or T3 running out: the same, "failed"." Timers: 6, 9. M1 leaves
+    /// no timer that is taken in Ringout, so no clear-the-call word either.
+    pub fn timer_runs_out(&mut self, identifier: &Identifier, timer: Timer) -> Outcome {
+        let Some(place) = self.place_of(identifier) else {
+            return Outcome::refused(Refusal::NoRecord);
+        };
+        let taken = self.records.get(place).is_some_and(|r| timer.taken_in(r.state));
+        if !taken {
+            return Outcome::refused(Refusal::TimerNotRunning);
+        }
+        self.cancel_record(place).telling(Notice::Failed)
+    }
+}
+
+#[cfg(test)]
+mod tests {
+    use super::*;
+
+    const ID: Identifier = [5; 16];
+
+    fn an_ask(identifier: Identifier, can_keep: bool) -> Ask {
+        Ask {
+            identifier,
+            kind: Kind::Ccbs,
+            number_a: vec![1, 2],
+            number_b: vec![3],
+            service: 9,
+            can_keep,
+            preference: 0,
+        }
+    }
+
+    fn invoked(carrier: Carrier, can_keep: bool, keep: u32) -> ClerkDesk {
+        let mut desk = ClerkDesk::default();
+        desk.ask(&an_ask(ID, can_keep));
+        desk.take(&message(carrier, ID, Content::RequestResult { keep }), false);
+        desk
+    }
+
+    fn ringing_out(can_keep: bool, keep: u32) -> ClerkDesk {
+        let mut desk = invoked(Carrier::Connect, can_keep, keep);
+        desk.take(&message(Carrier::Facility, ID, Content::CcExecPossible), false);
+        desk.accept(&ID);
+        assert_eq!(desk.records[0].state, State::Ringout);
+        desk
+    }
+
+    fn busy_again() -> Message {
+        message(Carrier::ReleaseComplete, ID, Content::RingoutError { error: REMOTE_USER_BUSY_AGAIN })
+    }
+
+    #[test]
+    fn example_10_ret_ccexecpossible_user_a_busy_ccsuspend_in_facility() {
+        let mut desk = invoked(Carrier::Connect, true, 1);
+        let outcome = desk.take(&message(Carrier::Facility, ID, Content::CcExecPossible), true);
+        let expected = Outcome::done().sending(message(Carrier::Facility, ID, Content::CcSuspend));
+        assert_eq!(outcome, expected);
+        assert_eq!(desk.records[0].state, State::Suspended);
+    }
+
+    #[test]
+    fn example_11_busy_again_in_ringout_keep_chosen_invoked_not_chosen_gone() {
+        let mut desk = ringing_out(true, 1);
+        assert_eq!(desk.take(&busy_again(), false), Outcome::done().telling(Notice::BusyAgainKept));
+        assert_eq!(desk.records[0].state, State::Invoked);
+        let mut desk = ringing_out(true, 0);
+        let ended = Outcome::done().telling(Notice::BusyAgainEnded).stopping(T2);
+        assert_eq!(desk.take(&busy_again(), false), ended);
+        assert!(desk.records.is_empty());
+    }
+
+    #[test]
+    fn example_12_t3_reported_in_suspended_9() {
+        let mut desk = invoked(Carrier::Connect, true, 1);
+        desk.take(&message(Carrier::Facility, ID, Content::CcExecPossible), true);
+        assert_eq!(desk.timer_runs_out(&ID, Timer::T3), Outcome::refused(Refusal::TimerNotRunning));
+    }
+
+    #[test]
+    fn seen_in_class_keep_from_the_result_alone() {
+        // "Taking keep from the result alone, though can-keep was sent false."
+        assert_eq!(invoked(Carrier::Connect, false, 1).records[0].keep, Some(false));
+        assert_eq!(invoked(Carrier::Connect, true, 1).records[0].keep, Some(true));
+    }
+
+    #[test]
+    fn m1_t2_in_ringout_is_9() {
+        let mut desk = ringing_out(true, 1);
+        assert_eq!(desk.timer_runs_out(&ID, Timer::T2), Outcome::refused(Refusal::TimerNotRunning));
+        assert_eq!(desk.records.len(), 1);
+    }
+
+    #[test]
+    fn m2_type_12_in_ringout_sends_cccancel() {
+        let mut desk = ringing_out(true, 1);
+        let outcome = desk.take(&message(Carrier::ReleaseComplete, ID, Content::CallFailed), false);
+        let cancel = message(Carrier::ReleaseComplete, ID, Content::CcCancel);
+        let expected = Outcome::done().sending(cancel).telling(Notice::Failed).stopping(T2);
+        assert_eq!(outcome, expected);
+    }
+
+    #[test]
+    fn m3_ccexecpossible_in_setup_refused_with_8_is_answered() {
+        let mut desk = invoked(Carrier::Connect, true, 1);
+        let outcome = desk.take(&message(Carrier::Setup, ID, Content::CcExecPossible), false);
+        let reply = message(Carrier::ReleaseComplete, ID, Content::CcCancel);
+        assert_eq!(outcome, Outcome::refused(Refusal::BadCarrier).sending(reply));
+        let outcome = desk.take(&message(Carrier::Connect, ID, Content::CcExecPossible), false);
+        assert_eq!(outcome, Outcome::refused(Refusal::BadCarrier));
+    }
+
+    #[test]
+    fn m4_cccancel_in_ringout_clears_the_call() {
+        let mut desk = ringing_out(true, 1);
+        let outcome = desk.take(&message(Carrier::Setup, ID, Content::CcCancel), false);
+        let expected = Outcome::done().telling(Notice::Failed).stopping(T2).clearing(true);
+        assert_eq!(outcome, expected);
+    }
+
+    #[test]
+    fn sixteen_against_seventeen_asks() {
+        let mut desk = ClerkDesk::default();
+        for n in 0..16 {
+            assert_eq!(desk.ask(&an_ask([n; 16], true)).refusal, None);
+        }
+        assert_eq!(desk.ask(&an_ask([16; 16], true)), Outcome::refused(Refusal::ClerkFull));
+        // READINGS 8: "A live identifier at a full desk is 4."
+        assert_eq!(desk.ask(&an_ask([0; 16], true)), Outcome::refused(Refusal::IdentifierLive));
+    }
+
+    #[test]
+    fn reading_7_2_before_3() {
+        let fields = RequestFields { number_a: vec![], number_b: vec![], service: 0, flags: 0 };
+        let request = message(Carrier::Setup, ID, Content::CcbsRequest(fields));
+        let outcome = ClerkDesk::default().take(&request, false);
+        assert_eq!(outcome, Outcome::refused(Refusal::OutOfRange));
+    }
+}

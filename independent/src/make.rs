@@ -1,0 +1,267 @@
+//! Makes scripts: the entries' bytes, and the files that they go into.
+
+pub mod clerk;
+pub mod codec;
+pub mod line;
+pub mod random;
+pub mod stop;
+
+use crate::codec::{message_bytes, Carrier, Content, Identifier, Message, RequestFields};
+use crate::outcome::Kind;
+use crate::script::take_entry;
+use std::fs;
+use std::io;
+use std::path::Path;
+
+/// REPLAY: "at most 262,144 bytes".
+pub const LARGEST_SCRIPT: usize = 262_144;
+
+/// Collects cases into scripts. A case is a run of entries that belong
+/// together; it never goes over the edge of a file.
+#[derive(Default)]
+pub struct Scripts {
+    full: Vec<Vec<u8>>,
+    current: Vec<u8>,
+}
+
+impl Scripts {
+    pub fn add(&mut self, case: &[u8]) {
+        if self.current.len() + case.len() > LARGEST_SCRIPT {
+            self.close();
+        }
+        self.current.extend_from_slice(case);
+    }
+
+    /// Ends the current file, so that the next case begins a new one.
+    pub fn close(&mut self) {
+        if !self.current.is_empty() {
+            self.full.push(std::mem::take(&mut self.current));
+        }
+    }
+
+    /// True where another case of this size goes into the current file.
+    pub fn has_room(&self, size: usize) -> bool {
+        self.current.len() + size <= LARGEST_SCRIPT
+    }
+
+    /// Writes NAME-000.script, NAME-001.script, .. and tells what was written.
+    pub fn save(mut self, directory: &Path, name: &str) -> io::Result<String> {
+        self.close();
+        fs::create_dir_all(directory)?;
+        let mut entries = 0;
+        let mut bytes = 0;
+        for (place, script) in self.full.iter().enumerate() {
+            fs::write(directory.join(format!("{name}-{place:03}.script")), script)?;
+            entries += count_entries(script);
+            bytes += script.len();
+        }
+        Ok(format!("{name}: {} scripts, {entries} entries, {bytes} bytes", self.full.len()))
+    }
+}
+
+/// How many entries the program plays before the script ends or stops.
+fn count_entries(script: &[u8]) -> usize {
+    let mut count = 0;
+    let mut rest = script;
+    while let Some((_, behind)) = take_entry(rest) {
+        rest = behind;
+        count += 1;
+    }
+    count
+}
+
+/// "a byte L and then L bytes"; the makers never hand over more than 255.
+pub fn counted(bytes: &[u8]) -> Vec<u8> {
+    let short = bytes.get(..255).unwrap_or(bytes);
+    let mut counted = vec![short.len() as u8];
+    counted.extend_from_slice(short);
+    counted
+}
+
+/// Code 48, write.
+pub fn write_entry(message: &[u8], place: u8, size: u8) -> Vec<u8> {
+    let mut entry = vec![48];
+    entry.extend(counted(message));
+    entry.extend([place, size]);
+    entry
+}
+
+/// An identifier whose sixteen bytes all differ, so that a byte that lands in
+/// a wrong place is seen.
+pub fn spread_identifier(seed: u8) -> Identifier {
+    let mut identifier = [0; 16];
+    for (place, byte) in identifier.iter_mut().enumerate() {
+        *byte = seed.wrapping_add((place as u8).wrapping_mul(17));
+    }
+    identifier
+}
+
+/// Code 16, ask. `service` goes in as two bytes, in range or not.
+pub struct AskEntry<'a> {
+    pub identifier: Identifier,
+    pub kind: Kind,
+    pub number_a: &'a [u8],
+    pub number_b: &'a [u8],
+    pub service: u16,
+    pub can_keep: bool,
+    pub preference: u8,
+}
+
+impl AskEntry<'_> {
+    pub fn bytes(&self) -> Vec<u8> {
+        let mut entry = vec![16];
+        entry.extend_from_slice(&self.identifier);
+        entry.push(self.kind.number() as u8);
+        entry.extend(counted(self.number_a));
+        entry.extend(counted(self.number_b));
+        entry.push((self.service % 256) as u8);
+        entry.push((self.service / 256) as u8);
+        entry.push(u8::from(self.can_keep));
+        entry.push(self.preference);
+        entry
+    }
+}
+
+/// Code 17, bytes reach the clerk's desk.
+pub fn to_clerk(user_a_busy: bool, bytes: &[u8]) -> Vec<u8> {
+    let mut entry = vec![17, u8::from(user_a_busy)];
+    entry.extend(counted(bytes));
+    entry
+}
+
+/// Code 32, bytes reach the line desk.
+pub fn to_line(bytes: &[u8]) -> Vec<u8> {
+    let mut entry = vec![32];
+    entry.extend(counted(bytes));
+    entry
+}
+
+/// Codes 18, 20 and 36: an identifier alone.
+pub const ACCEPT: u8 = 18;
+pub const USER_CANCELS: u8 = 20;
+pub const GUARD_RUNS_OUT: u8 = 36;
+
+pub fn with_identifier(code: u8, identifier: Identifier) -> Vec<u8> {
+    let mut entry = vec![code];
+    entry.extend_from_slice(&identifier);
+    entry
+}
+
+/// Codes 19, 21 and 35: an identifier and a choice.
+pub const USER_A_FREE: u8 = 19;
+pub const TIMER: u8 = 21;
+pub const ACT: u8 = 35;
+
+pub fn with_choice(code: u8, identifier: Identifier, choice: u8) -> Vec<u8> {
+    let mut entry = with_identifier(code, identifier);
+    entry.push(choice);
+    entry
+}
+
+/// Code 33, line report.
+pub fn report(digits: &[u8], busy: bool) -> Vec<u8> {
+    let mut entry = vec![33];
+    entry.extend(counted(digits));
+    entry.push(u8::from(busy));
+    entry
+}
+
+/// Code 34, Look.
+pub fn look(digits: &[u8]) -> Vec<u8> {
+    let mut entry = vec![34];
+    entry.extend(counted(digits));
+    entry
+}
+
+/// Code 1, start the line desk; the kinds are 1 CCBS + 2 CCNR, the settings
+/// 1 keeps + 2 retains by default.
+pub fn start_line<D: AsRef<[u8]>>(lines: &[(D, u8)], settings: u8) -> Vec<u8> {
+    let mut entry = vec![1, lines.len().min(255) as u8];
+    for (digits, kinds) in lines.iter().take(255) {
+        entry.extend(counted(digits.as_ref()));
+        entry.push(*kinds);
+    }
+    entry.push(settings);
+    entry
+}
+
+pub const START_CLERK: u8 = 2;
+pub const PRINT_CLERK: u8 = 64;
+pub const PRINT_LINE: u8 = 65;
+
+/// The bytes of a message.
+pub fn bytes_of(carrier: Carrier, identifier: Identifier, content: Content) -> Vec<u8> {
+    message_bytes(&Message { carrier, identifier, content })
+}
+
+pub fn request_content(kind: Kind, number_a: &[u8], number_b: &[u8], service: u32, flags: u32) -> Content {
+    let fields = RequestFields { number_a: number_a.to_vec(), number_b: number_b.to_vec(), service, flags };
+    match kind {
+        Kind::Ccbs => Content::CcbsRequest(fields),
+        Kind::Ccnr => Content::CcnrRequest(fields),
+    }
+}
+
+/// One content of each type but the requests, each small field in each value.
+pub fn contents_without_requests() -> Vec<Content> {
+    vec![
+        Content::RequestResult { keep: 0 },
+        Content::RequestResult { keep: 1 },
+        Content::RequestError { error: 1 },
+        Content::RequestError { error: 2 },
+        Content::CcExecPossible,
+        Content::CcRingout,
+        Content::RingoutError { error: 1 },
+        Content::RingoutError { error: 2 },
+        Content::CcSuspend,
+        Content::CcResume,
+        Content::CcCancel,
+        Content::CallAlerts,
+        Content::CallFailed,
+    ]
+}
+
+/// A run of entries that begins with a fresh desk and prints the desk after
+/// every step, "so that the whole desk is compared".
+pub struct Case {
+    pub bytes: Vec<u8>,
+    print: u8,
+}
+
+impl Case {
+    pub fn at_clerk() -> Case {
+        let mut case = Case { bytes: Vec::new(), print: PRINT_CLERK };
+        case.step(&[START_CLERK]);
+        case
+    }
+
+    pub fn at_line<D: AsRef<[u8]>>(lines: &[(D, u8)], settings: u8) -> Case {
+        let mut case = Case { bytes: Vec::new(), print: PRINT_LINE };
+        case.step(&start_line(lines, settings));
+        case
+    }
+
+    pub fn step(&mut self, entry: &[u8]) {
+        self.bytes.extend_from_slice(entry);
+        self.bytes.push(self.print);
+    }
+}
+
+/// Bytes with a fault, or next to one: every truncation, every byte replaced by
+/// values on an edge, and bytes behind the message.
+pub fn damaged(bytes: &[u8]) -> Vec<Vec<u8>> {
+    let mut damaged: Vec<Vec<u8>> = (0..bytes.len()).map(|length| bytes[..length].to_vec()).collect();
+    for place in 0..bytes.len() {
+        for value in [0, 1, 2, 3, 5, 6, 9, 10, 12, 13, 15, 16, 127, 128, 255].iter() {
+            let mut changed = bytes.to_vec();
+            changed[place] = *value;
+            damaged.push(changed);
+        }
+    }
+    for count in [1, 2, 18, 100].iter() {
+        let mut longer = bytes.to_vec();
+        longer.extend(vec![0x80; *count]);
+        damaged.push(longer);
+    }
+    damaged
+}

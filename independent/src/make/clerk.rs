@@ -1,0 +1,383 @@
+//! Directed scripts for the clerk's desk.
+
+use super::{
+    bytes_of, contents_without_requests, damaged, request_content, spread_identifier, to_clerk, with_choice,
+    with_identifier, AskEntry, Case, Scripts, ACCEPT, TIMER, USER_A_FREE, USER_CANCELS,
+};
+use crate::codec::{Carrier, Content, Identifier};
+use crate::outcome::{Connection, Kind};
+
+/// How a record comes to its state: each state, by each road that leads there.
+#[derive(Clone, Copy, PartialEq)]
+enum Road {
+    NoRecord,
+    WaitAck,
+    Invoked,
+    InvokedAfterResume,
+    InvokedAfterBusyAgain,
+    WaitAnswer,
+    WaitAnswerFromSuspended,
+    Ringout,
+    RingoutFromSuspended,
+    Suspended,
+}
+
+const ACKNOWLEDGED_ROADS: [Road; 8] = [
+    Road::Invoked,
+    Road::InvokedAfterResume,
+    Road::InvokedAfterBusyAgain,
+    Road::WaitAnswer,
+    Road::WaitAnswerFromSuspended,
+    Road::Ringout,
+    Road::RingoutFromSuspended,
+    Road::Suspended,
+];
+
+/// What is chosen for a record: can-keep as sent, keep as answered, the
+/// connection as answered.
+#[derive(Clone, Copy)]
+struct Choices {
+    kind: Kind,
+    can_keep: bool,
+    keep: u32,
+    connection: Connection,
+}
+
+fn all_choices() -> Vec<Choices> {
+    let mut choices = Vec::new();
+    for connection in [Connection::Ret, Connection::Rls].iter() {
+        for (can_keep, keep) in [(false, 0), (false, 1), (true, 0), (true, 1)].iter() {
+            let kind = if *can_keep == (*keep == 1) { Kind::Ccbs } else { Kind::Ccnr };
+            choices.push(Choices { kind, can_keep: *can_keep, keep: *keep, connection: *connection });
+        }
+    }
+    choices
+}
+
+const NUMBER_A: [u8; 3] = [2, 0, 1];
+const NUMBER_B: [u8; 2] = [7, 5];
+
+fn ask(identifier: Identifier, choices: Choices) -> Vec<u8> {
+    let withheld = choices.keep == 1 && choices.connection == Connection::Rls;
+    AskEntry {
+        identifier,
+        kind: choices.kind,
+        number_a: if withheld { &[] } else { &NUMBER_A },
+        number_b: &NUMBER_B,
+        service: 300,
+        can_keep: choices.can_keep,
+        preference: 0,
+    }
+    .bytes()
+}
+
+fn hand_in(carrier: Carrier, identifier: Identifier, content: Content) -> Vec<u8> {
+    to_clerk(false, &bytes_of(carrier, identifier, content))
+}
+
+fn result(identifier: Identifier, choices: Choices) -> Vec<u8> {
+    let carrier = match choices.connection {
+        Connection::Ret => Carrier::Connect,
+        Connection::Rls => Carrier::ReleaseComplete,
+    };
+    hand_in(carrier, identifier, Content::RequestResult { keep: choices.keep })
+}
+
+fn offer(identifier: Identifier, choices: Choices, user_a_busy: bool) -> Vec<u8> {
+    let carrier = choices.connection.facility_or_setup();
+    to_clerk(user_a_busy, &bytes_of(carrier, identifier, Content::CcExecPossible))
+}
+
+/// The steps behind the acknowledgment that make up a road.
+fn road_behind_acknowledgment(road: Road, identifier: Identifier, choices: Choices) -> Vec<Vec<u8>> {
+    let recall = offer(identifier, choices, false);
+    let suspend = offer(identifier, choices, true);
+    let resume = with_choice(USER_A_FREE, identifier, 0);
+    let go_on = with_choice(USER_A_FREE, identifier, 1);
+    let accept = with_identifier(ACCEPT, identifier);
+    let again = hand_in(Carrier::ReleaseComplete, identifier, Content::RingoutError { error: 1 });
+    match road {
+        Road::NoRecord | Road::WaitAck | Road::Invoked => vec![],
+        Road::InvokedAfterResume => vec![suspend, resume],
+        Road::InvokedAfterBusyAgain => vec![recall, accept, again],
+        Road::WaitAnswer => vec![recall],
+        Road::WaitAnswerFromSuspended => vec![suspend, go_on],
+        Road::Ringout => vec![recall, accept],
+        Road::RingoutFromSuspended => vec![suspend, go_on, accept],
+        Road::Suspended => vec![suspend],
+    }
+}
+
+fn drive(case: &mut Case, road: Road, identifier: Identifier, choices: Choices) {
+    if road == Road::NoRecord {
+        return;
+    }
+    case.step(&ask(identifier, choices));
+    if road == Road::WaitAck {
+        return;
+    }
+    case.step(&result(identifier, choices));
+    for entry in road_behind_acknowledgment(road, identifier, choices) {
+        case.step(&entry);
+    }
+}
+
+/// Every message type in every carrier, User A busy and not busy.
+fn message_inputs(identifier: Identifier) -> Vec<Vec<u8>> {
+    let mut contents = contents_without_requests();
+    contents.push(request_content(Kind::Ccbs, &NUMBER_A, &NUMBER_B, 300, 1));
+    contents.push(request_content(Kind::Ccnr, &[], &NUMBER_B, 0, 4));
+    let mut inputs = Vec::new();
+    for content in contents {
+        for carrier in Carrier::ALL.iter() {
+            for busy in [false, true].iter() {
+                inputs.push(to_clerk(*busy, &bytes_of(*carrier, identifier, content.clone())));
+            }
+        }
+    }
+    inputs
+}
+
+/// Every act, every timer, and an ask with the same identifier.
+fn other_inputs(identifier: Identifier, choices: Choices) -> Vec<Vec<u8>> {
+    vec![
+        with_identifier(ACCEPT, identifier),
+        with_choice(USER_A_FREE, identifier, 0),
+        with_choice(USER_A_FREE, identifier, 1),
+        with_identifier(USER_CANCELS, identifier),
+        with_choice(TIMER, identifier, 1),
+        with_choice(TIMER, identifier, 2),
+        with_choice(TIMER, identifier, 3),
+        ask(identifier, choices),
+    ]
+}
+
+/// One road, every input. With neighbours the record stands between two
+/// others, so that a delete has a gap to close.
+fn every_input(scripts: &mut Scripts, road: Road, choices: Choices, neighbours: bool) {
+    let identifier = spread_identifier(40);
+    let mut inputs = message_inputs(identifier);
+    inputs.extend(other_inputs(identifier, choices));
+    for input in inputs {
+        let mut case = Case::at_clerk();
+        if neighbours {
+            drive(&mut case, Road::Invoked, spread_identifier(41), choices);
+        }
+        drive(&mut case, road, identifier, choices);
+        if neighbours {
+            drive(&mut case, Road::WaitAck, spread_identifier(39), choices);
+        }
+        case.step(&input);
+        scripts.add(&case.bytes);
+    }
+}
+
+/// "every input in every state and with no record, .. RET and RLS, keep and not".
+fn every_state(scripts: &mut Scripts) {
+    for choices in all_choices() {
+        if choices.connection == Connection::Ret {
+            every_input(scripts, Road::WaitAck, choices, true);
+        }
+        let kept = choices.can_keep && choices.keep == 1;
+        for road in ACKNOWLEDGED_ROADS.iter() {
+            if *road != Road::InvokedAfterBusyAgain || kept {
+                every_input(scripts, *road, choices, true);
+                if kept {
+                    every_input(scripts, *road, choices, false);
+                }
+            }
+        }
+        if kept {
+            every_input(scripts, Road::NoRecord, choices, true);
+            every_input(scripts, Road::NoRecord, choices, false);
+            every_input(scripts, Road::WaitAck, choices, false);
+        }
+    }
+}
+
+fn plain_ask<'a>(seed: u8, number_a: &'a [u8], number_b: &'a [u8], service: u16, preference: u8) -> AskEntry<'a> {
+    let identifier = spread_identifier(seed);
+    AskEntry { identifier, kind: Kind::Ccbs, number_a, number_b, service, can_keep: true, preference }
+}
+
+/// Every choice of an ask that is taken, and the edges of its fields.
+fn asks_taken(scripts: &mut Scripts) {
+    for kind in [Kind::Ccbs, Kind::Ccnr].iter() {
+        for number_a in [&[][..], &[0], &[9; 15]].iter() {
+            for number_b in [&[0][..], &[9], &[5; 15]].iter() {
+                for flags in 0..6 {
+                    let mut case = Case::at_clerk();
+                    let mut entry = plain_ask(1, number_a, number_b, 7, flags / 2);
+                    entry.kind = *kind;
+                    entry.can_keep = flags % 2 == 1;
+                    case.step(&entry.bytes());
+                    scripts.add(&case.bytes);
+                }
+            }
+        }
+    }
+    for service in [0, 1, 127, 128, 129, 255, 256, 300, 16382, 16383].iter() {
+        let mut case = Case::at_clerk();
+        case.step(&plain_ask(2, &[1], &[2], *service, 2).bytes());
+        scripts.add(&case.bytes);
+    }
+}
+
+/// Refusal 2, one fault at a time and two at once.
+fn asks_out_of_range() -> Vec<Vec<u8>> {
+    let seed = 3;
+    let mut entries = Vec::new();
+    for length in [16, 17, 31, 100, 255].iter() {
+        let long = vec![1; *length];
+        entries.push(plain_ask(seed, &long, &[2], 0, 0).bytes());
+        entries.push(plain_ask(seed, &[1], &long, 0, 0).bytes());
+    }
+    for digit in [10, 11, 127, 128, 255].iter() {
+        for place in [0, 7, 14].iter() {
+            let mut bad = vec![3; 15];
+            bad[*place] = *digit;
+            entries.push(plain_ask(seed, &bad, &[2], 0, 0).bytes());
+            entries.push(plain_ask(seed, &[1], &bad, 0, 0).bytes());
+        }
+        entries.push(plain_ask(seed, &[*digit], &[2], 0, 0).bytes());
+        entries.push(plain_ask(seed, &[1], &[*digit], 0, 0).bytes());
+    }
+    entries.push(plain_ask(seed, &[1], &[], 0, 0).bytes());
+    entries.push(plain_ask(seed, &[], &[], 0, 0).bytes());
+    for service in [16384, 16385, 32767, 32768, 65535].iter() {
+        entries.push(plain_ask(seed, &[1], &[2], *service, 0).bytes());
+    }
+    for preference in [3, 4, 6, 127, 128, 254, 255].iter() {
+        entries.push(plain_ask(seed, &[1], &[2], 0, *preference).bytes());
+    }
+    entries.push(plain_ask(seed, &[], &[], 65535, 255).bytes());
+    entries
+}
+
+/// "Ask: 2, 4, 5": each fault at an empty desk, on a live identifier, at a
+/// full desk, and on a live identifier at a full desk.
+fn asks_refused(scripts: &mut Scripts) {
+    let fill = |count: u8| {
+        let mut case = Case::at_clerk();
+        for seed in 0..count {
+            case.step(&plain_ask(seed, &[1], &[2], 0, 0).bytes());
+        }
+        case
+    };
+    for filled in [0, 3, 4, 15, 16].iter() {
+        let mut case = fill(*filled);
+        for entry in asks_out_of_range() {
+            case.step(&entry);
+        }
+        case.step(&plain_ask(3, &[1], &[2], 0, 0).bytes());
+        case.step(&plain_ask(200, &[1], &[2], 0, 0).bytes());
+        case.step(&plain_ask(201, &[1], &[2], 0, 0).bytes());
+        scripts.add(&case.bytes);
+    }
+}
+
+/// The ways in which a record in Wait-Ack goes.
+fn removals(identifier: Identifier) -> Vec<Vec<u8>> {
+    vec![
+        with_identifier(USER_CANCELS, identifier),
+        with_choice(TIMER, identifier, 1),
+        hand_in(Carrier::ReleaseComplete, identifier, Content::CcCancel),
+        hand_in(Carrier::Setup, identifier, Content::CcCancel),
+        hand_in(Carrier::ReleaseComplete, identifier, Content::RequestError { error: 1 }),
+        hand_in(Carrier::ReleaseComplete, identifier, Content::RequestError { error: 2 }),
+    ]
+}
+
+/// "16 against 17 asks"; "A freed place is used again", for each of the places.
+fn full_desk(scripts: &mut Scripts) {
+    for gone in 0..16 {
+        for (which, _) in removals(spread_identifier(0)).iter().enumerate() {
+            let mut case = Case::at_clerk();
+            for seed in 0..17 {
+                case.step(&plain_ask(seed, &[seed % 10], &[2], u16::from(seed), seed % 3).bytes());
+            }
+            if let Some(removal) = removals(spread_identifier(gone)).get(which) {
+                case.step(removal);
+                case.step(removal);
+            }
+            case.step(&plain_ask(gone, &[], &[8, 8], 9, 1).bytes());
+            case.step(&plain_ask(77, &[1], &[2], 0, 0).bytes());
+            scripts.add(&case.bytes);
+        }
+    }
+}
+
+/// Sixteen identifiers that differ from one another in a single byte each.
+fn nearly_equal_identifiers(scripts: &mut Scripts) {
+    let mut case = Case::at_clerk();
+    let one_off = |place: usize| {
+        let mut identifier = [0x80; 16];
+        identifier[place % 16] = 0x81;
+        identifier
+    };
+    for place in 0..16 {
+        let mut entry = plain_ask(0, &[1], &[2], 0, 0);
+        entry.identifier = one_off(place);
+        case.step(&entry.bytes());
+    }
+    for place in [5, 0, 15, 8, 1, 14, 2, 13, 3, 12, 4, 11, 6, 10, 7, 9].iter() {
+        case.step(&hand_in(Carrier::Connect, one_off(*place), Content::RequestResult { keep: 1 }));
+        case.step(&with_identifier(USER_CANCELS, [0x80; 16]));
+    }
+    for place in 0..16 {
+        case.step(&hand_in(Carrier::Setup, one_off(15 - place), Content::CcCancel));
+    }
+    scripts.add(&case.bytes);
+}
+
+/// Bytes that hold no message, and bytes behind one; the record they speak of
+/// is live, so that a fault that isn't seen would change the desk.
+fn bad_bytes(scripts: &mut Scripts) {
+    let identifier = spread_identifier(9);
+    let choices = Choices { kind: Kind::Ccbs, can_keep: true, keep: 1, connection: Connection::Ret };
+    let contents = [
+        Content::RequestResult { keep: 1 },
+        Content::RequestError { error: 2 },
+        Content::CcCancel,
+        request_content(Kind::Ccbs, &NUMBER_A, &NUMBER_B, 300, 5),
+    ];
+    for content in contents.iter() {
+        for bytes in damaged(&bytes_of(Carrier::ReleaseComplete, identifier, content.clone())) {
+            let mut case = Case::at_clerk();
+            drive(&mut case, Road::WaitAck, identifier, choices);
+            case.step(&to_clerk(false, &bytes));
+            scripts.add(&case.bytes);
+        }
+    }
+}
+
+/// A long run: the same identifier goes through its life again and again.
+fn lives(scripts: &mut Scripts) {
+    let mut case = Case::at_clerk();
+    for (turn, choices) in all_choices().into_iter().enumerate() {
+        let identifier = spread_identifier(5);
+        drive(&mut case, Road::WaitAck, spread_identifier(100 + turn as u8), choices);
+        drive(&mut case, Road::InvokedAfterResume, identifier, choices);
+        case.step(&offer(identifier, choices, false));
+        case.step(&with_choice(TIMER, identifier, 2 + (turn % 2) as u8));
+        drive(&mut case, Road::RingoutFromSuspended, identifier, choices);
+        case.step(&with_choice(TIMER, identifier, 2));
+        case.step(&hand_in(Carrier::ReleaseComplete, identifier, Content::RingoutError { error: 1 }));
+        case.step(&with_choice(TIMER, identifier, 2));
+        drive(&mut case, Road::Ringout, identifier, choices);
+        case.step(&hand_in(Carrier::Alerting, identifier, Content::CallAlerts));
+    }
+    scripts.add(&case.bytes);
+}
+
+pub fn scripts() -> Scripts {
+    let mut scripts = Scripts::default();
+    asks_taken(&mut scripts);
+    asks_refused(&mut scripts);
+    nearly_equal_identifiers(&mut scripts);
+    lives(&mut scripts);
+    full_desk(&mut scripts);
+    bad_bytes(&mut scripts);
+    every_state(&mut scripts);
+    scripts
+}

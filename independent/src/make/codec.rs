@@ -1,0 +1,357 @@
+//! Directed scripts for the reader and the writer: code 48 entries only.
+//!
+//! Messages are put together here from parts, by hand and without the writer
+//! of codec.rs, so that a fault there is not repeated here.
+
+use super::{spread_identifier, write_entry, Scripts};
+
+/// A part of a message's bytes: a number in seven-bit groups, or raw bytes.
+#[derive(Clone)]
+enum Part {
+    Number(Vec<u8>),
+    Raw(Vec<u8>),
+}
+
+fn joined(parts: &[Part]) -> Vec<u8> {
+    let mut bytes = Vec::new();
+    for part in parts {
+        match part {
+            Part::Number(form) => bytes.extend_from_slice(form),
+            Part::Raw(raw) => bytes.extend_from_slice(raw),
+        }
+    }
+    bytes
+}
+
+fn small(number: u8) -> Part {
+    Part::Number(vec![number])
+}
+
+/// Type, carrier and identifier of a good message.
+fn head(type_number: u8, carrier: u8) -> Vec<Part> {
+    let identifier = spread_identifier(type_number.wrapping_mul(31).wrapping_add(carrier));
+    vec![small(type_number), small(carrier), Part::Raw(identifier.to_vec())]
+}
+
+/// What a request of the codec's scripts has in its fields; the service stands
+/// in its byte form.
+#[derive(Clone, Copy)]
+struct Fields {
+    digits_a: u8,
+    digits_b: u8,
+    service: &'static [u8],
+    flags: u8,
+}
+
+/// "withheld numberA, 1 digit, 15 digits, service 0, 127, 128, 16383, flags 0
+/// and 5", each value at least once, and the shortest and the longest request.
+const REQUESTS: [Fields; 8] = [
+    Fields { digits_a: 0, digits_b: 1, service: &[0x00], flags: 0 },
+    Fields { digits_a: 15, digits_b: 15, service: &[0xFF, 0x7F], flags: 5 },
+    Fields { digits_a: 1, digits_b: 1, service: &[0x7F], flags: 5 },
+    Fields { digits_a: 1, digits_b: 15, service: &[0x80, 0x01], flags: 0 },
+    Fields { digits_a: 15, digits_b: 1, service: &[0x00], flags: 5 },
+    Fields { digits_a: 0, digits_b: 15, service: &[0xAC, 0x02], flags: 3 },
+    Fields { digits_a: 2, digits_b: 3, service: &[0x80, 0x01], flags: 4 },
+    Fields { digits_a: 7, digits_b: 8, service: &[0xFF, 0x7F], flags: 0 },
+];
+
+/// Digits that differ from their neighbours and take every value 0 to 9.
+fn some_digits(count: u8, first: u8) -> Vec<u8> {
+    (0..count).map(|n| (first + n) % 10).collect()
+}
+
+fn request(type_number: u8, carrier: u8, fields: Fields) -> Vec<Part> {
+    let mut parts = head(type_number, carrier);
+    parts.push(small(fields.digits_a));
+    parts.push(Part::Raw(some_digits(fields.digits_a, 9)));
+    parts.push(small(fields.digits_b));
+    parts.push(Part::Raw(some_digits(fields.digits_b, 4)));
+    parts.push(Part::Number(fields.service.to_vec()));
+    parts.push(small(fields.flags));
+    parts
+}
+
+fn with_field(type_number: u8, carrier: u8, field: u8) -> Vec<Part> {
+    let mut parts = head(type_number, carrier);
+    parts.push(small(field));
+    parts
+}
+
+/// The good messages of one type in one carrier: several for a type with fields.
+fn good_messages(type_number: u8, carrier: u8) -> Vec<Vec<Part>> {
+    match type_number {
+        1 | 2 => REQUESTS.iter().map(|fields| request(type_number, carrier, *fields)).collect(),
+        3 => vec![with_field(3, carrier, 0), with_field(3, carrier, 1)],
+        4 | 7 => vec![with_field(type_number, carrier, 1), with_field(type_number, carrier, 2)],
+        _ => vec![head(type_number, carrier)],
+    }
+}
+
+/// The carrier that each type mostly goes in.
+fn usual_carrier(type_number: u8) -> u8 {
+    match type_number {
+        1 | 2 | 6 | 9 => 1,
+        5 => 3,
+        11 => 5,
+        _ => 4,
+    }
+}
+
+fn each_good_message() -> Vec<Vec<Part>> {
+    (1..=12).flat_map(|t| good_messages(t, usual_carrier(t))).collect()
+}
+
+/// The entry that most cases use: room for any message, a byte in front of it
+/// and, for all but the longest, bytes behind it.
+fn write_roomy(bytes: &[u8]) -> Vec<u8> {
+    write_entry(bytes, 1, 55)
+}
+
+/// "No bytes", every single byte and every pair of bytes: all that can happen
+/// in the place of the type and of a one-byte type's carrier.
+fn short_strings(scripts: &mut Scripts) {
+    scripts.add(&write_entry(&[], 0, 0));
+    scripts.add(&write_entry(&[], 0, 60));
+    scripts.add(&write_entry(&[], 60, 3));
+    for first in 0..=255 {
+        scripts.add(&write_entry(&[first], 0, 2));
+    }
+    for first in 0..=255 {
+        for second in 0..=255 {
+            scripts.add(&write_entry(&[first, second], 0, 0));
+        }
+    }
+}
+
+/// READINGS 4: every carrier with every type.
+fn all_carriers(scripts: &mut Scripts) {
+    for type_number in 1..=12 {
+        for carrier in 1..=5 {
+            for parts in good_messages(type_number, carrier) {
+                scripts.add(&write_roomy(&joined(&parts)));
+            }
+        }
+    }
+}
+
+/// "every truncation".
+fn truncations(scripts: &mut Scripts) {
+    for parts in each_good_message() {
+        let bytes = joined(&parts);
+        for length in 0..=bytes.len() {
+            scripts.add(&write_roomy(bytes.get(..length).unwrap_or(&bytes)));
+        }
+    }
+}
+
+/// "every byte replaced by every one of the 256 values".
+fn replacements(scripts: &mut Scripts) {
+    for parts in each_good_message() {
+        let bytes = joined(&parts);
+        for place in 0..bytes.len() {
+            for value in 0..=255 {
+                let mut changed = bytes.clone();
+                if let Some(byte) = changed.get_mut(place) {
+                    *byte = value;
+                }
+                scripts.add(&write_roomy(&changed));
+            }
+        }
+    }
+}
+
+/// "trailing bytes behind a good message": few, many and all that N allows,
+/// harmless or such that they would be a fault if they were read.
+fn trailing_bytes(scripts: &mut Scripts) {
+    for parts in each_good_message() {
+        let bytes = joined(&parts);
+        for filler in [0x00, 0x01, 0x0A, 0x7F, 0x80, 0xFF] {
+            for count in [1, 2, 3, 16, 53, 255 - bytes.len()] {
+                let mut longer = bytes.clone();
+                longer.extend(vec![filler; count]);
+                scripts.add(&write_roomy(&longer));
+            }
+        }
+        let mut twice = bytes.clone();
+        twice.extend_from_slice(&bytes);
+        scripts.add(&write_roomy(&twice));
+    }
+}
+
+/// Forms that are tried in the place of every number.
+const FORMS: [&[u8]; 20] = [
+    &[0x80, 0x00],
+    &[0x80, 0x80, 0x01],
+    &[0xFF, 0x7F],
+    &[0x80, 0x01],
+    &[0x81, 0x00],
+    &[0x82, 0x00],
+    &[0x85, 0x00],
+    &[0x8F, 0x00],
+    &[0xFF, 0x00],
+    &[0x81, 0x01],
+    &[0xFF, 0x01],
+    &[0x80, 0x02],
+    &[0x80, 0x7F],
+    &[0x80, 0x80],
+    &[0x80, 0xFF],
+    &[0xFF, 0x80, 0x00],
+    &[0xFF, 0xFF, 0x03],
+    &[0xFF, 0xFF, 0x7F],
+    &[0x80],
+    &[0xFF],
+];
+
+/// Every form in the place of one number, with the rest of the message behind
+/// it and with nothing behind it.
+fn forms_at(scripts: &mut Scripts, parts: &[Part], place: usize) {
+    let mut forms: Vec<Vec<u8>> = FORMS.iter().map(|form| form.to_vec()).collect();
+    if let Some(Part::Number(form)) = parts.get(place) {
+        // The same number, not in its shortest form.
+        let mut longer = form.clone();
+        if let Some(last) = longer.last_mut() {
+            *last |= 0x80;
+        }
+        longer.push(0);
+        forms.push(longer);
+    }
+    for form in forms {
+        let mut changed = parts.to_vec();
+        if let Some(part) = changed.get_mut(place) {
+            *part = Part::Number(form);
+        }
+        scripts.add(&write_roomy(&joined(&changed)));
+        changed.truncate(place + 1);
+        scripts.add(&write_roomy(&joined(&changed)));
+    }
+}
+
+/// "two-byte forms in every field's place".
+fn number_forms(scripts: &mut Scripts) {
+    for parts in each_good_message() {
+        for (place, part) in parts.iter().enumerate() {
+            if let Part::Number(_) = part {
+                forms_at(scripts, &parts, place);
+            }
+        }
+    }
+}
+
+/// Every pair of bytes in the place of the service: each of the numbers 0 to
+/// 16383 is read and written once, and each bad pair is refused. Where the
+/// first byte is under 128 the second one is read as the flags.
+fn every_service(scripts: &mut Scripts) {
+    let fields = Fields { digits_a: 0, digits_b: 1, service: &[], flags: 5 };
+    let mut parts = request(1, 1, fields);
+    let place = parts.len() - 2;
+    for first in 0..=255 {
+        for second in 0..=255 {
+            if let Some(part) = parts.get_mut(place) {
+                *part = Part::Number(vec![first, second]);
+            }
+            scripts.add(&write_entry(&joined(&parts), 0, 26));
+        }
+    }
+}
+
+/// A request with digit counts and digits out of range or on the edge:
+/// "15 against 16 digits".
+fn digit_counts(scripts: &mut Scripts) {
+    for type_number in [1, 2] {
+        for count_a in 0..=20 {
+            for count_b in 0..=20 {
+                let fields = Fields { digits_a: count_a, digits_b: count_b, service: &[0x05], flags: 1 };
+                scripts.add(&write_roomy(&joined(&request(type_number, 1, fields))));
+            }
+        }
+    }
+}
+
+/// "flags 5 against 6", "service 16383 (the reader can't read more)".
+fn flags_and_services(scripts: &mut Scripts) {
+    let services: [&'static [u8]; 7] =
+        [&[0], &[0x7F], &[0x80, 0x01], &[0xFF, 0x01], &[0xFE, 0x7F], &[0xFF, 0x7F], &[0x80, 0x80, 0x01]];
+    for service in services {
+        for flags in 0..=8 {
+            for type_number in [1, 2] {
+                let fields = Fields { digits_a: 3, digits_b: 2, service, flags };
+                scripts.add(&write_roomy(&joined(&request(type_number, 1, fields))));
+            }
+        }
+    }
+}
+
+/// Places and sizes around the length of a message: exactly enough, one less,
+/// more; place 0, in the middle, at the end, past the end.
+fn rooms(length: u8) -> Vec<(u8, u8)> {
+    let mut rooms = Vec::new();
+    for place in [0, 1, 7, 100, 255 - length] {
+        for size in [length - 1, length, length + 1, length + 40] {
+            rooms.push((place, place.saturating_add(size)));
+        }
+        rooms.push((place, place));
+        rooms.push((place, place.saturating_add(1)));
+        rooms.push((place.saturating_add(1), place));
+        rooms.push((place.saturating_add(2), place));
+        rooms.push((255, place));
+        rooms.push((place, 255));
+    }
+    rooms.extend([(0, 0), (1, 0), (255, 0), (255, 255), (254, 255), (255, 254)]);
+    rooms
+}
+
+/// "53 bytes of room against 52 for the longest message" is among them.
+fn writers_room(scripts: &mut Scripts) {
+    for parts in each_good_message() {
+        let bytes = joined(&parts);
+        for (place, size) in rooms(bytes.len() as u8) {
+            scripts.add(&write_entry(&bytes, place, size));
+        }
+    }
+}
+
+/// Every place against every size, for the shortest and the longest message.
+fn every_room(scripts: &mut Scripts) {
+    let shortest = joined(&head(10, 4));
+    for size in 0..=60 {
+        for place in 0..=62 {
+            scripts.add(&write_entry(&shortest, place, size));
+        }
+    }
+    let longest = joined(&request(1, 1, Fields { digits_a: 15, digits_b: 15, service: &[0xFF, 0x7F], flags: 5 }));
+    for size in 50..=60 {
+        for place in 0..=62 {
+            scripts.add(&write_entry(&longest, place, size));
+        }
+    }
+}
+
+/// READINGS 6: the reader's refusal comes with an untouched buffer, whatever
+/// the place and the size.
+fn refused_bytes_in_every_room(scripts: &mut Scripts) {
+    let bad: [&[u8]; 4] = [&[], &[0x0D], &[0x80, 0x00], &[0x0A, 0x04, 0x01]];
+    for bytes in bad {
+        for (place, size) in rooms(18) {
+            scripts.add(&write_entry(bytes, place, size));
+        }
+    }
+}
+
+pub fn scripts() -> Scripts {
+    let mut scripts = Scripts::default();
+    // The small groups stand first, so that a difference shows early.
+    all_carriers(&mut scripts);
+    truncations(&mut scripts);
+    number_forms(&mut scripts);
+    trailing_bytes(&mut scripts);
+    digit_counts(&mut scripts);
+    flags_and_services(&mut scripts);
+    writers_room(&mut scripts);
+    refused_bytes_in_every_room(&mut scripts);
+    every_room(&mut scripts);
+    short_strings(&mut scripts);
+    replacements(&mut scripts);
+    every_service(&mut scripts);
+    scripts
+}

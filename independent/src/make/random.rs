@@ -1,0 +1,699 @@
+//! Random scripts: two desks over two wires, played inside the generator, so
+//! that deep states are reached.
+
+use super::{
+    bytes_of, contents_without_requests, look, report, request_content, start_line, to_clerk, to_line, with_choice,
+    with_identifier, write_entry, AskEntry, Scripts, ACCEPT, ACT, GUARD_RUNS_OUT, PRINT_CLERK, PRINT_LINE, START_CLERK,
+    TIMER, USER_A_FREE, USER_CANCELS,
+};
+use crate::clerk;
+use crate::codec::{message_bytes, Carrier, Content, Identifier};
+use crate::line;
+use crate::outcome::Kind;
+use crate::script::{take_entry, Answer, Entry, Session};
+
+/// splitmix64: the same seed gives the same scripts everywhere.
+struct Dice {
+    state: u64,
+}
+
+impl Dice {
+    fn next(&mut self) -> u64 {
+        self.state = self.state.wrapping_add(0x9E37_79B9_7F4A_7C15);
+        let mut z = self.state;
+        z = (z ^ (z >> 30)).wrapping_mul(0xBF58_476D_1CE4_E5B9);
+        z = (z ^ (z >> 27)).wrapping_mul(0x94D0_49BB_1331_11EB);
+        z ^ (z >> 31)
+    }
+
+    /// A number under `limit`; 0 where there is nothing to choose from.
+    fn below(&mut self, limit: usize) -> usize {
+        if limit == 0 {
+            return 0;
+        }
+        (self.next() >> 16) as usize % limit
+    }
+
+    /// True once in `times`.
+    fn once_in(&mut self, times: usize) -> bool {
+        self.below(times) == 0
+    }
+
+    fn byte(&mut self) -> u8 {
+        (self.next() >> 24) as u8
+    }
+
+    fn pick<T: Clone>(&mut self, from: &[T]) -> Option<T> {
+        let place = self.below(from.len());
+        from.get(place).cloned()
+    }
+}
+
+/// What the run is like for a while.
+#[derive(Clone, Copy, PartialEq)]
+enum Mood {
+    Calm,
+    Crowd,
+    Storm,
+}
+
+/// What the generator does next, with the weights of each mood: calm, crowd,
+/// storm.
+#[derive(Clone, Copy, PartialEq)]
+enum Move {
+    Ask,
+    DeliverToLine,
+    DeliverToClerk,
+    SensibleClerkAct,
+    SensibleLineAct,
+    Look,
+    Report,
+    AnyClerkAct,
+    AnyLineAct,
+    StrayToClerk,
+    StrayToLine,
+    StrayRequest,
+    BadAsk,
+    BadNumber,
+    Restart,
+    Write,
+    Print,
+}
+
+const MOVES: [(Move, [usize; 3]); 17] = [
+    (Move::Ask, [16, 40, 14]),
+    (Move::DeliverToLine, [80, 60, 50]),
+    (Move::DeliverToClerk, [80, 60, 50]),
+    (Move::SensibleClerkAct, [60, 10, 40]),
+    (Move::SensibleLineAct, [40, 6, 25]),
+    (Move::Look, [30, 15, 25]),
+    (Move::Report, [14, 10, 14]),
+    (Move::AnyClerkAct, [1, 2, 8]),
+    (Move::AnyLineAct, [1, 2, 6]),
+    (Move::StrayToClerk, [2, 2, 18]),
+    (Move::StrayToLine, [2, 2, 18]),
+    (Move::StrayRequest, [1, 40, 4]),
+    (Move::BadAsk, [1, 4, 2]),
+    (Move::BadNumber, [1, 1, 2]),
+    (Move::Restart, [0, 0, 1]),
+    (Move::Write, [1, 1, 3]),
+    (Move::Print, [25, 25, 25]),
+];
+
+/// Numbers that begin one another, with zeros in front, of 1 and of 15 digits.
+const NUMBERS: [&[u8]; 20] = [
+    &[1],
+    &[1, 0],
+    &[1, 0, 0],
+    &[0],
+    &[0, 0],
+    &[0, 1],
+    &[5; 15],
+    &[5; 14],
+    &[9, 9, 9],
+    &[2],
+    &[2, 3],
+    &[3, 2],
+    &[7, 1, 7],
+    &[4],
+    &[6, 6],
+    &[8, 0, 8],
+    &[1, 2, 3, 4, 5, 6, 7, 8, 9, 0, 1, 2, 3, 4, 5],
+    &[1, 2, 3, 4, 5, 6, 7, 8, 9, 0, 1, 2, 3, 4, 6],
+    &[3],
+    &[4, 4, 4, 4],
+];
+
+struct Player {
+    dice: Dice,
+    session: Session,
+    scripts: Scripts,
+    left: usize,
+    wire_to_line: Vec<Vec<u8>>,
+    wire_to_clerk: Vec<Vec<u8>>,
+    known: Vec<Identifier>,
+    mood: Mood,
+    mood_left: usize,
+}
+
+/// How many messages a wire, and identifiers the memory, hold at most.
+const MOST_ON_WIRE: usize = 24;
+const MOST_KNOWN: usize = 60;
+
+impl Player {
+    /// Adds an entry, plays it on the generator's own desks and puts what they
+    /// send on the wire to the other end.
+    fn put(&mut self, entry: &[u8]) {
+        if self.left == 0 {
+            return;
+        }
+        if !self.scripts.has_room(entry.len()) {
+            self.new_file();
+        }
+        self.left -= usize::from(self.left > 0);
+        self.scripts.add(entry);
+        let Some((parsed, _)) = take_entry(entry) else {
+            return;
+        };
+        if let Answer::Step { outcome, .. } = self.session.play(&parsed) {
+            if let Some(message) = outcome.message {
+                let at_line = matches!(
+                    parsed,
+                    Entry::ToLine { .. } | Entry::Look { .. } | Entry::Act(_, _) | Entry::GuardRunsOut(_)
+                );
+                let wire = if at_line { &mut self.wire_to_clerk } else { &mut self.wire_to_line };
+                wire.push(message_bytes(&message));
+                if wire.len() > MOST_ON_WIRE {
+                    wire.remove(0);
+                }
+            }
+        }
+    }
+
+    /// The replay begins each script with new desks, so the generator does too.
+    fn new_file(&mut self) {
+        self.scripts.close();
+        self.session = Session::default();
+        self.wire_to_line.clear();
+        self.wire_to_clerk.clear();
+        let start = self.some_start();
+        self.put(&start);
+    }
+
+    /// A start of the line desk, mostly a good one.
+    fn some_start(&mut self) -> Vec<u8> {
+        let count = 1 + self.dice.below(16);
+        let turn = self.dice.below(NUMBERS.len());
+        let mut lines: Vec<(Vec<u8>, u8)> = Vec::new();
+        for n in 0..count {
+            let digits = NUMBERS.get((turn + n) % NUMBERS.len()).map_or(vec![1], |d| d.to_vec());
+            let kinds = if self.dice.once_in(4) { self.dice.below(4) as u8 } else { 3 };
+            lines.push((digits, kinds));
+        }
+        if self.dice.once_in(8) {
+            lines.push((vec![2], 3));
+        }
+        start_line(&lines, self.dice.below(4) as u8)
+    }
+
+    fn remember(&mut self, identifier: Identifier) {
+        self.known.push(identifier);
+        if self.known.len() > MOST_KNOWN {
+            self.known.remove(0);
+        }
+    }
+
+    /// A new identifier: random bytes, or a known one's bytes in another
+    /// order, or a known one with a single byte changed.
+    fn new_identifier(&mut self) -> Identifier {
+        let mut identifier = [0; 16];
+        for byte in identifier.iter_mut() {
+            *byte = self.dice.byte();
+        }
+        if let Some(known) = self.dice.pick(&self.known) {
+            match self.dice.below(6) {
+                0 => identifier = self.reordered(known),
+                1 => {
+                    identifier = known;
+                    let place = self.dice.below(16);
+                    if let Some(byte) = identifier.get_mut(place) {
+                        *byte = byte.wrapping_add(1);
+                    }
+                }
+                _ => {}
+            }
+        }
+        self.remember(identifier);
+        identifier
+    }
+
+    fn reordered(&mut self, mut identifier: Identifier) -> Identifier {
+        match self.dice.below(3) {
+            0 => identifier.reverse(),
+            1 => identifier.rotate_left(1),
+            _ => identifier.swap(0, 15),
+        }
+        identifier
+    }
+
+    /// Mostly one that is live at a desk, else one that was.
+    fn some_identifier(&mut self) -> Identifier {
+        let at_clerk: Vec<Identifier> = self.session.clerk.records.iter().map(|r| r.identifier).collect();
+        let at_line: Vec<Identifier> = self.session.line.records.iter().map(|r| r.identifier).collect();
+        let pool = match self.dice.below(8) {
+            0 => &self.known,
+            1..=4 => &at_clerk,
+            _ => &at_line,
+        };
+        self.dice.pick(pool).unwrap_or([0xA5; 16])
+    }
+
+    /// Mostly one that is live at the desk that the message goes to.
+    fn identifier_at(&mut self, line_end: bool) -> Identifier {
+        let live: Vec<Identifier> = match line_end {
+            true => self.session.line.records.iter().map(|r| r.identifier).collect(),
+            false => self.session.clerk.records.iter().map(|r| r.identifier).collect(),
+        };
+        match self.dice.pick(&live) {
+            Some(identifier) if !self.dice.once_in(4) => identifier,
+            _ => self.some_identifier(),
+        }
+    }
+
+    fn some_kind(&mut self) -> Kind {
+        if self.dice.once_in(2) {
+            Kind::Ccbs
+        } else {
+            Kind::Ccnr
+        }
+    }
+
+    /// Mostly the number of a line, so that requests are accepted.
+    fn some_number_b(&mut self) -> Vec<u8> {
+        let lines: Vec<Vec<u8>> = self.session.line.lines.iter().map(|l| l.digits.clone()).collect();
+        if self.dice.once_in(12) || lines.is_empty() {
+            return self.dice.pick(&NUMBERS).map_or(vec![1], |d| d.to_vec());
+        }
+        self.dice.pick(&lines).unwrap_or(vec![1])
+    }
+
+    fn some_number_a(&mut self) -> Vec<u8> {
+        if self.dice.once_in(3) {
+            return Vec::new();
+        }
+        self.dice.pick(&NUMBERS).map_or(vec![1], |d| d.to_vec())
+    }
+
+    fn some_service(&mut self) -> u16 {
+        let edge = self.dice.pick(&[0, 1, 127, 128, 300, 16382, 16383]).unwrap_or(0);
+        if self.dice.once_in(2) {
+            edge
+        } else {
+            self.dice.below(16384) as u16
+        }
+    }
+
+    fn ask(&mut self, bad: bool) {
+        let old = self.dice.once_in(15);
+        let identifier = if old { self.some_identifier() } else { self.new_identifier() };
+        let mut number_a = self.some_number_a();
+        let mut number_b = self.some_number_b();
+        let mut service = self.some_service();
+        let mut preference = self.dice.below(3) as u8;
+        if bad {
+            match self.dice.below(7) {
+                0 => number_a = vec![1; 16 + self.dice.below(4)],
+                1 => number_a = vec![10 + self.dice.byte() % 200],
+                2 => number_b = Vec::new(),
+                3 => number_b = vec![0; 16],
+                4 => number_b = vec![1, 10 + self.dice.byte() % 200],
+                5 => service = 16384 + self.dice.below(40000) as u16,
+                _ => preference = 3 + self.dice.byte() % 200,
+            }
+        }
+        let kind = self.some_kind();
+        let can_keep = !self.dice.once_in(3);
+        let entry =
+            AskEntry { identifier, kind, number_a: &number_a, number_b: &number_b, service, can_keep, preference };
+        self.put(&entry.bytes());
+    }
+
+    /// Takes a message off a wire: mostly the first, sometimes any; a lost one
+    /// is None, and a doubled one stays on the wire.
+    fn take_off(&mut self, to_the_line: bool) -> Option<Vec<u8>> {
+        let (drop, shuffle) = match self.mood {
+            Mood::Calm => (60, 30),
+            Mood::Crowd => (10, 10),
+            Mood::Storm => (6, 3),
+        };
+        let any = self.dice.once_in(shuffle);
+        let lost = self.dice.once_in(drop);
+        let doubled = self.dice.once_in(25);
+        let length = if to_the_line { self.wire_to_line.len() } else { self.wire_to_clerk.len() };
+        let place = if any { self.dice.below(length) } else { 0 };
+        let wire = if to_the_line { &mut self.wire_to_line } else { &mut self.wire_to_clerk };
+        let message = wire.get(place)?.clone();
+        if !doubled {
+            wire.remove(place);
+        }
+        if lost {
+            None
+        } else {
+            Some(message)
+        }
+    }
+
+    /// What the wire does to bytes now and then: a changed byte, a cut end,
+    /// bytes behind, another message's identifier.
+    fn weather(&mut self, mut bytes: Vec<u8>) -> Vec<u8> {
+        let calm = if self.mood == Mood::Storm { 6 } else { 60 };
+        if !self.dice.once_in(calm) {
+            return bytes;
+        }
+        match self.dice.below(5) {
+            0 => {
+                let place = self.dice.below(bytes.len());
+                let value = self.dice.byte();
+                if let Some(byte) = bytes.get_mut(place) {
+                    *byte = value;
+                }
+            }
+            1 => bytes.truncate(self.dice.below(bytes.len())),
+            2 => {
+                let count = 1 + self.dice.below(60);
+                bytes.extend((0..count).map(|n| n as u8));
+            }
+            3 => {
+                let other = self.some_identifier();
+                if let Some(part) = bytes.get_mut(2..18) {
+                    part.copy_from_slice(&other);
+                }
+            }
+            _ => {
+                // Another type, or another carrier.
+                let place = self.dice.below(bytes.len().min(2));
+                if let Some(byte) = bytes.get_mut(place) {
+                    *byte = 1 + *byte % 12;
+                }
+            }
+        }
+        bytes
+    }
+
+    fn deliver(&mut self, to_the_line: bool) {
+        let Some(bytes) = self.take_off(to_the_line) else {
+            return;
+        };
+        let bytes = self.weather(bytes);
+        if to_the_line {
+            self.put(&to_line(&bytes));
+        } else {
+            let busy = self.dice.once_in(3);
+            self.put(&to_clerk(busy, &bytes));
+        }
+    }
+
+    /// True where a message with this identifier is on a wire.
+    fn travels(&self, identifier: &Identifier) -> bool {
+        let mut messages = self.wire_to_line.iter().chain(self.wire_to_clerk.iter());
+        messages.any(|bytes| bytes.get(2..18) == Some(&identifier[..]))
+    }
+
+    /// True where nothing travels and the two ends are none of document 01's
+    /// "Pairs when the wires are quiet": only a timer helps such a record.
+    fn is_stuck(&self, identifier: &Identifier) -> bool {
+        if self.travels(identifier) {
+            return false;
+        }
+        let at_clerk = self.session.clerk.records.iter().find(|r| r.identifier == *identifier);
+        let at_line = self.session.line.records.iter().find(|r| r.identifier == *identifier);
+        let (Some(here), Some(there)) = (at_clerk, at_line) else {
+            return true;
+        };
+        match here.state {
+            clerk::State::WaitAck => true,
+            clerk::State::Invoked => there.state != line::State::Invoked,
+            clerk::State::WaitAnswer => there.state != line::State::Await,
+            clerk::State::Suspended => !there.suspended,
+            clerk::State::Ringout => there.state != line::State::Alert,
+        }
+    }
+
+    /// The act that fits the state of a record at the clerk's desk. A record
+    /// that is stuck is soon timed out, so that it doesn't stand in the way of
+    /// others; M1: "a CC call that dies silently is handed in as type 12".
+    fn sensible_clerk_act(&mut self) {
+        let Some(record) = self.dice.pick(&self.session.clerk.records) else {
+            return;
+        };
+        let id = record.identifier;
+        let stuck = self.is_stuck(&id);
+        let entry = match record.state {
+            clerk::State::WaitAck if stuck => with_choice(TIMER, id, 1),
+            clerk::State::Ringout if stuck => {
+                to_clerk(false, &bytes_of(Carrier::ReleaseComplete, id, Content::CallFailed))
+            }
+            _ if stuck => with_choice(TIMER, id, 2),
+            clerk::State::WaitAnswer if self.dice.once_in(8) => with_choice(TIMER, id, 3),
+            clerk::State::WaitAnswer => with_identifier(ACCEPT, id),
+            clerk::State::Suspended => with_choice(USER_A_FREE, id, self.dice.below(2) as u8),
+            clerk::State::WaitAck if self.dice.once_in(60) => with_choice(TIMER, id, 1),
+            clerk::State::Invoked if self.dice.once_in(200) => with_choice(TIMER, id, 2),
+            clerk::State::Ringout if self.dice.once_in(20) => with_identifier(USER_CANCELS, id),
+            _ if self.dice.once_in(150) => with_identifier(USER_CANCELS, id),
+            _ => return,
+        };
+        self.put(&entry);
+    }
+
+    fn sensible_line_act(&mut self) {
+        let Some(record) = self.dice.pick(&self.session.line.records) else {
+            return;
+        };
+        let id = record.identifier;
+        let stuck = self.is_stuck(&id);
+        let entry = match record.state {
+            _ if stuck && self.mood != Mood::Crowd => with_identifier(GUARD_RUNS_OUT, id),
+            line::State::Alert if self.dice.once_in(3) => with_choice(ACT, id, 2),
+            line::State::Alert => with_choice(ACT, id, 1),
+            _ if self.dice.once_in(150) => with_choice(ACT, id, 3),
+            _ if self.dice.once_in(150) => with_identifier(GUARD_RUNS_OUT, id),
+            _ => return,
+        };
+        self.put(&entry);
+    }
+
+    fn any_clerk_act(&mut self) {
+        let id = self.identifier_at(false);
+        let entry = match self.dice.below(7) {
+            0 => with_identifier(ACCEPT, id),
+            1 | 2 => with_choice(USER_A_FREE, id, self.dice.below(2) as u8),
+            3 => with_identifier(USER_CANCELS, id),
+            _ => with_choice(TIMER, id, 1 + self.dice.below(3) as u8),
+        };
+        self.put(&entry);
+    }
+
+    fn any_line_act(&mut self) {
+        let id = self.identifier_at(true);
+        let entry = match self.dice.below(4) {
+            0 => with_identifier(GUARD_RUNS_OUT, id),
+            _ => with_choice(ACT, id, 1 + self.dice.below(3) as u8),
+        };
+        self.put(&entry);
+    }
+
+    fn some_content(&mut self) -> Content {
+        if self.dice.once_in(10) {
+            return self.some_request();
+        }
+        let content = self.dice.pick(&contents_without_requests()).unwrap_or(Content::CcCancel);
+        // A cancel ends a record's life, so it comes less often than the others.
+        if content == Content::CcCancel && !self.dice.once_in(3) {
+            return Content::CcExecPossible;
+        }
+        content
+    }
+
+    fn some_request(&mut self) -> Content {
+        let number_a = self.some_number_a();
+        let number_b = self.some_number_b();
+        let service = u32::from(self.some_service());
+        request_content(self.some_kind(), &number_a, &number_b, service, self.dice.below(6) as u32)
+    }
+
+    fn stray(&mut self, to_the_line: bool) {
+        let carrier = self.dice.pick(&Carrier::ALL).unwrap_or(Carrier::Setup);
+        let identifier = self.identifier_at(to_the_line);
+        let content = self.some_content();
+        let bytes = bytes_of(carrier, identifier, content);
+        if to_the_line {
+            self.put(&to_line(&bytes));
+        } else {
+            let busy = self.dice.once_in(2);
+            self.put(&to_clerk(busy, &bytes));
+        }
+    }
+
+    /// A request that no ask stands behind: only so the line desk gets full.
+    fn stray_request(&mut self) {
+        let identifier = self.new_identifier();
+        let content = self.some_request();
+        self.put(&to_line(&bytes_of(Carrier::Setup, identifier, content)));
+    }
+
+    /// Looks where there is something to find, and sometimes anywhere.
+    fn look(&mut self) {
+        let waiting = self.session.line.records.iter().filter(|r| r.state == line::State::Invoked);
+        let lines: Vec<Vec<u8>> = waiting.map(|r| r.number_b.clone()).collect();
+        let anywhere = self.dice.once_in(5);
+        let digits = match self.dice.pick(&lines) {
+            Some(digits) if !anywhere => digits,
+            _ => self.some_number_b(),
+        };
+        self.put(&look(&digits));
+    }
+
+    /// A busy line is mostly freed, a free one gets busy now and then.
+    fn report(&mut self) {
+        let digits = self.some_number_b();
+        let times = if self.session.line.line_busy(&digits) { 8 } else { 3 };
+        let busy = self.dice.once_in(times);
+        self.put(&report(&digits, busy));
+    }
+
+    fn bad_number(&mut self) {
+        let length = self.dice.below(20);
+        let digits: Vec<u8> = (0..length).map(|_| self.dice.byte() % 12).collect();
+        if self.dice.once_in(2) {
+            self.put(&look(&digits));
+        } else {
+            let busy = self.dice.once_in(2);
+            self.put(&report(&digits, busy));
+        }
+    }
+
+    /// A desk is started anew, the line desk sometimes in vain.
+    fn restart(&mut self) {
+        let nothing: [(Vec<u8>, u8); 0] = [];
+        let entry = match self.dice.below(24) {
+            0..=3 => vec![START_CLERK],
+            4..=7 => self.some_start(),
+            8 => start_line(&nothing, 3),
+            9..=12 => start_line(&[([1, 1], 3), ([1, 10], 3)], 0),
+            13..=15 => start_line(&[(vec![1], 3), (vec![], 3)], 1),
+            16..=18 => start_line(&[(vec![1], 3), (vec![1; 16], 3)], 2),
+            _ => start_line(&[([1, 1], 3), ([1, 1], 3)], 3),
+        };
+        self.put(&entry);
+    }
+
+    fn write(&mut self) {
+        let content = self.some_content();
+        let identifier = self.some_identifier();
+        let carrier = self.dice.pick(&Carrier::ALL).unwrap_or(Carrier::Setup);
+        let bytes = self.weather(bytes_of(carrier, identifier, content));
+        let place = self.dice.below(12) as u8;
+        let size = self.dice.below(75) as u8;
+        self.put(&write_entry(&bytes, place, size));
+    }
+
+    fn print(&mut self) {
+        let code = if self.dice.once_in(2) { PRINT_CLERK } else { PRINT_LINE };
+        self.put(&[code]);
+    }
+
+    fn choose_move(&mut self) -> Move {
+        let weight = |moves: &[usize; 3], mood: Mood| match mood {
+            Mood::Calm => moves[0],
+            Mood::Crowd => moves[1],
+            Mood::Storm => moves[2],
+        };
+        let all: usize = MOVES.iter().map(|(_, weights)| weight(weights, self.mood)).sum();
+        let mut thrown = self.dice.below(all);
+        for (chosen, weights) in MOVES.iter() {
+            let share = weight(weights, self.mood);
+            if thrown < share {
+                return *chosen;
+            }
+            thrown -= share;
+        }
+        Move::Print
+    }
+
+    fn change_mood(&mut self) {
+        self.mood = match self.dice.below(20) {
+            0..=2 => Mood::Crowd,
+            3..=8 => Mood::Storm,
+            _ => Mood::Calm,
+        };
+        self.mood_left = 100 + self.dice.below(500);
+        if self.mood == Mood::Calm {
+            // All that is under way is lost, or calm would be late in coming.
+            self.wire_to_line.clear();
+            self.wire_to_clerk.clear();
+        }
+    }
+
+    fn turn(&mut self) {
+        if self.mood_left == 0 {
+            self.change_mood();
+        }
+        self.mood_left -= usize::from(self.mood_left > 0);
+        match self.choose_move() {
+            // Half a desk is enough for most of the time.
+            Move::Ask if self.mood != Mood::Crowd && self.session.clerk.records.len() > 9 => {}
+            Move::Ask => self.ask(false),
+            Move::DeliverToLine => self.deliver(true),
+            Move::DeliverToClerk => self.deliver(false),
+            Move::SensibleClerkAct => self.sensible_clerk_act(),
+            Move::SensibleLineAct => self.sensible_line_act(),
+            Move::Look => self.look(),
+            Move::Report => self.report(),
+            Move::AnyClerkAct => self.any_clerk_act(),
+            Move::AnyLineAct => self.any_line_act(),
+            Move::StrayToClerk => self.stray(false),
+            Move::StrayToLine => self.stray(true),
+            Move::StrayRequest => self.stray_request(),
+            Move::BadAsk => self.ask(true),
+            Move::BadNumber => self.bad_number(),
+            Move::Restart => self.restart(),
+            Move::Write => self.write(),
+            Move::Print => self.print(),
+        }
+    }
+}
+
+pub fn scripts(seed: u64, entries: usize) -> Scripts {
+    let mut player = Player {
+        dice: Dice { state: seed },
+        session: Session::default(),
+        scripts: Scripts::default(),
+        left: entries,
+        wire_to_line: Vec::new(),
+        wire_to_clerk: Vec::new(),
+        known: Vec::new(),
+        mood: Mood::Calm,
+        mood_left: 0,
+    };
+    player.new_file();
+    while player.left > 0 {
+        player.turn();
+    }
+    player.scripts
+}
+
+#[cfg(test)]
+mod tests {
+    use super::*;
+
+    #[test]
+    fn the_same_seed_gives_the_same_scripts() {
+        let bytes = |seed| {
+            let mut scripts = scripts(seed, 3000);
+            scripts.close();
+            scripts.full
+        };
+        assert_eq!(bytes(5), bytes(5));
+        assert_ne!(bytes(5), bytes(6));
+    }
+
+    #[test]
+    fn every_entry_is_played_and_no_file_is_too_long() {
+        let mut made = scripts(7, 20000);
+        made.close();
+        let entries: usize = made.full.iter().map(|script| crate::make::count_entries(script)).sum();
+        assert_eq!(entries, 20000);
+        assert!(made.full.iter().all(|script| script.len() <= crate::make::LARGEST_SCRIPT));
+    }
+
+    #[test]
+    fn nothing_panics_on_any_bytes() {
+        let mut dice = Dice { state: 99 };
+        for _ in 0..20000 {
+            let length = dice.below(400);
+            let script: Vec<u8> = (0..length).map(|_| dice.byte() % 70).collect();
+            crate::script::play_script(&script, |_| {});
+        }
+    }
+}
