@@ -1,7 +1,5 @@
--- What the reader's answers are: a message and the first unread place, or document 01's number; and the part of the bytes that follows.
-use Prim.Native.Nat.{ℕ}
-use mathlib.Core.List.{List}
-use lib.ListN.{drop, replicate}
+-- What the reader's answers are: a message and the first unread place, or document 01's number.
+use lib.ListN.{replicate}
 use Rattle.message.specs.Reading.{Read, took, refused}
 use Rattle.message.specs.Wire.{Fields}
 use Rattle.message.specs.declared.Carrier.the-variants.{Setup}
@@ -25,11 +23,3 @@ blankMessage =
 abbrev pub readAnswer : Read Message → Answer
 readAnswer (took message next) = record { verdict = Taken next; message = message }
 readAnswer (refused number) = record { verdict = Refused number; message = blankMessage }
-
--- the bytes from the first unread one on: all of them where the message is refused
-abbrev pub restBy : List ℕ → PlaceRead → List ℕ
-restBy s (Taken next) = drop next s
-restBy s (Refused number) = s
-
-abbrev pub restOf : List ℕ → Answer → List ℕ
-restOf s answer = restBy s (answer .verdict)

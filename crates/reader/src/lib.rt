@@ -14,7 +14,7 @@ ghost use Prim.Native.Nat.{_≤_, _+_};
 ghost use lib.ListN.{length};
 ghost use Rattle.message.specs.Reading.{refused as refusedWith};
 ghost use Rattle.message.specs.Wire.{carrierOf, requestTail, requestAt, fieldsAt, between, behindHead, messageAt, plainAt};
-ghost use Rattle.reader.specs.Answers.{fieldsTold, readAnswer, restOf};
+ghost use Rattle.reader.specs.Answers.{fieldsTold, readAnswer};
 
 // The places behind numberA and numberB, the body and the place of the first unread byte, or a refusal.
 enum FieldsRead {
@@ -199,22 +199,5 @@ pub fn read(s: &[u8]) -> Answer
                 behind_head(typeNumber, carrier, s, behind)
             }
         },
-    }
-}
-
-// The caller's own slice from the first unread byte of an answer; all of it where the answer is a refusal.
-pub fn rest(s: &[u8], answer: Answer) -> &[u8]
-    ensures { λ r. ⌜ now r ≡ restOf (now (s .entry)) answer ⌝ }
-{
-    let verdict = answer.verdict;
-    match verdict {
-        PlaceRead::Refused(_) => s,
-        PlaceRead::Taken(next) => {
-            if next <= s.len() {
-                return &s[next..];
-            }
-            let end = s.len();
-            &s[end..]
-        }
     }
 }

@@ -39,7 +39,8 @@ use denote.Triple.Walked.{says, Stays, stay-none-slice, walkOf, goes-none-slice,
 use denote.Exit.{yes}
 use denote.Triple.Clauses.{ensured, lasts}
 use Rattle.message.specs.Wire.{messageAt}
-use Rattle.reader.specs.Answers.{readAnswer, restOf}
+use Rattle.reader.specs.Answers.{readAnswer}
+use Rattle.taken.specs.Rest.{restOf}
 use Rattle.reader.specs.declared.Answer.{Answer}
 use Rattle.taken.specs.declared.Taken.{Taken}
 use Rattle.reader.proofs.Answer as AnswerType
@@ -50,10 +51,10 @@ use Rattle.reader.proofs.read as read
 use Rattle.reader.proofs.read.Symbol as read-def
 use Rattle.reader.proofs.read.Symbol.{name as #read}
 use Rattle.reader.proofs.read.Met as read-thm
-use Rattle.reader.proofs.rest as rest
-use Rattle.reader.proofs.rest.Symbol as rest-def
-use Rattle.reader.proofs.rest.Symbol.{name as #rest}
-use Rattle.reader.proofs.rest.Met as rest-thm
+use Rattle.taken.proofs.rest as rest
+use Rattle.taken.proofs.rest.Symbol as rest-def
+use Rattle.taken.proofs.rest.Symbol.{name as #rest}
+use Rattle.taken.proofs.rest.Met as rest-thm
 use Rattle.taken.proofs.take.Key.{name as #take}
 use Rattle.taken.proofs.take as take
 use Rattle.taken.proofs.take.Statement as stated
@@ -197,4 +198,4 @@ take-spec 𝓤 H 𝓜 𝓖 𝓡 =
     (tables 𝓤 H 𝓜 𝓡 code.env .C) (tables 𝓤 H 𝓜 𝓡 code.env .Λ) #take code.function (code.unfolded 𝓤 H 𝓜 𝓡)
     (take-meets 𝓤 H (𝓖 .A) (givenOf 𝓤 H 𝓜 𝓖) (𝓜 .mem) (𝓡 .run) (tablesOf 𝓤 H 𝓜 (tables 𝓤 H 𝓜 𝓡 code.env))
     (cited 𝓤 H (Read 𝓤 H (𝓖 .A) (𝓜 .mem) (𝓡 .run)) 𝓜 𝓡 code.env #read read-def.routine code.calls-reader·read (read-thm.met 𝓤 H 𝓜 𝓖 𝓡))
-    (cited 𝓤 H (Rest 𝓤 H (𝓖 .A) (𝓜 .mem) (𝓡 .run)) 𝓜 𝓡 code.env #rest rest-def.routine code.calls-reader·rest (rest-thm.met 𝓤 H 𝓜 𝓖 𝓡)))
+    (cited 𝓤 H (Rest 𝓤 H (𝓖 .A) (𝓜 .mem) (𝓡 .run)) 𝓜 𝓡 code.env #rest rest-def.routine code.calls-taken·rest (rest-thm.met 𝓤 H 𝓜 𝓖 𝓡)))

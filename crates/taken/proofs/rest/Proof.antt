@@ -6,8 +6,8 @@ use denote.Ref.{now}
 use mathlib.Core.Path.{_≡_, refl, sym, _∙_, ap}
 use Rattle.lists.proofs.Parts.{tail-of}
 use borrow.Author.Needs.{needs}
-use Rattle.reader.proofs.rest.Statement.{statement}
-use Rattle.reader.proofs.rest.Tie as tie
+use Rattle.taken.proofs.rest.Statement.{statement}
+use Rattle.taken.proofs.rest.Tie as tie
 
 enum-told : tie.Need-enum-told
 enum-told c = search needs
