@@ -2,7 +2,7 @@
 use crate::number::NumberRead;
 use crate::number::read_field;
 ghost use mathlib.Core.Path.{_≡_};
-ghost use Rattle.message.specs.Number.{scanAt, digitsAt, digitsInRange};
+ghost use Rattle.message.specs.Number.{scanAt, digitsAt, digitsInRange, digitsBytes, sixteen};
 ghost use Rattle.message.specs.Answers.{placeTold};
 
 // The place of the first unread byte, or a refusal by its number in document 01.
@@ -51,4 +51,21 @@ pub fn digits_in_range(number: [u8; 16], low: u16) -> bool
         PlaceRead::Taken(_) => true,
         PlaceRead::Refused(_) => false,
     }
+}
+
+// The number with 0 in every place behind its last digit.
+pub fn normal_number(number: [u8; 16]) -> [u8; 16]
+    ensures { λ r. ⌜ r ≡ sixteen (digitsBytes number) ⌝ }
+{
+    let last = number[0] as usize;
+    let mut normal = [0u8; 16];
+    let mut i = 0;
+    while i < 16 {
+        if last < i {
+            return normal;
+        }
+        normal[i] = number[i];
+        i += 1;
+    }
+    normal
 }

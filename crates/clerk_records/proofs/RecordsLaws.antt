@@ -1,0 +1,168 @@
+-- The words of a desk and its list of records are one thing: each search, each store and each delete in words is the same in records.
+use Prim.Native.Nat.{ℕ, zero, suc, _+_, _*_, _≤_, _<_}
+use mathlib.Core.Path.{_≡_, refl, sym, _∙_, ap}
+use mathlib.Core.Bool.{Bool, true, false, not}
+use mathlib.Core.List.{List, [], _∷_, map}
+use lib.ListN.{length, getD, take, drop, set, replicate, length-map, List·getD-map}
+use lib.Seq.{getD-take}
+use lib.Dec.{ltb, leb, eqb}
+use native.Mathlib.Omega.{arith}
+use borrow.Author.Tests.{eqb-true, eqb-false, ltb-true, lt-leb}
+use Rattle.lists.specs.Choice.{pick}
+use Rattle.lists.specs.Lists.{both, first, without}
+use Rattle.lists.specs.Words.{sameWords}
+use Rattle.lists.specs.declared.Found.{Found}
+use Rattle.lists.specs.declared.Found.the-variants.{At, Nothing}
+use Rattle.lists.specs.declared.words.Words.{Words}
+use Rattle.lists.proofs.Choice.{pick-elim}
+use Rattle.lists.proofs.Lists.{first-below}
+use Rattle.store.specs.Rows.{live, free, hasIdentifier, rows, rowAt, putRow, dropRow, blankRow}
+use Rattle.store.proofs.RowsLaws.{rows-length, rows-at, rows-put, rows-drop, first-map, first-same, map-set, map-without}
+use Rattle.message.specs.declared.Kind.{Kind}
+use Rattle.message.specs.declared.Kind.the-variants.{Ccbs, Ccnr}
+use Rattle.desk.specs.declared.Connection.{Connection}
+use Rattle.desk.specs.declared.Connection.the-variants as Connection
+use Rattle.desk.specs.declared.Keep.{Keep}
+use Rattle.desk.specs.declared.Keep.the-variants as Keep
+use Rattle.clerk_table.specs.declared.table.State.{State}
+use Rattle.clerk_table.specs.declared.table.State.the-variants.{Free, WaitAck, Invoked, WaitAnswer, Ringout, Suspended}
+use Rattle.clerk_table.specs.declared.record.Record.{Record}
+use Rattle.clerk_records.specs.Codes.{stateOf, stateCode, kindOf, kindCode, keepOf, keepCode, connectionOf, connectionCode, flagCode}
+use Rattle.clerk_records.specs.Records.{recordOf, wordsOf, blank, records, inUse, used, unused, identified, meant, place}
+
+-- ---- codes: what is stored is read back
+state-back : (s : State) → stateOf (stateCode s) ≡ s
+unfolding stateOf
+state-back Free = refl
+state-back WaitAck = refl
+state-back Invoked = refl
+state-back WaitAnswer = refl
+state-back Ringout = refl
+state-back Suspended = refl
+
+kind-back : (k : Kind) → kindOf (kindCode k) ≡ k
+unfolding kindOf
+kind-back Ccbs = refl
+kind-back Ccnr = refl
+
+keep-back : (k : Keep) → keepOf (keepCode k) ≡ k
+unfolding keepOf
+keep-back Keep.Empty = refl
+keep-back Keep.Ends = refl
+keep-back Keep.Keeps = refl
+
+connection-back : (k : Connection) → connectionOf (connectionCode k) ≡ k
+unfolding connectionOf
+connection-back Connection.Empty = refl
+connection-back Connection.Ret = refl
+connection-back Connection.Rls = refl
+
+flag-back : (b : Bool) → eqb (flagCode b) 1 ≡ b
+flag-back true = refl
+flag-back false = refl
+
+pub record-back : (r : Record) → recordOf (wordsOf r) ≡ r
+unfolding recordOf
+record-back r = rw (state-back (r .state), kind-back (r .kind), keep-back (r .keep), connection-back (r .connection), flag-back (r .canKeep))
+
+-- a state word from 1 to 5 is a record in use
+state-live : (w : ℕ) → both (ltb 0 w) (leb w 5) ≡ inUse (stateOf w)
+unfolding stateOf
+state-live w =
+    let P : State → Type 0 = λ s. both (ltb 0 w) (leb w 5) ≡ inUse s in
+    pick-elim P (eqb w 1) (λ t. rw (eqb-true w 1 t)) (λ t1.
+    pick-elim P (eqb w 2) (λ t. rw (eqb-true w 2 t)) (λ t2.
+    pick-elim P (eqb w 3) (λ t. rw (eqb-true w 3 t)) (λ t3.
+    pick-elim P (eqb w 4) (λ t. rw (eqb-true w 4 t)) (λ t4.
+    pick-elim P (eqb w 5) (λ t. rw (eqb-true w 5 t)) (λ t5.
+    outside w (eqb-false w 1 t1) (eqb-false w 2 t2) (eqb-false w 3 t3) (eqb-false w 4 t4) (eqb-false w 5 t5) (ltb 0 w) refl)))))
+  where
+    outside : (w : ℕ) → (w ≡ 1 → ⊥) → (w ≡ 2 → ⊥) → (w ≡ 3 → ⊥) → (w ≡ 4 → ⊥) → (w ≡ 5 → ⊥) → (b : Bool) → ltb 0 w ≡ b → both b (leb w 5) ≡ false
+    outside w n1 n2 n3 n4 n5 false e = refl
+    outside w n1 n2 n3 n4 n5 true e =
+        let g1 : 1 ≤ w = omega (arith, ltb-true 0 w e) in
+        let g2 : 2 ≤ w = omega (arith, n1) in
+        let g3 : 3 ≤ w = omega (arith, n2) in
+        let g4 : 4 ≤ w = omega (arith, n3) in
+        let g5 : 5 ≤ w = omega (arith, n4) in
+        let g6 : 6 ≤ w = omega (arith, n5) in
+        lt-leb w 5 g6
+
+pub used-row : (row : List ℕ) → live 5 row ≡ used (recordOf row)
+unfolding live recordOf
+used-row row = state-live (getD row 8 0)
+
+both-both : (a b c : Bool) → both a (both b c) ≡ both (both a b) c
+both-both true b c = refl
+both-both false b c = refl
+
+identified-row : (identifier : Words) (row : List ℕ) → hasIdentifier 5 identifier row ≡ identified identifier (recordOf row)
+unfolding hasIdentifier recordOf sameWords
+identified-row identifier row =
+    both-both (eqb (getD row 0 0) (identifier .low)) (eqb (getD row 1 0) (identifier .high)) (live 5 row)
+    ∙ ap (λ (b : Bool). both (both (eqb (getD row 0 0) (identifier .low)) (eqb (getD row 1 0) (identifier .high))) b) (used-row row)
+
+unused-row : (row : List ℕ) → free 5 row ≡ unused (recordOf row)
+unfolding free
+unused-row row = rw (used-row row) (not-used (used (recordOf row)))
+  where
+    not-used : (b : Bool) → not b ≡ pick b false true
+    not-used true = refl
+    not-used false = refl
+
+-- ---- searches
+pub meant-rows : (identifier : Words) (words : List ℕ) → first (hasIdentifier 5 identifier) (rows 12 16 words) ≡ meant identifier (records words)
+unfolding meant records
+meant-rows identifier words =
+    first-same (hasIdentifier 5 identifier) (λ row. identified identifier (recordOf row)) (rows 12 16 words) (identified-row identifier)
+    ∙ sym (first-map recordOf (identified identifier) (rows 12 16 words))
+
+pub place-rows : (words : List ℕ) → first (free 5) (rows 12 16 words) ≡ place (records words)
+unfolding place records
+place-rows words =
+    first-same (free 5) (λ row. unused (recordOf row)) (rows 12 16 words) unused-row
+    ∙ sym (first-map recordOf unused (rows 12 16 words))
+
+-- ---- places
+pub records-length : (words : List ℕ) → length (records words) ≡ 16
+unfolding records
+records-length words = length-map (rows 12 16 words) recordOf ∙ rows-length 12 16 words
+
+-- a record reads its own twelve words
+pub record-front : (row : List ℕ) → recordOf (take 12 row) ≡ recordOf row
+unfolding recordOf
+record-front row =
+    let same : (k : ℕ) → k < 12 → getD (take 12 row) k 0 ≡ getD row k 0 = λ k h. getD-take 12 row k 0 h in
+    rw (same 0 (omega arith), same 1 (omega arith), same 2 (omega arith), same 3 (omega arith), same 4 (omega arith), same 5 (omega arith), same 6 (omega arith), same 7 (omega arith), same 8 (omega arith), same 9 (omega arith), same 10 (omega arith), same 11 (omega arith))
+
+pub record-at : (words : List ℕ) (i : ℕ) → i < 16 → getD (records words) i blank ≡ recordOf (drop (i * 12) words)
+unfolding records
+record-at words i h =
+    List·getD-map recordOf (rows 12 16 words) i [] ∙ ap recordOf (rows-at 12 16 words i [] h) ∙ record-front (drop (i * 12) words)
+
+pub record-past : (words : List ℕ) (i : ℕ) → 16 ≤ i → getD (records words) i blank ≡ blank
+record-past words i h = getD-past (records words) i blank (omega (arith, records-length words))
+  where
+    getD-past : {A : Type 0} (xs : List A) (i : ℕ) (d : A) → length xs ≤ i → getD xs i d ≡ d
+    getD-past [] i d h = refl
+    getD-past (x ∷ xs) zero d h = absurd (omega (arith, h))
+    getD-past (x ∷ xs) (suc i) d h = getD-past xs i d (omega (arith, h))
+
+-- ---- changes
+pub records-put : (words : List ℕ) (i : ℕ) (r : Record) → i < 16 → length words ≡ 192 → records (putRow 12 words i (wordsOf r)) ≡ set (records words) i r
+unfolding records
+records-put words i r h l =
+    ap (map recordOf) (rows-put 12 16 words i (wordsOf r) refl h (omega arith))
+    ∙ map-set recordOf (rows 12 16 words) i (wordsOf r)
+    ∙ ap (λ (x : Record). set (map recordOf (rows 12 16 words)) i x) (record-back r)
+
+blank-row : recordOf (blankRow 12) ≡ blank
+unfolding recordOf
+blank-row = refl
+
+pub records-drop : (words : List ℕ) (i : ℕ) → i < 16 → length words ≡ 192 → records (dropRow 12 16 words i) ≡ without blank (records words) i
+unfolding records
+records-drop words i h l =
+    ap (map recordOf) (rows-drop 12 16 words i h (omega arith))
+    ∙ map-without recordOf (blankRow 12) (rows 12 16 words) i
+    ∙ ap (λ (x : Record). without x (map recordOf (rows 12 16 words)) i) blank-row

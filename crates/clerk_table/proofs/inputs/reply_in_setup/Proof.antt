@@ -1,0 +1,53 @@
+-- By the carrier.
+use borrow.Author.Needs.{needs}
+use Rattle.clerk_table.proofs.inputs.reply_in_setup.Statement.{statement}
+use Rattle.clerk_table.proofs.inputs.reply_in_setup.Tie as tie
+
+enum-told : tie.Need-enum-told
+enum-told c = search needs
+
+cancel-reply-requires : tie.Need-cancel-reply-requires
+cancel-reply-requires c κs = search needs
+
+enum-told-2 : tie.Need-enum-told-2
+enum-told-2 c = search needs
+
+enum-told-3 : tie.Need-enum-told-3
+enum-told-3 c = search needs
+
+enum-told-4 : tie.Need-enum-told-4
+enum-told-4 c = search needs
+
+enum-told-5 : tie.Need-enum-told-5
+enum-told-5 c = search needs
+
+returns : tie.Need-returns
+returns c = rw (c .before .enum-told .given .1, c .cancel-reply .ensures)
+
+returns-2 : tie.Need-returns-2
+returns-2 c = search needs
+
+returns-3 : tie.Need-returns-3
+returns-3 c = search needs
+
+returns-4 : tie.Need-returns-4
+returns-4 c = search needs
+
+returns-5 : tie.Need-returns-5
+returns-5 c = search needs
+
+pub reply-in-setup-spec : {M : Type 1} → statement M
+reply-in-setup-spec =
+    tie.close
+    (tie.spec
+    enum-told
+    cancel-reply-requires
+    enum-told-2
+    enum-told-3
+    enum-told-4
+    enum-told-5
+    returns
+    returns-2
+    returns-3
+    returns-4
+    returns-5)

@@ -1,0 +1,39 @@
+-- Each part of the plan is what the effect of the row means.
+use Rattle.clerk_table.specs.Step.{taken}
+use borrow.Author.Needs.{needs}
+use Rattle.clerk_table.proofs.step.take_row.Statement.{statement}
+use Rattle.clerk_table.proofs.step.take_row.Tie as tie
+
+effect-of-requires : tie.Need-effect-of-requires
+effect-of-requires c κs = search needs
+
+changed-to-requires : tie.Need-changed-to-requires
+changed-to-requires c κs = search needs
+
+sent-for-requires : tie.Need-sent-for-requires
+sent-for-requires c κs = search needs
+
+timers-started-requires : tie.Need-timers-started-requires
+timers-started-requires c κs = search needs
+
+timers-stopped-requires : tie.Need-timers-stopped-requires
+timers-stopped-requires c κs = search needs
+
+call-cleared-requires : tie.Need-call-cleared-requires
+call-cleared-requires c κs = search needs
+
+returns : tie.Need-returns
+unfolding taken
+returns c = rw (c .before .before .before .before .changed-to .ensures, c .before .before .before .sent-for .ensures, c .before .before .timers-started .ensures, c .before .timers-stopped .ensures, c .call-cleared .ensures, c .before .before .before .before .before .effect-of .ensures)
+
+pub take-row-spec : {M : Type 1} → statement M
+take-row-spec =
+    tie.close
+    (tie.spec
+    effect-of-requires
+    changed-to-requires
+    sent-for-requires
+    timers-started-requires
+    timers-stopped-requires
+    call-cleared-requires
+    returns)

@@ -1,0 +1,4 @@
+pub mod Table
+pub mod Record
+pub mod Step
+pub mod Inputs

@@ -1,0 +1,92 @@
+-- A row of the clerk's table taken for a record: the change of the desk and the outcome that its effect means.
+use Prim.Native.Nat.{ℕ}
+use mathlib.Core.Bool.{Bool, true, false}
+use Rattle.lists.specs.Choice.{pick}
+use Rattle.lists.specs.declared.words.Words.{Words}
+use Rattle.desk.specs.Carriers.{sentIn}
+use Rattle.desk.specs.Outcome.{noTimers}
+use Rattle.desk.specs.declared.outcome.Sending.{Sending}
+use Rattle.desk.specs.declared.outcome.Sending.the-variants as Sending
+use Rattle.desk.specs.declared.outcome.Timers.{Timers}
+use Rattle.clerk_table.specs.Table.{effectOf}
+use Rattle.clerk_table.specs.Record.{withState}
+use Rattle.clerk_table.specs.declared.table.State.{State}
+use Rattle.clerk_table.specs.declared.table.State.the-variants.{Free, WaitAck, Invoked, WaitAnswer, Ringout, Suspended}
+use Rattle.clerk_table.specs.declared.table.Row.{Row}
+use Rattle.clerk_table.specs.declared.table.Next.{Next}
+use Rattle.clerk_table.specs.declared.table.Next.the-variants.{Gone, To}
+use Rattle.clerk_table.specs.declared.table.Sends.{Sends}
+use Rattle.clerk_table.specs.declared.table.Sends.the-variants as Sent
+use Rattle.clerk_table.specs.declared.table.Timer.{Timer}
+use Rattle.clerk_table.specs.declared.table.Timer.the-variants.{T1, T2, T3}
+use Rattle.clerk_table.specs.declared.table.Starts.{Starts}
+use Rattle.clerk_table.specs.declared.table.Starts.the-variants as Starting
+use Rattle.clerk_table.specs.declared.table.Stops.{Stops}
+use Rattle.clerk_table.specs.declared.table.Stops.the-variants as Stopping
+use Rattle.clerk_table.specs.declared.record.Record.{Record}
+use Rattle.clerk_table.specs.declared.record.Change.{Change}
+use Rattle.clerk_table.specs.declared.record.Change.the-variants.{Stay, Put, Remove}
+use Rattle.clerk_table.specs.declared.record.Plan.{Plan}
+
+abbrev pub changed : Next → ℕ → Record → Change
+changed Gone place r = Remove place
+changed (To state) place r = Put place (withState r state)
+
+abbrev pub only : Timer → Timers
+only T1 = record { t1 = true; t2 = false; t3 = false; guard = false }
+only T2 = record { t1 = false; t2 = true; t3 = false; guard = false }
+only T3 = record { t1 = false; t2 = false; t3 = true; guard = false }
+
+abbrev pub started : Starts → Timers
+started Starting.Nothing = noTimers
+started (Starting.One timer) = only timer
+
+-- T1 runs in Wait-Ack, T3 in Wait-Answer, T2 in the last four
+abbrev pub running : State → Timers
+running Free = noTimers
+running WaitAck = only T1
+running Invoked = only T2
+running WaitAnswer = record { t1 = false; t2 = true; t3 = true; guard = false }
+running Ringout = only T2
+running Suspended = only T2
+
+abbrev pub stopped : Stops → State → Timers
+stopped Stopping.Nothing state = noTimers
+stopped (Stopping.One timer) state = only timer
+stopped Stopping.Running state = running state
+
+-- a type without numbers of digits has none
+abbrev pub noNumber : Words
+noNumber = record { low = 0; high = 0 }
+
+-- the message carries the record's identifier, in the carrier of its type and of the record's connection choice
+abbrev pub sent : Sends → Record → Sending
+sent Sent.Nothing r = Sending.Nothing
+sent (Sent.One body) r =
+    Sending.Send (record { carrier = sentIn body (r .connection); identifier = r .identifier; numberA = noNumber; numberB = noNumber; body = body })
+
+-- the host is told to clear the call only in Ringout
+abbrev pub inRingout : State → Bool
+inRingout Free = false
+inRingout WaitAck = false
+inRingout Invoked = false
+inRingout WaitAnswer = false
+inRingout Ringout = true
+inRingout Suspended = false
+
+abbrev pub cleared : Bool → State → Bool
+cleared clears state = pick clears (inRingout state) false
+
+unfoldable pub taken : ℕ → Record → Row → Plan
+taken place r row =
+    record {
+      change = changed (effectOf row .next) place r;
+      outcome = record {
+        refusal = 0;
+        sending = sent (effectOf row .sends) r;
+        starts = started (effectOf row .starts);
+        stops = stopped (effectOf row .stops) (r .state);
+        notice = effectOf row .notice;
+        clear = cleared (effectOf row .clears) (r .state);
+      };
+    }

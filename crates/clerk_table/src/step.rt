@@ -1,0 +1,158 @@
+// A row taken for a record: what the table's effect makes of the place, the message, the timers, the notice and the call.
+use crate::record::Change;
+use crate::record::Plan;
+use crate::record::Record;
+use crate::record::with_state;
+use crate::table::Next;
+use crate::table::Row;
+use crate::table::Sends;
+use crate::table::Starts;
+use crate::table::State;
+use crate::table::Stops;
+use crate::table::Timer;
+use crate::table::effect_of;
+use desk::carriers::sent_in;
+use desk::letter::Letter;
+use desk::outcome::Outcome;
+use desk::outcome::Sending;
+use desk::outcome::Timers;
+use desk::outcome::no_timers;
+use lists::words::Words;
+ghost use mathlib.Core.Path.{_≡_};
+ghost use Rattle.clerk_table.specs.Step.{changed, only, started, running, stopped, sent, cleared, taken};
+
+fn changed_to(next: Next, place: usize, r: Record) -> Change
+    ensures { λ q. ⌜ q ≡ changed next place r ⌝ }
+{
+    match next {
+        Next::Gone => Change::Remove(place),
+        Next::To(state) => Change::Put(place, with_state(r, state)),
+    }
+}
+
+fn only_timer(timer: Timer) -> Timers
+    ensures { λ r. ⌜ r ≡ only timer ⌝ }
+{
+    match timer {
+        Timer::T1 => Timers {
+            t1: true,
+            t2: false,
+            t3: false,
+            guard: false,
+        },
+        Timer::T2 => Timers {
+            t1: false,
+            t2: true,
+            t3: false,
+            guard: false,
+        },
+        Timer::T3 => Timers {
+            t1: false,
+            t2: false,
+            t3: true,
+            guard: false,
+        },
+    }
+}
+
+fn timers_started(starts: Starts) -> Timers
+    ensures { λ r. ⌜ r ≡ started starts ⌝ }
+{
+    match starts {
+        Starts::Nothing => no_timers(),
+        Starts::One(timer) => only_timer(timer),
+    }
+}
+
+// T1 runs in Wait-Ack, T3 in Wait-Answer, T2 in the last four.
+fn timers_running(state: State) -> Timers
+    ensures { λ r. ⌜ r ≡ running state ⌝ }
+{
+    match state {
+        State::Free => no_timers(),
+        State::WaitAck => only_timer(Timer::T1),
+        State::Invoked => only_timer(Timer::T2),
+        State::WaitAnswer => Timers {
+            t1: false,
+            t2: true,
+            t3: true,
+            guard: false,
+        },
+        State::Ringout => only_timer(Timer::T2),
+        State::Suspended => only_timer(Timer::T2),
+    }
+}
+
+fn timers_stopped(stops: Stops, state: State) -> Timers
+    ensures { λ r. ⌜ r ≡ stopped stops state ⌝ }
+{
+    match stops {
+        Stops::Nothing => no_timers(),
+        Stops::One(timer) => only_timer(timer),
+        Stops::Running => timers_running(state),
+    }
+}
+
+fn sent_for(sends: Sends, r: Record) -> Sending
+    ensures { λ q. ⌜ q ≡ sent sends r ⌝ }
+{
+    match sends {
+        Sends::Nothing => Sending::Nothing,
+        Sends::One(body) => {
+            let connection = r.connection;
+            let identifier = r.identifier;
+            let carrier = sent_in(body, connection);
+            let none = Words { low: 0, high: 0 };
+            Sending::Send(Letter {
+                carrier,
+                identifier,
+                numberA: none,
+                numberB: none,
+                body,
+            })
+        }
+    }
+}
+
+fn call_cleared(clears: bool, state: State) -> bool
+    ensures { λ r. ⌜ r ≡ cleared clears state ⌝ }
+{
+    if clears {
+        return match state {
+            State::Free => false,
+            State::WaitAck => false,
+            State::Invoked => false,
+            State::WaitAnswer => false,
+            State::Ringout => true,
+            State::Suspended => false,
+        };
+    }
+    false
+}
+
+// A row that is taken for the record of a place.
+pub fn take_row(place: usize, r: Record, row: Row) -> Plan
+    ensures { λ q. ⌜ q ≡ taken place r row ⌝ }
+{
+    let effect = effect_of(row);
+    let next = effect.next;
+    let sends = effect.sends;
+    let starts = effect.starts;
+    let stops = effect.stops;
+    let notice = effect.notice;
+    let state = r.state;
+    let change = changed_to(next, place, r);
+    let sending = sent_for(sends, r);
+    let started = timers_started(starts);
+    let stopped = timers_stopped(stops, state);
+    let clear = call_cleared(effect.clears, state);
+    let outcome = Outcome {
+        refusal: 0,
+        sending,
+        starts: started,
+        stops: stopped,
+        notice,
+        clear,
+    };
+    Plan { change, outcome }
+}

@@ -1,0 +1,3 @@
+pub mod Letter
+pub mod Carriers
+pub mod Outcome

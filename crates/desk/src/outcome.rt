@@ -1,0 +1,66 @@
+// The outcome of a step: the refusal's number or 0; the one message sent, or the reply that goes with a refusal; timers started
+// and stopped; the notice; and whether the host is told to clear the call.
+use crate::letter::Letter;
+ghost use mathlib.Core.Path.{_≡_};
+ghost use Rattle.desk.specs.Outcome.{noTimers, refusedWith};
+
+pub enum Sending {
+    Nothing,
+    Send(Letter),
+}
+
+pub struct Timers {
+    pub t1: bool,
+    pub t2: bool,
+    pub t3: bool,
+    pub guard: bool,
+}
+
+pub enum Notice {
+    Silent,
+    Accepted,
+    DeniedShort,
+    DeniedLong,
+    Recall,
+    Completed,
+    Failed,
+    BusyAgainKept,
+    BusyAgainEnded,
+    Cancelled,
+}
+
+pub struct Outcome {
+    pub refusal: u8,
+    pub sending: Sending,
+    pub starts: Timers,
+    pub stops: Timers,
+    pub notice: Notice,
+    pub clear: bool,
+}
+
+// No timer at all.
+pub fn no_timers() -> Timers
+    ensures { λ r. ⌜ r ≡ noTimers ⌝ }
+{
+    Timers {
+        t1: false,
+        t2: false,
+        t3: false,
+        guard: false,
+    }
+}
+
+// A refusal, with its reply or none: nothing else happens.
+pub fn refused(refusal: u8, reply: Sending) -> Outcome
+    ensures { λ r. ⌜ r ≡ refusedWith refusal reply ⌝ }
+{
+    let none = no_timers();
+    Outcome {
+        refusal,
+        sending: reply,
+        starts: none,
+        stops: none,
+        notice: Notice::Silent,
+        clear: false,
+    }
+}

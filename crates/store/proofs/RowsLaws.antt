@@ -1,0 +1,288 @@
+-- Laws of specs/Rows.antt, over any width and count: rows of joined words are joined rows, and the rest follows from that. Assumes nothing.
+use Prim.Native.Nat.{ℕ, zero, suc, _+_, _-_, _*_, _≤_, _<_}
+use mathlib.Core.Bool.{Bool, true, false}
+use mathlib.Core.List.{List, [], _∷_, _++_, map, map-append, append-assoc}
+use mathlib.Core.Path.{_≡_, refl, sym, ap, _∙_}
+use native.Mathlib.Nat.{not-suc-le-zero, le-of-suc-le-suc, mul-le-mul-right, zero-mul, zero-add, add-suc}
+use native.Mathlib.Numerals.{add-one}
+use native.Mathlib.Omega.{arith}
+use borrow.Author.Tests.{eqb-true, ltb-true, leb-true, eq-eqb, lt-ltb, le-leb}
+use lib.Dec.{leb, ltb, eqb}
+use lib.ListN.{length, getD, take, drop, set, replicate, length-append, length-drop, length-replicate, getD-replicate, take-append-drop, replicate-append-replicate}
+use lib.Seq.{length-take-le, take-all, drop-drop, take-add, take-at, drop-at, set-at, getD-take, getD-drop, sets, sets-eq}
+use Rattle.lists.specs.Lists.{both, firstFrom, first, without}
+use Rattle.lists.specs.Parts.{over}
+use Rattle.lists.specs.declared.Found.the-variants.{At, Nothing}
+use Rattle.lists.specs.declared.words.Words.{Words}
+use Rattle.lists.proofs.Lists.{both-parts, first-below, first-holds, first-earlier, first-none}
+use Rattle.store.specs.Rows.{live, free, hasIdentifier, rows, rowAt, putRow, blankRow, dropRow}
+
+-- ---- places: row i ends within the rows, and the rows behind it are the rest
+pub place-within : (width count i n : ℕ) → i < count → count * width ≤ n → i * width + width ≤ n
+place-within width count i n h fits =
+    let k : (i + 1) * width ≤ count * width = mul-le-mul-right width (omega arith) in
+    omega arith
+
+pub place-rest : (width count i : ℕ) → i < count → i * width + width + (count - (i + 1)) * width ≡ count * width
+place-rest width count i h =
+    let e : i + 1 + (count - (i + 1)) ≡ count = omega arith in
+    let p : (i + 1 + (count - (i + 1))) * width ≡ count * width = ap (λ (n : ℕ). n * width) e in
+    omega arith
+
+-- ---- lists of anything
+first-map-from :
+    {A B : Type 0} (f : A → B) (p : B → Bool) (k : ℕ) (xs : List A) → firstFrom p k (map f xs) ≡ firstFrom (λ x. p (f x)) k xs
+unfolding firstFrom
+first-map-from f p k [] = refl
+first-map-from f p k (x ∷ xs) = rw (first-map-from f p (suc k) xs)
+
+-- a search in changed elements is a search by the changed test
+pub first-map : {A B : Type 0} (f : A → B) (p : B → Bool) (xs : List A) → first p (map f xs) ≡ first (λ x. p (f x)) xs
+first-map f p xs = first-map-from f p 0 xs
+
+-- a search by a test with the same answers
+pub first-same : {A : Type 0} (p q : A → Bool) (xs : List A) → ((x : A) → p x ≡ q x) → first p xs ≡ first q xs
+first-same p q xs h = ap (λ t. first t xs) (λ i x. h x i)
+
+-- a change of all elements beside a store, and beside a removal
+pub map-set : {A B : Type 0} (f : A → B) (xs : List A) (i : ℕ) (x : A) → map f (set xs i x) ≡ set (map f xs) i (f x)
+map-set f [] i x = refl
+map-set f (y ∷ ys) zero x = refl
+map-set {A} {B} f (y ∷ ys) (suc i) x = ap {B = List B} (λ r. f y ∷ r) (map-set f ys i x)
+
+pub map-without : {A B : Type 0} (f : A → B) (z : A) (xs : List A) (i : ℕ) → map f (without z xs i) ≡ without (f z) (map f xs) i
+unfolding without
+map-without f z [] i = refl
+map-without f z (y ∷ ys) zero = map-append f ys (z ∷ [])
+map-without {A} {B} f z (y ∷ ys) (suc i) = ap {B = List B} (λ r. f y ∷ r) (map-without f z ys i)
+
+-- the n-th taken out, where what stands before it is known
+without-at :
+    {A : Type 0} (z : A) (xs : List A) (y : A) (ys : List A) (n : ℕ) → length xs ≡ n →
+    without z (xs ++ (y ∷ ys)) n ≡ xs ++ (ys ++ (z ∷ []))
+unfolding without
+without-at z [] y ys n e = rw (← e)
+without-at {A} z (x ∷ xs) y ys n e = rw (← e) (ap {B = List A} (λ r. x ∷ r) (without-at z xs y ys (length xs) refl))
+
+-- words stored one by one, j words behind word k and on: at a literal j it computes to the stores of straight-line code
+abbrev pub stores : List ℕ → ℕ → ℕ → List ℕ → List ℕ
+stores ws k j [] = ws
+stores ws k j (x ∷ xs) = stores (set ws (k + j) x) k (suc j) xs
+
+stores-sets : (xs ws : List ℕ) (k j : ℕ) → stores ws k j xs ≡ sets ws (k + j) xs
+stores-sets [] ws k j = refl
+stores-sets (x ∷ xs) ws k j = stores-sets xs (set ws (k + j) x) k (suc j) ∙ rw (add-suc k j)
+
+-- ---- what a row's tests say of its words
+pub live-state : (top : ℕ) (row : List ℕ) → live top row ≡ true → (0 < getD row 8 0) × (getD row 8 0 ≤ top)
+unfolding live
+live-state top row e =
+    let h = both-parts (ltb 0 (getD row 8 0)) (leb (getD row 8 0) top) e in
+    (ltb-true _ _ (h .0), leb-true _ _ (h .1))
+
+pub state-live : (top : ℕ) (row : List ℕ) → 0 < getD row 8 0 → getD row 8 0 ≤ top → live top row ≡ true
+unfolding live
+state-live top row a b = rw (lt-ltb 0 (getD row 8 0) a, le-leb (getD row 8 0) top b)
+
+pub identifier-parts :
+    (top : ℕ) (identifier : Words) (row : List ℕ) → hasIdentifier top identifier row ≡ true →
+    (getD row 0 0 ≡ identifier .low) × ((getD row 1 0 ≡ identifier .high) × (live top row ≡ true))
+unfolding hasIdentifier
+identifier-parts top identifier row e =
+    let a = both-parts (eqb (getD row 0 0) (identifier .low)) (both (eqb (getD row 1 0) (identifier .high)) (live top row)) e in
+    let b = both-parts (eqb (getD row 1 0) (identifier .high)) (live top row) (a .1) in
+    (eqb-true _ _ (a .0), (eqb-true _ _ (b .0), b .1))
+
+pub parts-identifier :
+    (top : ℕ) (identifier : Words) (row : List ℕ) → getD row 0 0 ≡ identifier .low → getD row 1 0 ≡ identifier .high →
+    live top row ≡ true → hasIdentifier top identifier row ≡ true
+unfolding hasIdentifier
+parts-identifier top identifier row a b l = rw (eq-eqb (getD row 0 0) (identifier .low) a, eq-eqb (getD row 1 0) (identifier .high) b, l)
+
+module _ (width : ℕ) where
+  -- ---- as many rows as are counted, and which row stands at a place
+  pub rows-length : (count : ℕ) (ws : List ℕ) → length (rows width count ws) ≡ count
+  unfolding rows
+  rows-length zero ws = refl
+  rows-length (suc n) ws = ap suc (rows-length n (drop width ws))
+
+  pub rows-at :
+      (count : ℕ) (ws : List ℕ) (i : ℕ) (d : List ℕ) → i < count → getD (rows width count ws) i d ≡ rowAt width ws i
+  unfolding rows
+  rows-at zero ws i d h = absurd (not-suc-le-zero h)
+  rows-at (suc n) ws zero d h = rw (zero-mul width)
+  rows-at (suc n) ws (suc i) d h =
+      let e : width + i * width ≡ suc i * width = omega arith in
+      rows-at n (drop width ws) i d (le-of-suc-le-suc h) ∙ rw (drop-drop, e)
+
+  pub row-length : (ws : List ℕ) (i : ℕ) → (i + 1) * width ≤ length ws → length (rowAt width ws i) ≡ width
+  row-length ws i h = length-take-le width (drop (i * width) ws) (simp length-drop (omega arith))
+
+  -- a word of a row
+  pub row-word : (ws : List ℕ) (i k : ℕ) → k < width → getD (rowAt width ws i) k 0 ≡ getD ws (i * width + k) 0
+  row-word ws i k h = getD-take width (drop (i * width) ws) k 0 h ∙ getD-drop (i * width) ws k 0
+
+  -- ---- joined words
+  rows-split : (m n : ℕ) (ws : List ℕ) → rows width (m + n) ws ≡ rows width m ws ++ rows width n (drop (m * width) ws)
+  unfolding rows
+  rows-split zero n ws = rw (zero-mul width, zero-add n)
+  rows-split (suc m) n ws =
+      let e : width + m * width ≡ suc m * width = omega arith in
+      let c : suc m + n ≡ suc (m + n) = omega arith in
+      rw c (ap {B = List (List ℕ)} (λ r. take width ws ∷ r) (rows-split m n (drop width ws) ∙ rw (drop-drop, e)))
+
+  rows-behind :
+      (m n : ℕ) (ws rest : List ℕ) → m * width ≤ length ws →
+      rows width (m + n) (take (m * width) ws ++ rest) ≡ rows width m ws ++ rows width n rest
+  unfolding rows
+  rows-behind zero n ws rest h = rw (zero-mul width, zero-add n)
+  rows-behind (suc m) n ws rest h =
+      let e : suc m * width ≡ width + m * width = omega arith in
+      let c : suc m + n ≡ suc (m + n) = omega arith in
+      let front = take width ws in
+      let behind = take (m * width) (drop width ws) ++ rest in
+      let l : length front ≡ width = length-take-le width ws (omega arith) in
+      let s : take (suc m * width) ws ++ rest ≡ front ++ behind = rw (e, take-add, append-assoc) in
+      rw (c, s, take-at front behind width l, drop-at front behind width l)
+      (ap {B = List (List ℕ)} (λ r. front ∷ r) (rows-behind m n (drop width ws) rest (simp length-drop (omega arith))))
+
+  -- one row and what stands behind it
+  rows-cons : (n : ℕ) (row rest : List ℕ) → length row ≡ width → rows width (suc n) (row ++ rest) ≡ row ∷ rows width n rest
+  unfolding rows
+  rows-cons n row rest l = rw (take-at row rest width l, drop-at row rest width l)
+
+  -- ---- a row put at a place
+  put-parts :
+      (i n : ℕ) (ws row : List ℕ) → length row ≡ width → (i + suc n) * width ≤ length ws →
+      rows width (i + suc n) (putRow width ws i row) ≡ set (rows width (i + suc n) ws) i row
+  unfolding putRow rows
+  put-parts i n ws row l h =
+      rows-behind i (suc n) ws (over row (drop (i * width) ws)) (omega arith)
+      ∙ rw (rows-cons n row (drop (length row) (drop (i * width) ws)) l, l, rows-split i (suc n) ws)
+      (sym (set-at (rows width i ws) (rowAt width ws i) (rows width n (drop width (drop (i * width) ws))) row i (rows-length i ws)))
+
+  pub rows-put :
+      (count : ℕ) (ws : List ℕ) (i : ℕ) (row : List ℕ) → length row ≡ width → i < count → count * width ≤ length ws →
+      rows width count (putRow width ws i row) ≡ set (rows width count ws) i row
+  rows-put count ws i row l h fits =
+      let c : count ≡ i + suc (count - suc i) = omega arith in
+      rw c (put-parts i (count - suc i) ws row l (rw (← c) fits))
+
+  pub put-length :
+      (count : ℕ) (ws : List ℕ) (i : ℕ) (row : List ℕ) → length row ≡ width → i < count → count * width ≤ length ws →
+      length (putRow width ws i row) ≡ length ws
+  unfolding putRow
+  put-length count ws i row l h fits =
+      let k = place-within width count i (length ws) h fits in
+      simp (length-append, length-drop) (omega (arith, length-take-le (i * width) ws (omega arith)))
+
+  -- a row stored word by word, as straight-line code leaves it
+  pub put-words :
+      (ws : List ℕ) (i x : ℕ) (xs : List ℕ) → i * width + suc (length xs) ≤ length ws →
+      stores (set ws (i * width) x) (i * width) 1 xs ≡ putRow width ws i (x ∷ xs)
+  unfolding putRow
+  put-words ws i x xs h =
+      stores-sets xs (set ws (i * width) x) (i * width) 1
+      ∙ rw add-one (sets-eq (x ∷ xs) ws (i * width) h ∙ rw (append-assoc, drop-drop))
+
+  -- ---- a row taken out
+  -- n rows and a blank one behind them
+  rows-last :
+      (n : ℕ) (ws rest : List ℕ) → n * width ≤ length ws →
+      rows width (suc n) (take (n * width) ws ++ (blankRow width ++ rest)) ≡ rows width n ws ++ (blankRow width ∷ [])
+  unfolding rows
+  rows-last n ws rest h =
+      ap (λ (k : ℕ). rows width k (take (n * width) ws ++ (blankRow width ++ rest))) (sym (add-one n))
+      ∙ rows-behind n 1 ws (blankRow width ++ rest) h
+      ∙ rw (rows-cons 0 (blankRow width) rest (length-replicate width 0))
+
+  drop-parts :
+      (i n : ℕ) (ws rest : List ℕ) → (i + suc n) * width ≤ length ws →
+      rows width (i + suc n) (take (i * width) ws ++ (take (n * width) (drop ((i + 1) * width) ws) ++ (blankRow width ++ rest)))
+      ≡ without (blankRow width) (rows width (i + suc n) ws) i
+  unfolding rows
+  drop-parts i n ws rest h =
+      let later = drop ((i + 1) * width) ws in
+      let e : (i + 1) * width ≡ i * width + width = omega arith in
+      let d : drop width (drop (i * width) ws) ≡ later = rw (drop-drop, e) in
+      rows-behind i (suc n) ws (take (n * width) later ++ (blankRow width ++ rest)) (omega arith)
+      ∙ rw (rows-last n later rest (simp length-drop (omega arith)), rows-split i (suc n) ws, d)
+      (sym (without-at (blankRow width) (rows width i ws) (rowAt width ws i) (rows width n later) i (rows-length i ws)))
+
+  pub rows-drop :
+      (count : ℕ) (ws : List ℕ) (i : ℕ) → i < count → count * width ≤ length ws →
+      rows width count (dropRow width count ws i) ≡ without (blankRow width) (rows width count ws) i
+  unfolding dropRow
+  rows-drop count ws i h fits =
+      let n = count - (i + 1) in
+      let c : i + suc n ≡ count = omega arith in
+      simp append-assoc (rw c at (drop-parts i n ws (drop (count * width) ws) (rw c fits)))
+
+  pub drop-length :
+      (count : ℕ) (ws : List ℕ) (i : ℕ) → i < count → count * width ≤ length ws → length (dropRow width count ws i) ≡ length ws
+  unfolding dropRow
+  drop-length count ws i h fits =
+      let k = place-rest width count i h in
+      let later = drop ((i + 1) * width) ws in
+      let n = (count - (i + 1)) * width in
+      let a : length (take (i * width) ws) ≡ i * width = length-take-le (i * width) ws (omega arith) in
+      let b : length (take n later) ≡ n = length-take-le n later (simp length-drop (omega arith)) in
+      simp (length-append, a, b, length-replicate, length-drop) (omega arith)
+
+  -- ---- the rows say all of the words, and blank words are blank rows
+  pub rows-tell :
+      (count : ℕ) (ws vs : List ℕ) → length ws ≡ count * width → length vs ≡ count * width →
+      rows width count ws ≡ rows width count vs → ws ≡ vs
+  unfolding rows
+  rows-tell zero ws vs lw lv e = sym (take-all 0 ws (omega arith)) ∙ take-all 0 vs (omega arith)
+  rows-tell (suc n) ws vs lw lv e =
+      let a : take width ws ≡ take width vs = cc in
+      let t : rows width n (drop width ws) ≡ rows width n (drop width vs) = cc in
+      let b = rows-tell n (drop width ws) (drop width vs) (simp length-drop (omega arith)) (simp length-drop (omega arith)) t in
+      sym (take-append-drop width ws) ∙ rw (a, b) (take-append-drop width vs)
+
+  pub rows-blank : (count : ℕ) → rows width count (replicate (count * width) 0) ≡ replicate count (blankRow width)
+  unfolding rows
+  rows-blank zero = refl
+  rows-blank (suc n) =
+      let e : suc n * width ≡ width + n * width = omega arith in
+      rw (e, ← replicate-append-replicate {A = ℕ} width (n * width) 0)
+      (rows-cons n (blankRow width) (replicate (n * width) 0) (length-replicate width 0)
+      ∙ ap {B = List (List ℕ)} (λ r. blankRow width ∷ r) (rows-blank n))
+
+  -- ---- a row's tests look at no word behind its ninth
+  module _ (wide : 9 ≤ width) (top : ℕ) (row : List ℕ) where
+    pub live-take : live top (take width row) ≡ live top row
+    unfolding live
+    live-take = rw (getD-take width row 8 0)
+
+    pub free-take : free top (take width row) ≡ free top row
+    unfolding free
+    free-take = rw live-take
+
+    pub identifier-take : (identifier : Words) → hasIdentifier top identifier (take width row) ≡ hasIdentifier top identifier row
+    unfolding hasIdentifier
+    identifier-take identifier = rw (getD-take width row 0 0 (omega arith), getD-take width row 1 0 (omega arith), live-take)
+
+  -- the place of a blank row is free
+  pub blank-free : 9 ≤ width → (top : ℕ) → free top (blankRow width) ≡ true
+  unfolding free live
+  blank-free wide top = rw (getD-replicate {A = ℕ} width 8 0 0 wide)
+
+  -- ---- what a search of the rows says of the places, by any test
+  module _ (p : List ℕ → Bool) (count : ℕ) (ws : List ℕ) where
+    pub found-below : (i : ℕ) → first p (rows width count ws) ≡ At i → i < count
+    found-below i e = let k = first-below p 0 (rows width count ws) i e in omega (arith, rows-length count ws)
+
+    pub found-row : (i : ℕ) → first p (rows width count ws) ≡ At i → p (rowAt width ws i) ≡ true
+    found-row i e = ap p (sym (rows-at count ws i [] (found-below i e))) ∙ first-holds p (rows width count ws) i [] e
+
+    pub found-earlier : (i : ℕ) → first p (rows width count ws) ≡ At i → (j : ℕ) → j < i → p (rowAt width ws j) ≡ false
+    found-earlier i e j h =
+        let k = found-below i e in
+        ap p (sym (rows-at count ws j [] (omega arith))) ∙ first-earlier p (rows width count ws) i [] e j h
+
+    pub found-none : first p (rows width count ws) ≡ Nothing → (j : ℕ) → j < count → p (rowAt width ws j) ≡ false
+    found-none e j h =
+        ap p (sym (rows-at count ws j [] h))
+        ∙ first-none p (rows width count ws) [] e j (omega (arith, rows-length count ws))

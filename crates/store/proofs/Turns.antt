@@ -1,0 +1,81 @@
+-- A turn of each loop of src/lib.rt, and what its last one leaves: by the laws of lists at the row or the word that the turn looks at. Assumes nothing.
+use Prim.Native.Nat.{ℕ, _+_, _-_, _*_, _≤_, _<_}
+use mathlib.Core.Bool.{Bool, true, false}
+use mathlib.Core.List.{List, [], _++_}
+use mathlib.Core.Path.{_≡_, sym, ap, _∙_}
+use native.Mathlib.Numerals.{add-one}
+use native.Mathlib.Omega.{arith}
+use lib.ListN.{length, getD, take, drop, set, length-drop, length-replicate, getD-replicate}
+use lib.Seq.{take-all, drop-drop, getD-drop, paste, paste-suc, take-paste, drop-paste}
+use Rattle.lists.specs.Lists.{firstFrom}
+use Rattle.lists.specs.declared.Found.the-variants.{At, Nothing}
+use Rattle.lists.proofs.Lists.{first-hit, first-miss, first-end}
+use Rattle.store.specs.Rows.{rows, blankRow, dropRow}
+use Rattle.store.proofs.RowsLaws.{rows-length, rows-at, place-rest}
+
+-- ---- a search by a test that the row's first words decide
+module _ (width : ℕ) (p : List ℕ → Bool) (front : (row : List ℕ) → p (take width row) ≡ p row) (count : ℕ) (ws : List ℕ) (i : ℕ) where
+  row-here : (at : ℕ) → i < count → at ≡ i * width → p (getD (rows width count ws) i []) ≡ p (drop at ws)
+  row-here at h e = rw (e, rows-at width count ws i [] h) (front (drop (i * width) ws))
+
+  pub search-hit : (at : ℕ) → i < count → at ≡ i * width → p (drop at ws) ≡ true → firstFrom p i (drop i (rows width count ws)) ≡ At i
+  search-hit at h e t =
+      first-hit p (rows width count ws) i [] (omega (arith, rows-length width count ws)) (row-here at h e ∙ t)
+
+  pub search-miss :
+      (at : ℕ) → i < count → at ≡ i * width → p (drop at ws) ≡ false →
+      firstFrom p i (drop i (rows width count ws)) ≡ firstFrom p (i + 1) (drop (i + 1) (rows width count ws))
+  search-miss at h e t =
+      first-miss p (rows width count ws) i [] (omega (arith, rows-length width count ws)) (row-here at h e ∙ t)
+
+  pub search-end : count ≤ i → firstFrom p i (drop i (rows width count ws)) ≡ Nothing
+  search-end h = first-end p (rows width count ws) i (omega (arith, rows-length width count ws))
+
+-- ---- a removal: what stands in the words before the turn, and behind it
+module _ (ws : List ℕ) (at width : ℕ) where
+  -- the word to move is what it was at first
+  still-there :
+      (j : ℕ) (before : List ℕ) → at + width + j < length ws → before ≡ paste ws at (drop (at + width) ws) j →
+      getD before (at + width + j) 0 ≡ getD (drop (at + width) ws) j 0
+  still-there j before h b =
+      let from = drop (at + width) ws in
+      let e : at + width + j ≡ at + j + width = omega arith in
+      let k : j ≤ length from = simp length-drop (omega arith) in
+      let d : drop (at + j) before ≡ drop (at + j) ws = rw b (drop-paste ws at from j (omega arith) k) in
+      rw (getD-drop (at + width) ws j 0, e)
+      (sym (getD-drop (at + j) before width 0) ∙ ap (λ (t : List ℕ). getD t width 0) d ∙ getD-drop (at + j) ws width 0)
+
+  pub shift-turn :
+      (j : ℕ) (before : List ℕ) → at + width + j < length ws → before ≡ paste ws at (drop (at + width) ws) j →
+      set before (at + j) (getD before (at + width + j) 0) ≡ paste ws at (drop (at + width) ws) (j + 1)
+  shift-turn j before h b =
+      rw (still-there j before h b, b, add-one)
+      (paste-suc ws at (drop (at + width) ws) j 0 (omega arith) (simp length-drop (omega arith)))
+
+  pub blank-turn :
+      (j : ℕ) (before : List ℕ) → j < width → at + j < length ws → before ≡ paste ws at (blankRow width) j →
+      set before (at + j) 0 ≡ paste ws at (blankRow width) (j + 1)
+  blank-turn j before h k b =
+      rw (b, add-one)
+      (ap (set (paste ws at (blankRow width) j) (at + j)) (sym (getD-replicate width j 0 0 h))
+      ∙ paste-suc ws at (blankRow width) j 0 k (omega (arith, length-replicate {A = ℕ} width 0)))
+
+-- the later rows moved, then a blank row behind them
+pub remove-end :
+    (width count : ℕ) (ws : List ℕ) (i : ℕ) (moved : List ℕ) → i < count → count * width ≤ length ws →
+    moved ≡ paste ws (i * width) (drop (i * width + width) ws) ((count - (i + 1)) * width) →
+    paste moved (i * width + (count - (i + 1)) * width) (blankRow width) width ≡ dropRow width count ws i
+unfolding dropRow
+remove-end width count ws i moved h fits m =
+    let r = place-rest width count i h in
+    let at = i * width in
+    let later = (count - (i + 1)) * width in
+    let from = drop (at + width) ws in
+    let k : later ≤ length from = simp length-drop (omega arith) in
+    let a : at ≤ length ws = omega arith in
+    let e : (i + 1) * width ≡ at + width = omega arith in
+    let n : at + later + width ≡ count * width = omega arith in
+    let f : take (at + later) moved ≡ take at ws ++ take later from = rw m (take-paste ws at from later a k) in
+    let b : drop (at + later) moved ≡ drop (at + later) ws = rw m (drop-paste ws at from later a k) in
+    let g = sym (drop-drop width (at + later) moved) ∙ ap (drop width) b ∙ drop-drop width (at + later) ws in
+    rw (f, g, n, e, take-all width (blankRow width) (omega (arith, length-replicate {A = ℕ} width 0)))

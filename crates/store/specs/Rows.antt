@@ -1,0 +1,47 @@
+-- The records of a desk at rest: rows of words, `width` words a row, `count` rows at the front of a list of words.
+use Prim.Native.Nat.{ℕ, zero, suc, _+_, _-_, _*_}
+use mathlib.Core.Bool.{Bool, not}
+use mathlib.Core.List.{List, [], _∷_, _++_}
+use lib.Dec.{leb, ltb, eqb}
+use lib.ListN.{getD, take, drop, replicate}
+use Rattle.lists.specs.Lists.{both}
+use Rattle.lists.specs.Parts.{over}
+use Rattle.lists.specs.declared.words.Words.{Words}
+
+-- a row is live exactly if its state, word 8, is from 1 to top
+unfoldable pub live : ℕ → List ℕ → Bool
+live top row = both (ltb 0 (getD row 8 0)) (leb (getD row 8 0) top)
+
+-- otherwise its place is free
+unfoldable pub free : ℕ → List ℕ → Bool
+free top row = not (live top row)
+
+-- words 0 and 1 are the identifier's, and the row is live
+unfoldable pub hasIdentifier : ℕ → Words → List ℕ → Bool
+hasIdentifier top identifier row =
+    both (eqb (getD row 0 0) (identifier .low)) (both (eqb (getD row 1 0) (identifier .high)) (live top row))
+
+-- the rows at the front of the words
+unfoldable pub rows : ℕ → ℕ → List ℕ → List (List ℕ)
+rows width zero ws = []
+rows width (suc count) ws = take width ws ∷ rows width count (drop width ws)
+
+-- the row at place i
+abbrev pub rowAt : ℕ → List ℕ → ℕ → List ℕ
+rowAt width ws i = take width (drop (i * width) ws)
+
+-- the words with a row at place i
+unfoldable pub putRow : ℕ → List ℕ → ℕ → List ℕ → List ℕ
+putRow width ws i row = take (i * width) ws ++ over row (drop (i * width) ws)
+
+-- all zeros: the row of every place at the start, and of the last one after a removal
+abbrev pub blankRow : ℕ → List ℕ
+blankRow width = replicate width 0
+
+-- row i taken out of count rows: the rows before it, the later ones, a blank row; what stands behind the rows stays
+unfoldable pub dropRow : ℕ → ℕ → List ℕ → ℕ → List ℕ
+dropRow width count ws i =
+    take (i * width) ws
+    ++ take ((count - (i + 1)) * width) (drop ((i + 1) * width) ws)
+    ++ blankRow width
+    ++ drop (count * width) ws
