@@ -1,9 +1,22 @@
 // The replay program: plays a script of entries from standard input in order, and prints a line for each. The first entry
 // that can't be played ends it, with a line that says so.
+mod clerk_entries;
+mod clerk_lines;
 mod codec;
+mod fields;
+mod outcome_line;
 mod output;
 mod script;
 
+use crate::clerk_entries::Played;
+use crate::clerk_entries::play_act;
+use crate::clerk_entries::play_ask;
+use crate::clerk_entries::play_bytes;
+use crate::clerk_entries::play_free;
+use crate::clerk_entries::play_print;
+use crate::clerk_entries::play_start;
+use crate::clerk_entries::play_timer;
+use crate::clerk_entries::stopped;
 use crate::codec::play_write;
 use crate::output::end_line;
 use crate::output::put_number;
@@ -11,16 +24,45 @@ use crate::output::put_text;
 use crate::script::ByteRead;
 use crate::script::Next;
 use crate::script::byte_at;
+use clerk::Desk;
+use clerk::steps::start;
+use clerk_table::inputs::Act;
 use libc::STDIN_FILENO;
 
-// The entry at a place, by its code.
-fn play_entry(script: &[u8], at: usize, number: usize, line: &mut [u8]) -> Next {
+// A write has nothing to do with the desk.
+fn write_entry(script: &[u8], at: usize, number: usize, line: &mut [u8], d: Desk) -> Played {
+    let next = play_write(script, at, number, line);
+    Played { next, desk: d }
+}
+
+// The entry behind its code.
+fn play_code(
+    code: u8,
+    script: &[u8],
+    at: usize,
+    number: usize,
+    line: &mut [u8],
+    d: Desk,
+) -> Played {
+    match code {
+        2 => play_start(at, number, line),
+        16 => play_ask(script, at, number, line, d),
+        17 => play_bytes(script, at, number, line, d),
+        18 => play_act(script, at, number, line, d, Act::Accept),
+        19 => play_free(script, at, number, line, d),
+        20 => play_act(script, at, number, line, d, Act::Cancel),
+        21 => play_timer(script, at, number, line, d),
+        48 => write_entry(script, at, number, line, d),
+        64 => play_print(at, number, line, d),
+        _ => stopped(d),
+    }
+}
+
+// The entry at a place.
+fn play_entry(script: &[u8], at: usize, number: usize, line: &mut [u8], d: Desk) -> Played {
     match byte_at(script, at) {
-        ByteRead::Ended => Next::Stop,
-        ByteRead::Byte(code, behind) => match code {
-            48 => play_write(script, behind, number, line),
-            _ => Next::Stop,
-        },
+        ByteRead::Ended => stopped(d),
+        ByteRead::Byte(code, behind) => play_code(code, script, behind, number, line, d),
     }
 }
 
@@ -35,17 +77,21 @@ fn print_stop(line: &mut [u8], number: usize) {
 fn play(script: &[u8], line: &mut [u8]) {
     let mut at = 0;
     let mut number = 0;
+    let mut d = start();
     while number < script.len() {
         if script.len() <= at {
             return;
         }
-        match play_entry(script, at, number, line) {
+        let played = play_entry(script, at, number, line, d);
+        d = played.desk;
+        let next = played.next;
+        match next {
             Next::Stop => {
                 print_stop(line, number);
                 return;
             }
-            Next::At(next) => {
-                at = next;
+            Next::At(place) => {
+                at = place;
             }
         }
         number += 1;

@@ -77,3 +77,21 @@ pub fn end_line(line: &mut [u8], at: usize) {
     let behind = put_byte(line, at, b'\n');
     io::write_all(STDOUT_FILENO, &line[0..behind]);
 }
+
+fn put_digit(line: &mut [u8], at: usize, digit: u8) -> usize {
+    put_number(line, at, digit as usize)
+}
+
+// Digits as themselves, `-` for none.
+pub fn put_digits(line: &mut [u8], at: usize, digits: &[u8]) -> usize {
+    if digits.len() == 0 {
+        return put_byte(line, at, b'-');
+    }
+    let mut next = at;
+    let mut i = 0;
+    while i < digits.len() {
+        next = put_digit(line, next, digits[i]);
+        i += 1;
+    }
+    next
+}

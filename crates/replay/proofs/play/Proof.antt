@@ -7,10 +7,13 @@ use Rattle.replay.proofs.play.Statement.{statement}
 use Rattle.replay.proofs.play.Tie as tie
 
 abbrev Inv-loop : tie.InvT-loop
-Inv-loop script line₀ at₀ number₀ line at number = length line ≡ length line₀
+Inv-loop script line₀ at₀ number₀ d₀ line at number d = length line ≡ length line₀
 
 abbrev μ-loop : tie.MeasureT-loop
-μ-loop script line₀ at₀ number₀ line at number = length script - number
+μ-loop script line₀ at₀ number₀ d₀ line at number d = length script - number
+
+start-requires : tie.Need-start-requires Inv-loop μ-loop
+start-requires c κs = search needs
 
 loop-holds : tie.Need-loop-holds Inv-loop μ-loop
 loop-holds c = search needs
@@ -60,6 +63,7 @@ play-spec =
     (tie.spec
     Inv-loop
     μ-loop
+    start-requires
     loop-holds
     same-length
     returns

@@ -1,0 +1,154 @@
+// Code 64: the clerk's desk, a line with the number of its records, and then a line for each.
+use crate::outcome_line::flag;
+use crate::outcome_line::put_field;
+use crate::output::end_line;
+use crate::output::put_digits;
+use crate::output::put_hex;
+use crate::output::put_number;
+use crate::output::put_space;
+use crate::output::put_text;
+use crate::script::run;
+use clerk::Desk;
+use clerk_records::places::load;
+use clerk_table::record::Record;
+use clerk_table::table::State;
+use desk::Connection;
+use desk::Keep;
+use lists::words::Words;
+use lists::words::bytes_of;
+use message::Kind;
+
+// 0 for a place that is free.
+fn state_number(state: State) -> usize {
+    match state {
+        State::Free => 0,
+        State::WaitAck => 1,
+        State::Invoked => 2,
+        State::WaitAnswer => 3,
+        State::Ringout => 4,
+        State::Suspended => 5,
+    }
+}
+
+fn kind_number(kind: Kind) -> usize {
+    match kind {
+        Kind::Ccbs => 1,
+        Kind::Ccnr => 2,
+    }
+}
+
+fn put_keep(line: &mut [u8], at: usize, keep: Keep) -> usize {
+    match keep {
+        Keep::Empty => put_text(line, at, b" -"),
+        Keep::Ends => put_text(line, at, b" 0"),
+        Keep::Keeps => put_text(line, at, b" 1"),
+    }
+}
+
+fn put_connection(line: &mut [u8], at: usize, connection: Connection) -> usize {
+    match connection {
+        Connection::Empty => put_text(line, at, b" -"),
+        Connection::Ret => put_text(line, at, b" 1"),
+        Connection::Rls => put_text(line, at, b" 2"),
+    }
+}
+
+// The place behind the last digit of a number of digits that says its length.
+fn digits_end(length: u8) -> usize {
+    if length < 16 {
+        return 1 + length as usize;
+    }
+    16
+}
+
+// The digits of a number of digits.
+fn put_number_digits(line: &mut [u8], at: usize, number: &[u8], length: u8) -> usize {
+    let next = put_space(line, at);
+    put_digits(line, next, run(number, 1, digits_end(length)))
+}
+
+fn put_words_digits(line: &mut [u8], at: usize, words: Words) -> usize {
+    let number = bytes_of(words);
+    let length = number[0];
+    put_number_digits(line, at, &number, length)
+}
+
+fn put_identifier(line: &mut [u8], at: usize, words: Words) -> usize {
+    let identifier = bytes_of(words);
+    put_hex(line, at, &identifier)
+}
+
+// What steps change in a record.
+fn put_phase(line: &mut [u8], at: usize, r: Record) -> usize {
+    let keep = r.keep;
+    let connection = r.connection;
+    let state = r.state;
+    let mut next = put_field(line, at, flag(r.canKeep));
+    next = put_keep(line, next, keep);
+    next = put_connection(line, next, connection);
+    put_field(line, next, state_number(state))
+}
+
+fn print_record(line: &mut [u8], r: Record) {
+    let identifier = r.identifier;
+    let kind = r.kind;
+    let numberA = r.numberA;
+    let numberB = r.numberB;
+    let mut at = put_text(line, 0, b"c ");
+    at = put_identifier(line, at, identifier);
+    at = put_field(line, at, kind_number(kind));
+    at = put_words_digits(line, at, numberA);
+    at = put_words_digits(line, at, numberB);
+    at = put_field(line, at, r.service as usize);
+    at = put_phase(line, at, r);
+    end_line(line, at);
+}
+
+// Whether a place has a record.
+fn used(r: Record) -> bool {
+    let state = r.state;
+    0 < state_number(state)
+}
+
+fn print_place(line: &mut [u8], r: Record) {
+    if used(r) {
+        print_record(line, r);
+    }
+}
+
+// A count with a place added, if the place is used. A desk has sixteen places.
+fn counted(count: usize, r: Record) -> usize {
+    if used(r) {
+        if count < 16 {
+            return count + 1;
+        }
+    }
+    count
+}
+
+fn count_records(words: &[u64; 192]) -> usize {
+    let mut count = 0;
+    let mut i = 0;
+    while i < 16 {
+        count = counted(count, load(words, i));
+        i += 1;
+    }
+    count
+}
+
+fn print_records(line: &mut [u8], words: &[u64; 192]) {
+    let mut i = 0;
+    while i < 16 {
+        print_place(line, load(words, i));
+        i += 1;
+    }
+}
+
+pub fn print_clerk(line: &mut [u8], number: usize, d: Desk) {
+    let words = d.words;
+    let mut at = put_number(line, 0, number);
+    at = put_text(line, at, b" c");
+    at = put_field(line, at, count_records(&words));
+    end_line(line, at);
+    print_records(line, &words);
+}

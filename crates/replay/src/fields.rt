@@ -1,0 +1,89 @@
+// The fields of an entry. Where the entry's end was found in the script, each function has the field that stands at a place;
+// past the script's end every byte is 0, so that none has a `requires`.
+use crate::script::Next;
+ghost use Prim.Native.Nat.{_<_};
+
+// The place so many bytes on, or that the script ends before it.
+pub fn behind(script: &[u8], at: usize, count: usize) -> Next {
+    if script.len() < at {
+        return Next::Stop;
+    }
+    if count <= script.len() - at {
+        return Next::At(at + count);
+    }
+    Next::Stop
+}
+
+// The byte so many places behind a place.
+pub fn byte_in(script: &[u8], at: usize, offset: usize) -> u8 {
+    if script.len() <= at {
+        return 0;
+    }
+    if offset < script.len() - at {
+        return script[at + offset];
+    }
+    0
+}
+
+// An identifier.
+pub fn identifier_at(script: &[u8], at: usize) -> [u8; 16] {
+    [
+        byte_in(script, at, 0),
+        byte_in(script, at, 1),
+        byte_in(script, at, 2),
+        byte_in(script, at, 3),
+        byte_in(script, at, 4),
+        byte_in(script, at, 5),
+        byte_in(script, at, 6),
+        byte_in(script, at, 7),
+        byte_in(script, at, 8),
+        byte_in(script, at, 9),
+        byte_in(script, at, 10),
+        byte_in(script, at, 11),
+        byte_in(script, at, 12),
+        byte_in(script, at, 13),
+        byte_in(script, at, 14),
+        byte_in(script, at, 15),
+    ]
+}
+
+// A byte of a number of digits: 0 behind its last digit. The byte at 0 is its length.
+fn digit_in(script: &[u8], at: usize, offset: u8) -> u8 {
+    if offset <= byte_in(script, at, 0) {
+        return byte_in(script, at, offset as usize);
+    }
+    0
+}
+
+// A number of digits: its length, in range or not, and at most fifteen digits.
+pub fn digits_at(script: &[u8], at: usize) -> [u8; 16] {
+    [
+        digit_in(script, at, 0),
+        digit_in(script, at, 1),
+        digit_in(script, at, 2),
+        digit_in(script, at, 3),
+        digit_in(script, at, 4),
+        digit_in(script, at, 5),
+        digit_in(script, at, 6),
+        digit_in(script, at, 7),
+        digit_in(script, at, 8),
+        digit_in(script, at, 9),
+        digit_in(script, at, 10),
+        digit_in(script, at, 11),
+        digit_in(script, at, 12),
+        digit_in(script, at, 13),
+        digit_in(script, at, 14),
+        digit_in(script, at, 15),
+    ]
+}
+
+fn wide(byte: u8) -> u16
+    ensures { λ r. ⌜ r < 256 ⌝ }
+{
+    byte as u16
+}
+
+// A number of two bytes, the low one first.
+pub fn pair_at(script: &[u8], at: usize) -> u16 {
+    wide(byte_in(script, at, 0)) + 256 * wide(byte_in(script, at, 1))
+}

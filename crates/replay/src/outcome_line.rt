@@ -1,0 +1,116 @@
+// The line of a step: `N refusal message starts stops notice clear left`.
+use crate::output::end_line;
+use crate::output::put_hex;
+use crate::output::put_number;
+use crate::output::put_space;
+use crate::output::put_text;
+use crate::script::run;
+use desk::letter::message_of;
+use desk::outcome::Notice;
+use desk::outcome::Outcome;
+use desk::outcome::Sending;
+use desk::outcome::Timers;
+use message::Message;
+use writer::Written;
+
+// A number behind a space.
+pub fn put_field(line: &mut [u8], at: usize, number: usize) -> usize {
+    let next = put_space(line, at);
+    put_number(line, next, number)
+}
+
+// A choice as a number.
+pub fn flag(choice: bool) -> usize {
+    if choice {
+        return 1;
+    }
+    0
+}
+
+// What is sent, in the byte form. No message is longer than 53 bytes. A desk sends nothing that the writer refuses: if it
+// did, the line would say so.
+fn put_message(line: &mut [u8], at: usize, m: Message) -> usize {
+    let mut bytes = [0u8; 64];
+    match writer::write(&mut bytes, 0, m) {
+        Written::Refused(_) => put_text(line, at, b"unwritten"),
+        Written::Wrote(length) => put_hex(line, at, run(&bytes, 0, length)),
+    }
+}
+
+fn put_sending(line: &mut [u8], at: usize, sending: Sending) -> usize {
+    let next = put_space(line, at);
+    match sending {
+        Sending::Nothing => put_text(line, next, b"-"),
+        Sending::Send(letter) => put_message(line, next, message_of(letter)),
+    }
+}
+
+// A bit of a sum.
+fn bit(choice: bool, value: usize) -> usize {
+    if choice {
+        return value;
+    }
+    0
+}
+
+// A sum that stays below 16, as every sum of the four bits does.
+fn plus(a: usize, b: usize) -> usize {
+    if a < 16 {
+        if b < 16 {
+            return a + b;
+        }
+    }
+    0
+}
+
+fn timer_sum(timers: Timers) -> usize {
+    let low = plus(bit(timers.t1, 1), bit(timers.t2, 2));
+    plus(low, plus(bit(timers.t3, 4), bit(timers.guard, 8)))
+}
+
+fn notice_number(notice: Notice) -> usize {
+    match notice {
+        Notice::Silent => 0,
+        Notice::Accepted => 1,
+        Notice::DeniedShort => 2,
+        Notice::DeniedLong => 3,
+        Notice::Recall => 4,
+        Notice::Completed => 5,
+        Notice::Failed => 6,
+        Notice::BusyAgainKept => 7,
+        Notice::BusyAgainEnded => 8,
+        Notice::Cancelled => 9,
+    }
+}
+
+// The two sums of timers.
+fn put_timers(line: &mut [u8], at: usize, starts: Timers, stops: Timers) -> usize {
+    let next = put_field(line, at, timer_sum(starts));
+    put_field(line, next, timer_sum(stops))
+}
+
+fn put_told(line: &mut [u8], at: usize, notice: Notice, clear: bool) -> usize {
+    let next = put_field(line, at, notice_number(notice));
+    put_field(line, next, flag(clear))
+}
+
+pub fn print_outcome(line: &mut [u8], number: usize, outcome: Outcome, left: usize) {
+    let sending = outcome.sending;
+    let starts = outcome.starts;
+    let stops = outcome.stops;
+    let notice = outcome.notice;
+    let mut at = put_number(line, 0, number);
+    at = put_field(line, at, outcome.refusal as usize);
+    at = put_sending(line, at, sending);
+    at = put_timers(line, at, starts, stops);
+    at = put_told(line, at, notice, outcome.clear);
+    at = put_field(line, at, left);
+    end_line(line, at);
+}
+
+// The line of a step that only starts a desk.
+pub fn print_started(line: &mut [u8], number: usize) {
+    let mut at = put_number(line, 0, number);
+    at = put_text(line, at, b" 0 - 0 0 0 0 0");
+    end_line(line, at);
+}
