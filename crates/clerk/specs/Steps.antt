@@ -1,6 +1,6 @@
 -- The operations of the clerk's desk, each on every desk: the desk afterwards and the outcome.
-use Prim.Native.Nat.{ℕ, _+_, _*_, _<_}
-use mathlib.Core.Bool.{Bool, true, false}
+use Prim.Native.Nat.{ℕ, _+_, _*_}
+use mathlib.Core.Bool.{Bool}
 use mathlib.Core.List.{List}
 use lib.ListN.{replicate}
 use lib.Dec.{ltb}
@@ -18,7 +18,7 @@ use Rattle.clerk_table.specs.declared.table.Timer.{Timer}
 use Rattle.clerk_table.specs.declared.record.Plan.{Plan}
 use Rattle.clerk_table.specs.declared.inputs.Act.{Act}
 use Rattle.clerk_records.specs.Records.{records, applied}
-use Rattle.clerk.specs.Plan.{messagePlan, actPlan, timerPlan, askPlan}
+use Rattle.clerk_plan.specs.Plan.{messagePlan, actPlan, timerPlan, askPlan}
 use Rattle.clerk.specs.declared.Desk.{Desk}
 use Rattle.clerk.specs.declared.steps.Stepped.{Stepped}
 use Rattle.clerk.specs.declared.steps.SteppedBytes.{SteppedBytes}

@@ -1,9 +1,9 @@
 // The operations of the clerk's desk, each total on every desk: the desk goes in by value and comes back with the outcome.
 use crate::Desk;
-use crate::plan::plan_act;
-use crate::plan::plan_ask;
-use crate::plan::plan_message;
-use crate::plan::plan_timer;
+use clerk_plan::plan_act;
+use clerk_plan::plan_ask;
+use clerk_plan::plan_message;
+use clerk_plan::plan_timer;
 use clerk_records::places::apply;
 use clerk_table::inputs::Act;
 use clerk_table::record::Plan;

@@ -1,9 +1,9 @@
 -- The words of a desk and its list of records are one thing: each search, each store and each delete in words is the same in records.
-use Prim.Native.Nat.{ℕ, zero, suc, _+_, _*_, _≤_, _<_}
+use Prim.Native.Nat.{ℕ, zero, suc, _*_, _≤_, _<_}
 use mathlib.Core.Path.{_≡_, refl, sym, _∙_, ap}
 use mathlib.Core.Bool.{Bool, true, false, not}
 use mathlib.Core.List.{List, [], _∷_, map}
-use lib.ListN.{length, getD, take, drop, set, replicate, length-map, List·getD-map}
+use lib.ListN.{length, getD, take, drop, set, length-map, List·getD-map}
 use lib.Seq.{getD-take}
 use lib.Dec.{ltb, leb, eqb}
 use native.Mathlib.Omega.{arith}
@@ -11,24 +11,17 @@ use borrow.Author.Tests.{eqb-true, eqb-false, ltb-true, lt-leb}
 use Rattle.lists.specs.Choice.{pick}
 use Rattle.lists.specs.Lists.{both, first, without}
 use Rattle.lists.specs.Words.{sameWords}
-use Rattle.lists.specs.declared.Found.{Found}
-use Rattle.lists.specs.declared.Found.the-variants.{At, Nothing}
 use Rattle.lists.specs.declared.words.Words.{Words}
 use Rattle.lists.proofs.Choice.{pick-elim}
-use Rattle.lists.proofs.Lists.{first-below}
-use Rattle.store.specs.Rows.{live, free, hasIdentifier, rows, rowAt, putRow, dropRow, blankRow}
-use Rattle.store.proofs.RowsLaws.{rows-length, rows-at, rows-put, rows-drop, first-map, first-same, map-set, map-without}
-use Rattle.message.specs.declared.Kind.{Kind}
-use Rattle.message.specs.declared.Kind.the-variants.{Ccbs, Ccnr}
-use Rattle.desk.specs.declared.Connection.{Connection}
-use Rattle.desk.specs.declared.Connection.the-variants as Connection
-use Rattle.desk.specs.declared.Keep.{Keep}
-use Rattle.desk.specs.declared.Keep.the-variants as Keep
+use Rattle.lists.proofs.Lists.{first-map, first-same, map-set, map-without}
+use Rattle.store.specs.Rows.{live, free, hasIdentifier, rows, putRow, dropRow, blankRow}
+use Rattle.store.proofs.RowsLaws.{rows-length, rows-at, rows-put, rows-drop}
+use Rattle.desk.proofs.CodesLaws.{kind-back, keep-back, connection-back, flag-back}
 use Rattle.clerk_table.specs.declared.table.State.{State}
 use Rattle.clerk_table.specs.declared.table.State.the-variants.{Free, WaitAck, Invoked, WaitAnswer, Ringout, Suspended}
 use Rattle.clerk_table.specs.declared.record.Record.{Record}
-use Rattle.clerk_records.specs.Codes.{stateOf, stateCode, kindOf, kindCode, keepOf, keepCode, connectionOf, connectionCode, flagCode}
-use Rattle.clerk_records.specs.Records.{recordOf, wordsOf, blank, records, inUse, used, unused, identified, meant, place}
+use Rattle.clerk_records.specs.Codes.{stateOf, stateCode}
+use Rattle.clerk_records.specs.Records.{recordOf, recordWords, blank, records, inUse, used, unused, identified, meant, place}
 
 -- ---- codes: what is stored is read back
 state-back : (s : State) → stateOf (stateCode s) ≡ s
@@ -40,28 +33,7 @@ state-back WaitAnswer = refl
 state-back Ringout = refl
 state-back Suspended = refl
 
-kind-back : (k : Kind) → kindOf (kindCode k) ≡ k
-unfolding kindOf
-kind-back Ccbs = refl
-kind-back Ccnr = refl
-
-keep-back : (k : Keep) → keepOf (keepCode k) ≡ k
-unfolding keepOf
-keep-back Keep.Empty = refl
-keep-back Keep.Ends = refl
-keep-back Keep.Keeps = refl
-
-connection-back : (k : Connection) → connectionOf (connectionCode k) ≡ k
-unfolding connectionOf
-connection-back Connection.Empty = refl
-connection-back Connection.Ret = refl
-connection-back Connection.Rls = refl
-
-flag-back : (b : Bool) → eqb (flagCode b) 1 ≡ b
-flag-back true = refl
-flag-back false = refl
-
-pub record-back : (r : Record) → recordOf (wordsOf r) ≡ r
+pub record-back : (r : Record) → recordOf (recordWords r) ≡ r
 unfolding recordOf
 record-back r = rw (state-back (r .state), kind-back (r .kind), keep-back (r .keep), connection-back (r .connection), flag-back (r .canKeep))
 
@@ -149,11 +121,11 @@ record-past words i h = getD-past (records words) i blank (omega (arith, records
     getD-past (x ∷ xs) (suc i) d h = getD-past xs i d (omega (arith, h))
 
 -- ---- changes
-pub records-put : (words : List ℕ) (i : ℕ) (r : Record) → i < 16 → length words ≡ 192 → records (putRow 12 words i (wordsOf r)) ≡ set (records words) i r
+pub records-put : (words : List ℕ) (i : ℕ) (r : Record) → i < 16 → length words ≡ 192 → records (putRow 12 words i (recordWords r)) ≡ set (records words) i r
 unfolding records
 records-put words i r h l =
-    ap (map recordOf) (rows-put 12 16 words i (wordsOf r) refl h (omega arith))
-    ∙ map-set recordOf (rows 12 16 words) i (wordsOf r)
+    ap (map recordOf) (rows-put 12 16 words i (recordWords r) refl h (omega arith))
+    ∙ map-set recordOf (rows 12 16 words) i (recordWords r)
     ∙ ap (λ (x : Record). set (map recordOf (rows 12 16 words)) i x) (record-back r)
 
 blank-row : recordOf (blankRow 12) ≡ blank

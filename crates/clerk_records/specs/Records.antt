@@ -10,12 +10,13 @@ use Rattle.lists.specs.Words.{sameWords}
 use Rattle.lists.specs.declared.Found.{Found}
 use Rattle.lists.specs.declared.words.Words.{Words}
 use Rattle.store.specs.Rows.{rows, putRow, dropRow}
+use Rattle.desk.specs.Codes.{kindOf, kindCode, keepOf, keepCode, connectionOf, connectionCode, flagCode}
 use Rattle.clerk_table.specs.declared.table.State.{State}
 use Rattle.clerk_table.specs.declared.table.State.the-variants.{Free, WaitAck, Invoked, WaitAnswer, Ringout, Suspended}
 use Rattle.clerk_table.specs.declared.record.Record.{Record}
 use Rattle.clerk_table.specs.declared.record.Change.{Change}
 use Rattle.clerk_table.specs.declared.record.Change.the-variants.{Stay, Put, Remove}
-use Rattle.clerk_records.specs.Codes.{stateOf, stateCode, kindOf, kindCode, keepOf, keepCode, connectionOf, connectionCode, flagCode}
+use Rattle.clerk_records.specs.Codes.{stateOf, stateCode}
 
 -- a row of words as a record
 unfoldable pub recordOf : List ℕ → Record
@@ -33,8 +34,8 @@ recordOf row =
     }
 
 -- a record as a row of words
-abbrev pub wordsOf : Record → List ℕ
-wordsOf r =
+abbrev pub recordWords : Record → List ℕ
+recordWords r =
     r .identifier .low ∷ r .identifier .high ∷ r .numberA .low ∷ r .numberA .high ∷ r .numberB .low ∷ r .numberB .high ∷
     r .service ∷ kindCode (r .kind) ∷ stateCode (r .state) ∷ keepCode (r .keep) ∷ connectionCode (r .connection) ∷ flagCode (r .canKeep) ∷ []
 
@@ -75,5 +76,5 @@ place rs = first unused rs
 -- the words after a planned change; a place that is not there changes nothing
 unfoldable pub applied : List ℕ → Change → List ℕ
 applied words Stay = words
-applied words (Put i r) = pick (ltb i 16) (putRow 12 words i (wordsOf r)) words
+applied words (Put i r) = pick (ltb i 16) (putRow 12 words i (recordWords r)) words
 applied words (Remove i) = pick (ltb i 16) (dropRow 12 16 words i) words

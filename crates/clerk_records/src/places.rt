@@ -1,15 +1,15 @@
 // The places of a clerk's desk: a record is found, loaded, put and removed, in words that the caller lends.
-use crate::codes::connection_code;
-use crate::codes::connection_of;
-use crate::codes::flag_code;
-use crate::codes::keep_code;
-use crate::codes::keep_of;
-use crate::codes::kind_code;
-use crate::codes::kind_of;
 use crate::codes::state_code;
 use crate::codes::state_of;
 use clerk_table::record::Change;
 use clerk_table::record::Record;
+use desk::codes::connection_code;
+use desk::codes::connection_of;
+use desk::codes::flag_code;
+use desk::codes::keep_code;
+use desk::codes::keep_of;
+use desk::codes::kind_code;
+use desk::codes::kind_of;
 use lists::Found;
 use lists::words::Words;
 ghost use mathlib.Core.Path.{_≡_};
@@ -17,7 +17,7 @@ ghost use Prim.Native.Nat.{_≤_, _<_};
 ghost use lib.ListN.{length, getD};
 ghost use Rattle.lists.specs.Parts.{over};
 ghost use Rattle.store.specs.Rows.{putRow};
-ghost use Rattle.clerk_records.specs.Records.{recordOf, wordsOf, blank, records, meant, place, applied};
+ghost use Rattle.clerk_records.specs.Records.{recordOf, recordWords, blank, records, meant, place, applied};
 
 // The record of a row.
 fn record_of(row: &[u64]) -> Record
@@ -56,7 +56,7 @@ fn record_of(row: &[u64]) -> Record
 // A record over the front of some words.
 fn put_words(row: &mut [u64], r: Record)
     requires { ⌜ 12 ≤ length (now row) ⌝ }
-    ensures { λ q. ⌜ now (row .exit) ≡ over (wordsOf r) (now (row .entry)) ⌝ }
+    ensures { λ q. ⌜ now (row .exit) ≡ over (recordWords r) (now (row .entry)) ⌝ }
 {
     let identifier = r.identifier;
     let numberA = r.numberA;
@@ -119,7 +119,7 @@ pub fn load(words: &[u64; 192], i: usize) -> Record
 
 fn put_in(words: &mut [u64], i: usize, r: Record)
     requires { ⌜ (i < 16) × (192 ≤ length (now words)) ⌝ }
-    ensures { λ q. ⌜ now (words .exit) ≡ putRow 12 (now (words .entry)) i (wordsOf r) ⌝ }
+    ensures { λ q. ⌜ now (words .exit) ≡ putRow 12 (now (words .entry)) i (recordWords r) ⌝ }
 {
     let at = i * 12;
     put_words(&mut words[at..], r);

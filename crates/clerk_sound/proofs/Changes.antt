@@ -18,7 +18,7 @@ use Rattle.store.proofs.RowsLaws.{put-length, drop-length}
 use Rattle.clerk_table.specs.declared.record.Record.{Record}
 use Rattle.clerk_table.specs.declared.record.Change.{Change}
 use Rattle.clerk_table.specs.declared.record.Change.the-variants.{Stay, Put, Remove}
-use Rattle.clerk_records.specs.Records.{wordsOf, blank, records, used, unused, identified, meant, place, applied}
+use Rattle.clerk_records.specs.Records.{recordWords, blank, records, used, unused, identified, meant, place, applied}
 use Rattle.clerk_records.proofs.RecordsLaws.{records-put, records-drop}
 use Rattle.clerk_sound.specs.Sound.{Whole, Sound}
 use Rattle.clerk_sound.proofs.Start.{blank-unused}
@@ -227,7 +227,7 @@ unfolding applied
 applied-length words l Stay = l
 applied-length words l (Put i r) =
     pick-elim (λ (ws : List ℕ). length ws ≡ 192) (ltb i 16)
-    (λ t. put-length 12 16 words i (wordsOf r) refl (ltb-true i 16 t) (omega arith) ∙ l)
+    (λ t. put-length 12 16 words i (recordWords r) refl (ltb-true i 16 t) (omega arith) ∙ l)
     (λ f. l)
 applied-length words l (Remove i) =
     pick-elim (λ (ws : List ℕ). length ws ≡ 192) (ltb i 16)

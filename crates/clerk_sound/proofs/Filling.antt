@@ -18,7 +18,7 @@ use Rattle.clerk_table.specs.Record.{refusedPlan}
 use Rattle.clerk_table.specs.declared.record.Record.{Record}
 use Rattle.clerk_records.specs.Records.{blank, records, used, unused, meant, place, applied}
 use Rattle.clerk_records.proofs.RecordsLaws.{records-length, records-put}
-use Rattle.clerk.specs.Plan.{newRecord, storedPlan, askPlan}
+use Rattle.clerk_plan.specs.Plan.{newRecord, storedPlan, askPlan}
 use Rattle.clerk.specs.Steps.{startedDesk, stepped, askMessage, asked}
 use Rattle.clerk.specs.declared.Desk.{Desk}
 use Rattle.clerk.specs.declared.steps.Asking.{Asking}

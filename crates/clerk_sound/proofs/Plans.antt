@@ -26,7 +26,7 @@ use Rattle.desk.specs.declared.letter.Letter.{Letter}
 use Rattle.clerk_table.specs.Table.{holdsIn}
 use Rattle.clerk_table.specs.Record.{withState}
 use Rattle.clerk_table.specs.Step.{taken}
-use Rattle.clerk_table.specs.Inputs.{forClerk, rowOf, rowOfAct, rowOfTimer, errorRow, possibleRow, busyAgainRow, ringoutErrorRow, keepChosen, connectionOf, settledBy}
+use Rattle.clerk_table.specs.Inputs.{forClerk, rowOf, rowOfAct, rowOfTimer, errorRow, possibleRow, busyAgainRow, ringoutErrorRow, keepChosen, connectionMeant, settledBy}
 use Rattle.clerk_table.specs.declared.table.State.{State}
 use Rattle.clerk_table.specs.declared.table.State.the-variants.{Free, WaitAck, Invoked, WaitAnswer, Ringout, Suspended}
 use Rattle.clerk_table.specs.declared.table.Home.the-variants.{InInvoked, InWaitAnswer, InRingout, InSuspended}
@@ -42,7 +42,7 @@ use Rattle.clerk_table.specs.declared.inputs.Act.the-variants.{Accept, Resume, 
 use Rattle.clerk_table.specs.declared.inputs.Meant.{Meant}
 use Rattle.clerk_table.specs.declared.inputs.Meant.the-variants as Meant
 use Rattle.clerk_records.specs.Records.{blank, inUse, used, identified, meant, place}
-use Rattle.clerk.specs.Plan.{holdsFor, meantBy, foundPlan, messagePlan, ownFound, ownPlan, newRecord, askPlace, askFound, askPlan}
+use Rattle.clerk_plan.specs.Plan.{holdsFor, meantBy, foundPlan, messagePlan, ownFound, ownPlan, newRecord, askPlace, askFound, askPlan}
 use Rattle.clerk_sound.specs.Sound.{Whole, Sound}
 use Rattle.clerk_sound.proofs.Changes.{Fair, stays, turns, stores, removes}
 
@@ -90,7 +90,7 @@ retained e = let z : _≡_ {A = ℕ} 0 1 = cc in omega arith
 released : Connection.Rls ≡ Connection.Empty → ⊥
 released e = let z : _≡_ {A = ℕ} 0 1 = cc in omega arith
 
-connection-chosen : (carrier : Carrier) → connectionOf carrier ≡ Connection.Empty → ⊥
+connection-chosen : (carrier : Carrier) → connectionMeant carrier ≡ Connection.Empty → ⊥
 connection-chosen Setup = released
 connection-chosen Connect = retained
 connection-chosen Facility = released

@@ -14,7 +14,7 @@ use Rattle.message.specs.declared.Kind.the-variants.{Ccbs, Ccnr}
 use Rattle.message.proofs.RangeLaws.{digits-few, digits-length, request-ranged, RequestRanged}
 use Rattle.message.proofs.NumberBack.{digits-back}
 use Rattle.desk.specs.Letter.{numberWords, letterOf}
-use Rattle.clerk.specs.Plan.{newRecord}
+use Rattle.clerk_plan.specs.Plan.{newRecord}
 use Rattle.clerk.specs.Steps.{askFlags, askMessage}
 use Rattle.clerk.specs.declared.steps.Asking.{Asking}
 use Rattle.clerk_sound.specs.Sound.{Whole, Typed}

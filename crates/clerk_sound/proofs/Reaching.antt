@@ -18,7 +18,7 @@ use Rattle.clerk_table.specs.declared.record.Change.the-variants.{Stay}
 use Rattle.clerk_table.specs.declared.record.Plan.{Plan}
 use Rattle.clerk_table.specs.declared.inputs.Act.{Act}
 use Rattle.clerk_records.specs.Records.{records, applied}
-use Rattle.clerk.specs.Plan.{messagePlan, actPlan, timerPlan, askPlan}
+use Rattle.clerk_plan.specs.Plan.{messagePlan, actPlan, timerPlan, askPlan}
 use Rattle.clerk.specs.Steps.{stepped, askMessage, asked, received, acted, reported, readStep, receivedBytes}
 use Rattle.clerk.specs.declared.Desk.{Desk}
 use Rattle.clerk.specs.declared.steps.Asking.{Asking}

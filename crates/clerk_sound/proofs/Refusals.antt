@@ -30,7 +30,7 @@ use Rattle.clerk_table.specs.declared.inputs.Act.{Act}
 use Rattle.clerk_table.specs.declared.inputs.Meant.{Meant}
 use Rattle.clerk_table.specs.declared.inputs.Meant.the-variants as Meant
 use Rattle.clerk_records.specs.Records.{blank, records, meant, place, applied}
-use Rattle.clerk.specs.Plan.{holdsFor, meantBy, foundPlan, messagePlan, ownFound, ownPlan, actPlan, timerPlan, askPlace, askFound, askPlan}
+use Rattle.clerk_plan.specs.Plan.{holdsFor, meantBy, foundPlan, messagePlan, ownFound, ownPlan, actPlan, timerPlan, askPlace, askFound, askPlan}
 use Rattle.clerk.specs.Steps.{stepped, askMessage, asked, received, acted, reported, readStep, receivedBytes}
 use Rattle.clerk.specs.declared.Desk.{Desk}
 use Rattle.clerk.specs.declared.steps.Asking.{Asking}

@@ -25,7 +25,7 @@ use Rattle.clerk_table.specs.declared.table.Timer.{Timer}
 use Rattle.clerk_table.specs.declared.record.Record.{Record}
 use Rattle.clerk_table.specs.declared.inputs.Act.{Act}
 use Rattle.clerk_records.specs.Records.{blank, records, used, meant, place}
-use Rattle.clerk.specs.Plan.{newRecord, storedPlan, askPlan}
+use Rattle.clerk_plan.specs.Plan.{newRecord, storedPlan, askPlan}
 use Rattle.clerk.specs.Steps.{startedDesk, askMessage, asked, received, acted, reported, receivedBytes}
 use Rattle.clerk.specs.declared.Desk.{Desk}
 use Rattle.clerk.specs.declared.steps.Asking.{Asking}

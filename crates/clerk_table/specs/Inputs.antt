@@ -7,6 +7,7 @@ use Rattle.message.specs.declared.Carrier.{Carrier}
 use Rattle.message.specs.declared.Carrier.the-variants.{Setup, Connect, Facility, ReleaseComplete, Alerting}
 use Rattle.message.specs.declared.Body.{Body}
 use Rattle.message.specs.declared.Body.the-variants.{CcbsRequest, CcnrRequest, RequestResult, RequestError, CcExecPossible, CcRingout, RingoutError, CcSuspend, CcResume, CcCancel, CallAlerts, CallFailed}
+use Rattle.desk.specs.Sends.{replied}
 use Rattle.desk.specs.declared.Connection.{Connection}
 use Rattle.desk.specs.declared.Connection.the-variants.{Ret, Rls}
 use Rattle.desk.specs.declared.Keep.{Keep}
@@ -15,7 +16,6 @@ use Rattle.desk.specs.declared.letter.Letter.{Letter}
 use Rattle.desk.specs.declared.outcome.Sending.{Sending}
 use Rattle.desk.specs.declared.outcome.Sending.the-variants as Sending
 use Rattle.clerk_table.specs.Record.{withChoices}
-use Rattle.clerk_table.specs.Step.{noNumber}
 use Rattle.clerk_table.specs.declared.table.Row.{Row}
 use Rattle.clerk_table.specs.declared.table.Row.the-variants.{Accepted, DeniedShort, DeniedLong, Recalls, Suspends, RingsOut, Resumes, GoesOn, Completes, CallFails, BusyAgainKept, BusyAgainEnded, NotMatched, LineCancels, UserCancels, T1RunsOut, T2RunsOut, T3RunsOut}
 use Rattle.clerk_table.specs.declared.table.Timer.{Timer}
@@ -86,7 +86,7 @@ rowOfTimer T3 = T3RunsOut
 
 -- ---- replies: ccCancel in Release Complete, with the refused message's identifier
 abbrev pub cancelReply : Letter → Sending
-cancelReply l = Sending.Send (record { carrier = ReleaseComplete; identifier = l .identifier; numberA = noNumber; numberB = noNumber; body = CcCancel })
+cancelReply l = replied (l .identifier) CcCancel
 
 -- on 6, to a result or ccExecPossible
 abbrev pub unmatchedBy : Body → Sending → Sending
@@ -139,17 +139,17 @@ abbrev pub keepChosen : Bool → ℕ → Keep
 keepChosen canKeep keep = pick canKeep (pick (eqb keep 1) Keeps Ends) Ends
 
 -- Connect means RET, Release Complete means RLS; no other carrier is allowed for a result
-abbrev pub connectionOf : Carrier → Connection
-connectionOf Setup = Rls
-connectionOf Connect = Ret
-connectionOf Facility = Rls
-connectionOf ReleaseComplete = Rls
-connectionOf Alerting = Rls
+abbrev pub connectionMeant : Carrier → Connection
+connectionMeant Setup = Rls
+connectionMeant Connect = Ret
+connectionMeant Facility = Rls
+connectionMeant ReleaseComplete = Rls
+connectionMeant Alerting = Rls
 
 abbrev pub settledBy : Body → Record → Carrier → Record
 settledBy (CcbsRequest service flags) r carrier = r
 settledBy (CcnrRequest service flags) r carrier = r
-settledBy (RequestResult keep) r carrier = withChoices r (keepChosen (r .canKeep) keep) (connectionOf carrier)
+settledBy (RequestResult keep) r carrier = withChoices r (keepChosen (r .canKeep) keep) (connectionMeant carrier)
 settledBy (RequestError error) r carrier = r
 settledBy CcExecPossible r carrier = r
 settledBy CcRingout r carrier = r

@@ -2,11 +2,8 @@
 use Prim.Native.Nat.{ℕ}
 use mathlib.Core.Bool.{Bool, true, false}
 use Rattle.lists.specs.Choice.{pick}
-use Rattle.lists.specs.declared.words.Words.{Words}
-use Rattle.desk.specs.Carriers.{sentIn}
 use Rattle.desk.specs.Outcome.{noTimers}
-use Rattle.desk.specs.declared.outcome.Sending.{Sending}
-use Rattle.desk.specs.declared.outcome.Sending.the-variants as Sending
+use Rattle.desk.specs.Sends.{sent}
 use Rattle.desk.specs.declared.outcome.Timers.{Timers}
 use Rattle.clerk_table.specs.Table.{effectOf}
 use Rattle.clerk_table.specs.Record.{withState}
@@ -15,8 +12,6 @@ use Rattle.clerk_table.specs.declared.table.State.the-variants.{Free, Wa
 use Rattle.clerk_table.specs.declared.table.Row.{Row}
 use Rattle.clerk_table.specs.declared.table.Next.{Next}
 use Rattle.clerk_table.specs.declared.table.Next.the-variants.{Gone, To}
-use Rattle.clerk_table.specs.declared.table.Sends.{Sends}
-use Rattle.clerk_table.specs.declared.table.Sends.the-variants as Sent
 use Rattle.clerk_table.specs.declared.table.Timer.{Timer}
 use Rattle.clerk_table.specs.declared.table.Timer.the-variants.{T1, T2, T3}
 use Rattle.clerk_table.specs.declared.table.Starts.{Starts}
@@ -25,7 +20,7 @@ use Rattle.clerk_table.specs.declared.table.Stops.{Stops}
 use Rattle.clerk_table.specs.declared.table.Stops.the-variants as Stopping
 use Rattle.clerk_table.specs.declared.record.Record.{Record}
 use Rattle.clerk_table.specs.declared.record.Change.{Change}
-use Rattle.clerk_table.specs.declared.record.Change.the-variants.{Stay, Put, Remove}
+use Rattle.clerk_table.specs.declared.record.Change.the-variants.{Put, Remove}
 use Rattle.clerk_table.specs.declared.record.Plan.{Plan}
 
 abbrev pub changed : Next → ℕ → Record → Change
@@ -55,16 +50,6 @@ stopped Stopping.Nothing state = noTimers
 stopped (Stopping.One timer) state = only timer
 stopped Stopping.Running state = running state
 
--- a type without numbers of digits has none
-abbrev pub noNumber : Words
-noNumber = record { low = 0; high = 0 }
-
--- the message carries the record's identifier, in the carrier of its type and of the record's connection choice
-abbrev pub sent : Sends → Record → Sending
-sent Sent.Nothing r = Sending.Nothing
-sent (Sent.One body) r =
-    Sending.Send (record { carrier = sentIn body (r .connection); identifier = r .identifier; numberA = noNumber; numberB = noNumber; body = body })
-
 -- the host is told to clear the call only in Ringout
 abbrev pub inRingout : State → Bool
 inRingout Free = false
@@ -83,7 +68,7 @@ taken place r row =
       change = changed (effectOf row .next) place r;
       outcome = record {
         refusal = 0;
-        sending = sent (effectOf row .sends) r;
+        sending = sent (effectOf row .sends) (r .identifier) (r .connection);
         starts = started (effectOf row .starts);
         stops = stopped (effectOf row .stops) (r .state);
         notice = effectOf row .notice;

@@ -4,11 +4,12 @@ use Rattle.message.specs.declared.Body.{Body}
 use Rattle.message.specs.declared.Body.the-variants.{CcSuspend, CcRingout, CcResume, CcCancel}
 use Rattle.desk.specs.declared.outcome.Notice.{Notice}
 use Rattle.desk.specs.declared.outcome.Notice.the-variants as Says
+use Rattle.desk.specs.declared.sends.Sends.{Sends}
+use Rattle.desk.specs.declared.sends.Sends.the-variants as Sending
 use Rattle.clerk_table.specs.declared.table.State.{State}
 use Rattle.clerk_table.specs.declared.table.Row.{Row}
 use Rattle.clerk_table.specs.declared.table.Home.{Home}
 use Rattle.clerk_table.specs.declared.table.Next.{Next}
-use Rattle.clerk_table.specs.declared.table.Sends.{Sends}
 use Rattle.clerk_table.specs.declared.table.Timer.{Timer}
 use Rattle.clerk_table.specs.declared.table.Starts.{Starts}
 use Rattle.clerk_table.specs.declared.table.Stops.{Stops}
@@ -17,7 +18,6 @@ use Rattle.clerk_table.specs.declared.table.State.the-variants.{Free, Wa
 use Rattle.clerk_table.specs.declared.table.Row.the-variants.{Accepted, DeniedShort, DeniedLong, Recalls, Suspends, RingsOut, Resumes, GoesOn, Completes, CallFails, BusyAgainKept, BusyAgainEnded, NotMatched, LineCancels, UserCancels, T1RunsOut, T2RunsOut, T3RunsOut}
 use Rattle.clerk_table.specs.declared.table.Home.the-variants.{InWaitAck, InInvoked, InWaitAnswer, InRingout, InSuspended, WhereT2Counts, Always}
 use Rattle.clerk_table.specs.declared.table.Next.the-variants.{Gone, To}
-use Rattle.clerk_table.specs.declared.table.Sends.the-variants as Sending
 use Rattle.clerk_table.specs.declared.table.Timer.the-variants.{T1, T2, T3}
 use Rattle.clerk_table.specs.declared.table.Starts.the-variants as Starting
 use Rattle.clerk_table.specs.declared.table.Stops.the-variants as Stopping

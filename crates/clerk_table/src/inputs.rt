@@ -7,11 +7,11 @@ use desk::Connection;
 use desk::Keep;
 use desk::letter::Letter;
 use desk::outcome::Sending;
-use lists::words::Words;
+use desk::sends::reply_with;
 use message::Body;
 use message::Carrier;
 ghost use mathlib.Core.Path.{_≡_};
-ghost use Rattle.clerk_table.specs.Inputs.{forClerk, rowOf, rowOfAct, rowOfTimer, errorRow, possibleRow, busyAgainRow, ringoutErrorRow, cancelReply, replyUnmatched, replyInSetup, replyUnfit, keepChosen, connectionOf, settled};
+ghost use Rattle.clerk_table.specs.Inputs.{forClerk, rowOf, rowOfAct, rowOfTimer, errorRow, possibleRow, busyAgainRow, ringoutErrorRow, cancelReply, replyUnmatched, replyInSetup, replyUnfit, keepChosen, connectionMeant, settled};
 
 // User A's acts. User A free is two of them, as the host chooses.
 pub enum Act {
@@ -144,14 +144,7 @@ fn cancel_reply(l: Letter) -> Sending
     ensures { λ r. ⌜ r ≡ cancelReply l ⌝ }
 {
     let identifier = l.identifier;
-    let none = Words { low: 0, high: 0 };
-    Sending::Send(Letter {
-        carrier: Carrier::ReleaseComplete,
-        identifier,
-        numberA: none,
-        numberB: none,
-        body: Body::CcCancel,
-    })
+    reply_with(identifier, Body::CcCancel)
 }
 
 // The reply to a message that no record has the identifier of: to a result and to a ccExecPossible.
@@ -236,8 +229,8 @@ fn keep_chosen(canKeep: bool, keep: u8) -> Keep
 }
 
 // Connect means RET, Release Complete means RLS.
-fn connection_of(carrier: Carrier) -> Connection
-    ensures { λ r. ⌜ r ≡ connectionOf carrier ⌝ }
+fn connection_meant(carrier: Carrier) -> Connection
+    ensures { λ r. ⌜ r ≡ connectionMeant carrier ⌝ }
 {
     match carrier {
         Carrier::Setup => Connection::Rls,
@@ -266,7 +259,7 @@ pub fn settled_record(r: Record, l: Letter) -> Record
         Body::RequestResult { keep } => with_choices(
             r,
             keep_chosen(r.canKeep, keep),
-            connection_of(carrier),
+            connection_meant(carrier),
         ),
         Body::RequestError { error: _ } => r,
         Body::CcExecPossible => r,

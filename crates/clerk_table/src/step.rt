@@ -5,21 +5,17 @@ use crate::record::Record;
 use crate::record::with_state;
 use crate::table::Next;
 use crate::table::Row;
-use crate::table::Sends;
 use crate::table::Starts;
 use crate::table::State;
 use crate::table::Stops;
 use crate::table::Timer;
 use crate::table::effect_of;
-use desk::carriers::sent_in;
-use desk::letter::Letter;
 use desk::outcome::Outcome;
-use desk::outcome::Sending;
 use desk::outcome::Timers;
 use desk::outcome::no_timers;
-use lists::words::Words;
+use desk::sends::sent_for;
 ghost use mathlib.Core.Path.{_≡_};
-ghost use Rattle.clerk_table.specs.Step.{changed, only, started, running, stopped, sent, cleared, taken};
+ghost use Rattle.clerk_table.specs.Step.{changed, only, started, running, stopped, cleared, taken};
 
 fn changed_to(next: Next, place: usize, r: Record) -> Change
     ensures { λ q. ⌜ q ≡ changed next place r ⌝ }
@@ -93,27 +89,6 @@ fn timers_stopped(stops: Stops, state: State) -> Timers
     }
 }
 
-fn sent_for(sends: Sends, r: Record) -> Sending
-    ensures { λ q. ⌜ q ≡ sent sends r ⌝ }
-{
-    match sends {
-        Sends::Nothing => Sending::Nothing,
-        Sends::One(body) => {
-            let connection = r.connection;
-            let identifier = r.identifier;
-            let carrier = sent_in(body, connection);
-            let none = Words { low: 0, high: 0 };
-            Sending::Send(Letter {
-                carrier,
-                identifier,
-                numberA: none,
-                numberB: none,
-                body,
-            })
-        }
-    }
-}
-
 fn call_cleared(clears: bool, state: State) -> bool
     ensures { λ r. ⌜ r ≡ cleared clears state ⌝ }
 {
@@ -141,8 +116,10 @@ pub fn take_row(place: usize, r: Record, row: Row) -> Plan
     let stops = effect.stops;
     let notice = effect.notice;
     let state = r.state;
+    let identifier = r.identifier;
+    let connection = r.connection;
     let change = changed_to(next, place, r);
-    let sending = sent_for(sends, r);
+    let sending = sent_for(sends, identifier, connection);
     let started = timers_started(starts);
     let stopped = timers_stopped(stops, state);
     let clear = call_cleared(effect.clears, state);

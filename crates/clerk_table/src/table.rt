@@ -1,6 +1,7 @@
 // The clerk's table: document 01, "Steps at the clerk's desk", one row for each of its steps, with the clause of H.450.9 beside it.
 // A row says in which states it is taken and what it does; everything else about the clerk's desk reads it here.
 use desk::outcome::Notice;
+use desk::sends::Sends;
 use message::Body;
 ghost use mathlib.Core.Path.{_≡_};
 ghost use Rattle.clerk_table.specs.Table.{effectOf, holdsIn};
@@ -69,12 +70,6 @@ pub enum Home {
 pub enum Next {
     Gone,
     To(State),
-}
-
-// The message that is sent, in the carrier of its type and record.
-pub enum Sends {
-    Nothing,
-    One(Body),
 }
 
 pub enum Timer {

@@ -2,7 +2,7 @@
 // and stopped; the notice; and whether the host is told to clear the call.
 use crate::letter::Letter;
 ghost use mathlib.Core.Path.{_≡_};
-ghost use Rattle.desk.specs.Outcome.{noTimers, refusedWith};
+ghost use Rattle.desk.specs.Outcome.{noTimers, refusedWith, doneWith};
 
 pub enum Sending {
     Nothing,
@@ -60,6 +60,20 @@ pub fn refused(refusal: u8, reply: Sending) -> Outcome
         sending: reply,
         starts: none,
         stops: none,
+        notice: Notice::Silent,
+        clear: false,
+    }
+}
+
+// A step without a notice and without a word on the call.
+pub fn done(sending: Sending, starts: Timers, stops: Timers) -> Outcome
+    ensures { λ r. ⌜ r ≡ doneWith sending starts stops ⌝ }
+{
+    Outcome {
+        refusal: 0,
+        sending,
+        starts,
+        stops,
         notice: Notice::Silent,
         clear: false,
     }

@@ -1,7 +1,7 @@
 -- Laws of specs/Lists.antt, over any element type: what a loop asks at an index, and what a finished search or removal says. Each goes along the list. Assumes nothing.
 use Prim.Native.Nat.{ℕ, zero, suc, _+_, _≤_, _<_}
 use mathlib.Core.Bool.{Bool, true, false, false≢true}
-use mathlib.Core.List.{List, [], _∷_, _++_, map}
+use mathlib.Core.List.{List, [], _∷_, _++_, map, map-append}
 use mathlib.Core.Logic.{⊎-elim}
 use mathlib.Core.Path.{_≡_, refl, sym, ap, _∙_}
 use native.Mathlib.Nat.{not-suc-le-zero, le-of-suc-le-suc}
@@ -242,3 +242,30 @@ module _ {A : Type 0} (f : A → A) where
   map-done [] i h = refl
   map-done (x ∷ xs) zero h = absurd (not-suc-le-zero h)
   map-done (x ∷ xs) (suc i) h = ap {B = List A} (λ r. x ∷ r) (map-done xs i (le-of-suc-le-suc h))
+
+-- ---- a change of all elements, beside a search, a store and a removal
+first-map-from :
+    {A B : Type 0} (f : A → B) (p : B → Bool) (k : ℕ) (xs : List A) → firstFrom p k (map f xs) ≡ firstFrom (λ x. p (f x)) k xs
+unfolding firstFrom
+first-map-from f p k [] = refl
+first-map-from f p k (x ∷ xs) = rw (first-map-from f p (suc k) xs)
+
+-- a search in changed elements is a search by the changed test
+pub first-map : {A B : Type 0} (f : A → B) (p : B → Bool) (xs : List A) → first p (map f xs) ≡ first (λ x. p (f x)) xs
+first-map f p xs = first-map-from f p 0 xs
+
+-- a search by a test with the same answers
+pub first-same : {A : Type 0} (p q : A → Bool) (xs : List A) → ((x : A) → p x ≡ q x) → first p xs ≡ first q xs
+first-same p q xs h = ap (λ t. first t xs) (λ i x. h x i)
+
+-- a change of all elements beside a store, and beside a removal
+pub map-set : {A B : Type 0} (f : A → B) (xs : List A) (i : ℕ) (x : A) → map f (set xs i x) ≡ set (map f xs) i (f x)
+map-set f [] i x = refl
+map-set f (y ∷ ys) zero x = refl
+map-set {A} {B} f (y ∷ ys) (suc i) x = ap {B = List B} (λ r. f y ∷ r) (map-set f ys i x)
+
+pub map-without : {A B : Type 0} (f : A → B) (z : A) (xs : List A) (i : ℕ) → map f (without z xs i) ≡ without (f z) (map f xs) i
+unfolding without
+map-without f z [] i = refl
+map-without f z (y ∷ ys) zero = map-append f ys (z ∷ [])
+map-without {A} {B} f z (y ∷ ys) (suc i) = ap {B = List B} (λ r. f y ∷ r) (map-without f z ys i)

@@ -1,5 +1,6 @@
 // The types of the wire, after document 01, "Messages and carriers": a message is one of twelve types with its own
 // fields, after type, carrier and identifier.
+pub mod copied;
 pub mod digits;
 pub mod number;
 pub mod range;

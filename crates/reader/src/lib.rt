@@ -4,6 +4,7 @@ use message::Body;
 use message::Carrier;
 use message::Kind;
 use message::Message;
+use message::copied::copy_between;
 use message::digits::PlaceRead;
 use message::digits::read_digits;
 use message::number::NumberRead;
@@ -117,21 +118,6 @@ fn fields(typeNumber: u16, s: &[u8], at: usize) -> FieldsRead
         11 => plain(at, Body::CallAlerts, at),
         _ => plain(at, Body::CallFailed, at),
     }
-}
-
-// The bytes between two places, 0 behind them.
-fn copy_between(s: &[u8], from: usize, to: usize) -> [u8; 16]
-    requires { ⌜ (from ≤ to) × ((to ≤ from + 16) × (to ≤ length (now s))) ⌝ }
-    ensures { λ r. ⌜ r ≡ between (now (s .entry)) from to ⌝ }
-{
-    let count = to - from;
-    let mut copy = [0u8; 16];
-    let mut i = 0;
-    while i < count {
-        copy[i] = s[from + i];
-        i += 1;
-    }
-    copy
 }
 
 fn refused(x: u8) -> Answer

@@ -1,7 +1,7 @@
 -- Laws of specs/Rows.antt, over any width and count: rows of joined words are joined rows, and the rest follows from that. Assumes nothing.
 use Prim.Native.Nat.{ℕ, zero, suc, _+_, _-_, _*_, _≤_, _<_}
 use mathlib.Core.Bool.{Bool, true, false}
-use mathlib.Core.List.{List, [], _∷_, _++_, map, map-append, append-assoc}
+use mathlib.Core.List.{List, [], _∷_, _++_, append-assoc}
 use mathlib.Core.Path.{_≡_, refl, sym, ap, _∙_}
 use native.Mathlib.Nat.{not-suc-le-zero, le-of-suc-le-suc, mul-le-mul-right, zero-mul, zero-add, add-suc}
 use native.Mathlib.Numerals.{add-one}
@@ -10,7 +10,7 @@ use borrow.Author.Tests.{eqb-true, ltb-true, leb-true, eq-eqb, lt-ltb, le-leb}
 use lib.Dec.{leb, ltb, eqb}
 use lib.ListN.{length, getD, take, drop, set, replicate, length-append, length-drop, length-replicate, getD-replicate, take-append-drop, replicate-append-replicate}
 use lib.Seq.{length-take-le, take-all, drop-drop, take-add, take-at, drop-at, set-at, getD-take, getD-drop, sets, sets-eq}
-use Rattle.lists.specs.Lists.{both, firstFrom, first, without}
+use Rattle.lists.specs.Lists.{both, first, without}
 use Rattle.lists.specs.Parts.{over}
 use Rattle.lists.specs.declared.Found.the-variants.{At, Nothing}
 use Rattle.lists.specs.declared.words.Words.{Words}
@@ -30,32 +30,6 @@ place-rest width count i h =
     omega arith
 
 -- ---- lists of anything
-first-map-from :
-    {A B : Type 0} (f : A → B) (p : B → Bool) (k : ℕ) (xs : List A) → firstFrom p k (map f xs) ≡ firstFrom (λ x. p (f x)) k xs
-unfolding firstFrom
-first-map-from f p k [] = refl
-first-map-from f p k (x ∷ xs) = rw (first-map-from f p (suc k) xs)
-
--- a search in changed elements is a search by the changed test
-pub first-map : {A B : Type 0} (f : A → B) (p : B → Bool) (xs : List A) → first p (map f xs) ≡ first (λ x. p (f x)) xs
-first-map f p xs = first-map-from f p 0 xs
-
--- a search by a test with the same answers
-pub first-same : {A : Type 0} (p q : A → Bool) (xs : List A) → ((x : A) → p x ≡ q x) → first p xs ≡ first q xs
-first-same p q xs h = ap (λ t. first t xs) (λ i x. h x i)
-
--- a change of all elements beside a store, and beside a removal
-pub map-set : {A B : Type 0} (f : A → B) (xs : List A) (i : ℕ) (x : A) → map f (set xs i x) ≡ set (map f xs) i (f x)
-map-set f [] i x = refl
-map-set f (y ∷ ys) zero x = refl
-map-set {A} {B} f (y ∷ ys) (suc i) x = ap {B = List B} (λ r. f y ∷ r) (map-set f ys i x)
-
-pub map-without : {A B : Type 0} (f : A → B) (z : A) (xs : List A) (i : ℕ) → map f (without z xs i) ≡ without (f z) (map f xs) i
-unfolding without
-map-without f z [] i = refl
-map-without f z (y ∷ ys) zero = map-append f ys (z ∷ [])
-map-without {A} {B} f z (y ∷ ys) (suc i) = ap {B = List B} (λ r. f y ∷ r) (map-without f z ys i)
-
 -- the n-th taken out, where what stands before it is known
 without-at :
     {A : Type 0} (z : A) (xs : List A) (y : A) (ys : List A) (n : ℕ) → length xs ≡ n →

@@ -1,6 +1,5 @@
 -- The record of a place is that of the words from its first one on.
 use Prim.Native.Nat.{_*_}
-use mathlib.Core.Path.{sym, _∙_}
 use denote.Ref.{now}
 use Rattle.lists.proofs.Parts.{tail-of}
 use Rattle.clerk_records.proofs.RecordsLaws.{record-at}

@@ -3,7 +3,7 @@ use native.Mathlib.Omega.{arith}
 use lib.ListN.{length-set}
 use lib.Seq.{sets-eq}
 use denote.Ref.{now}
-use Rattle.clerk_records.specs.Records.{wordsOf}
+use Rattle.clerk_records.specs.Records.{recordWords}
 use borrow.Author.Needs.{needs}
 use Rattle.clerk_records.proofs.places.put_words.Statement.{statement}
 use Rattle.clerk_records.proofs.places.put_words.Tie as tie
@@ -66,7 +66,7 @@ returns : tie.Need-returns
 returns c =
     let r = c .before .before .before .before .before .before .before .before .before .args .r in
     let row = now (c .before .before .before .before .before .before .before .before .before .args .row) in
-    rw (c .before .before .before .before .kind-code .ensures, c .before .before .before .state-code .ensures, c .before .before .keep-code .ensures, c .before .connection-code .ensures, c .flag-code .ensures) (sets-eq (wordsOf r) row 0 (omega arith))
+    rw (c .before .before .before .before .kind-code .ensures, c .before .before .before .state-code .ensures, c .before .before .keep-code .ensures, c .before .connection-code .ensures, c .flag-code .ensures) (sets-eq (recordWords r) row 0 (omega arith))
 
 pub put-words-spec : {M : Type 1} → statement M
 put-words-spec =

@@ -15,8 +15,8 @@ enum-known-body c = search needs
 keep-chosen-requires : tie.Need-keep-chosen-requires
 keep-chosen-requires c κs = search needs
 
-connection-of-requires : tie.Need-connection-of-requires
-connection-of-requires c κs = search needs
+connection-meant-requires : tie.Need-connection-meant-requires
+connection-meant-requires c κs = search needs
 
 with-choices-requires : tie.Need-with-choices-requires
 with-choices-requires c κs = search needs
@@ -55,7 +55,7 @@ returns-2 : tie.Need-returns-2
 returns-2 c = rw (c .enum-told2 .given .1)
 
 returns-3 : tie.Need-returns-3
-returns-3 c = rw (c .before .before .before .before .body .given .1, c .with-choices .ensures, c .before .connection-of .ensures, c .before .before .keep-chosen .ensures)
+returns-3 c = rw (c .before .before .before .before .body .given .1, c .with-choices .ensures, c .before .connection-meant .ensures, c .before .before .keep-chosen .ensures)
 
 returns-4 : tie.Need-returns-4
 returns-4 c = rw (c .enum-told3 .given .1)
@@ -92,7 +92,7 @@ settled-record-spec =
     enum-told-2
     enum-known-body
     keep-chosen-requires
-    connection-of-requires
+    connection-meant-requires
     with-choices-requires
     enum-told-3
     enum-told-4

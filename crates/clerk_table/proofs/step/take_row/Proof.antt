@@ -24,7 +24,7 @@ call-cleared-requires c κs = search needs
 
 returns : tie.Need-returns
 unfolding taken
-returns c = rw (c .before .before .before .before .changed-to .ensures, c .before .before .before .sent-for .ensures, c .before .before .timers-started .ensures, c .before .timers-stopped .ensures, c .call-cleared .ensures, c .before .before .before .before .before .effect-of .ensures)
+returns c = rw (c .before .before .before .before .changed-to .ensures, c .before .before .before .sent-for .ensures, c .before .before .timers-started .ensures, c .before .timers-stopped .ensures, c .call-cleared .ensures, c .before .before .before .before .before .before .effect-of .ensures)
 
 pub take-row-spec : {M : Type 1} → statement M
 take-row-spec =

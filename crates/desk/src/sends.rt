@@ -1,0 +1,50 @@
+// What a desk sends: a message of a row of its table, or the reply to a message that it refuses. No such type has numbers of digits.
+use crate::Connection;
+use crate::carriers::sent_in;
+use crate::letter::Letter;
+use crate::outcome::Sending;
+use lists::words::Words;
+use message::Body;
+use message::Carrier;
+ghost use mathlib.Core.Path.{_≡_};
+ghost use Rattle.desk.specs.Sends.{plainLetter, sent, replied};
+
+// What a row of a table sends.
+pub enum Sends {
+    Nothing,
+    One(Body),
+}
+
+// The letter of a type without numbers of digits.
+pub fn plain_letter(identifier: Words, carrier: Carrier, body: Body) -> Letter
+    ensures { λ r. ⌜ r ≡ plainLetter identifier carrier body ⌝ }
+{
+    let none = Words { low: 0, high: 0 };
+    Letter {
+        carrier,
+        identifier,
+        numberA: none,
+        numberB: none,
+        body,
+    }
+}
+
+// What a row sends for the record with that identifier and connection choice.
+pub fn sent_for(sends: Sends, identifier: Words, connection: Connection) -> Sending
+    ensures { λ r. ⌜ r ≡ sent sends identifier connection ⌝ }
+{
+    match sends {
+        Sends::Nothing => Sending::Nothing,
+        Sends::One(body) => {
+            let carrier = sent_in(body, connection);
+            Sending::Send(plain_letter(identifier, carrier, body))
+        }
+    }
+}
+
+// The reply to a refused message, with its identifier, in Release Complete.
+pub fn reply_with(identifier: Words, body: Body) -> Sending
+    ensures { λ r. ⌜ r ≡ replied identifier body ⌝ }
+{
+    Sending::Send(plain_letter(identifier, Carrier::ReleaseComplete, body))
+}

@@ -1,0 +1,57 @@
+-- By the record that is meant, then by its row.
+use mathlib.Core.Path.{sym, _∙_}
+use Rattle.line_plan.specs.Plan.{inputPlan}
+use borrow.Author.Needs.{needs}
+use Rattle.line_plan.proofs.plan_input.Statement.{statement}
+use Rattle.line_plan.proofs.plan_input.Tie as tie
+
+find-meant-requires : tie.Need-find-meant-requires
+find-meant-requires c κs = search needs
+
+enum-known-place : tie.Need-enum-known-place
+enum-known-place c = search needs
+
+enum-told : tie.Need-enum-told
+enum-told c = search needs
+
+reply-missed-requires : tie.Need-reply-missed-requires
+reply-missed-requires c κs = search needs
+
+refused-plan-requires : tie.Need-refused-plan-requires
+refused-plan-requires c κs = search needs
+
+returns : tie.Need-returns
+unfolding inputPlan
+returns c = rw (c .refused-plan .ensures, c .before .reply-missed .ensures, sym (c .before .before .before .before .find-meant .ensures) ∙ c .before .before .enum-told .given .1)
+
+load-requires : tie.Need-load-requires
+load-requires c κs = search needs
+
+takes-call-requires : tie.Need-takes-call-requires
+takes-call-requires c κs = search needs
+
+row-for-requires : tie.Need-row-for-requires
+row-for-requires c κs = search needs
+
+plan-row-requires : tie.Need-plan-row-requires
+plan-row-requires c κs = search needs
+
+returns-2 : tie.Need-returns-2
+unfolding inputPlan
+returns-2 c = rw (c .plan-row .ensures, c .before .row-for .ensures, c .before .before .takes-call .ensures, sym (c .before .before .before .before .before .before .before .before .find-meant .ensures) ∙ c .before .before .before .before .before .before .place .given .1, ← c .before .before .before .before .load .ensures)
+
+pub plan-input-spec : {M : Type 1} → statement M
+plan-input-spec =
+    tie.close
+    (tie.spec
+    find-meant-requires
+    enum-known-place
+    enum-told
+    reply-missed-requires
+    refused-plan-requires
+    returns
+    load-requires
+    takes-call-requires
+    row-for-requires
+    plan-row-requires
+    returns-2)

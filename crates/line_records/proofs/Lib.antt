@@ -1,0 +1,3 @@
+pub mod RecordsLaws
+pub mod LinesLaws
+pub mod ChangeLaws

@@ -1,0 +1,41 @@
+-- What a planned change makes of the words of a line desk.
+use Prim.Native.Nat.{ℕ, zero, suc}
+use mathlib.Core.Bool.{Bool, true, false}
+use mathlib.Core.List.{List}
+use lib.ListN.{getD}
+use Rattle.lists.specs.Choice.{pick}
+use Rattle.lists.specs.declared.words.Words.{Words}
+use Rattle.line_table.specs.Line.{withStatus}
+use Rattle.line_table.specs.Record.{moved}
+use Rattle.line_table.specs.Search.{marks}
+use Rattle.line_table.specs.declared.record.Record.{Record}
+use Rattle.line_table.specs.declared.record.Change.{Change}
+use Rattle.line_table.specs.declared.record.Change.the-variants.{Stay, Put, Remove, Report}
+use Rattle.line_records.specs.Records.{blank, records, putRecord, removed}
+use Rattle.line_records.specs.Lines.{noLine, lines, putLine}
+
+-- ---- a report of the line at place k: its status is stored, and busy sets the activity mark of the line's Invoked records
+abbrev pub activated : Record → Record
+activated r = moved r (r .state) true (r .suspended)
+
+unfoldable pub markPlace : Words → ℕ → List ℕ → List ℕ
+markPlace number i words =
+    pick (marks number (getD (records words) i blank)) (putRecord words i (activated (getD (records words) i blank))) words
+
+-- the first n places, one after the other
+unfoldable pub marked : Words → ℕ → List ℕ → List ℕ
+marked number zero words = words
+marked number (suc n) words = markPlace number n (marked number n words)
+
+unfoldable pub statusStored : List ℕ → ℕ → Bool → List ℕ
+statusStored words k busy = putLine words k (withStatus (getD (lines words) k noLine) busy)
+
+unfoldable pub reported : List ℕ → ℕ → Words → Bool → List ℕ
+reported words k number busy = pick busy (marked number 32 (statusStored words k busy)) (statusStored words k busy)
+
+-- ---- every change
+unfoldable pub applied : List ℕ → Change → List ℕ
+applied words Stay = words
+applied words (Put i r) = putRecord words i r
+applied words (Remove i) = removed words i
+applied words (Report k number busy) = reported words k number busy

@@ -1,0 +1,4 @@
+pub mod Codes
+pub mod Records
+pub mod Lines
+pub mod Change

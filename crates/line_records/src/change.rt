@@ -1,0 +1,74 @@
+// A planned change of the desk, made in words that the caller lends.
+use crate::lines::load_line;
+use crate::lines::put_line;
+use crate::places::load;
+use crate::places::put_record;
+use crate::places::remove_record;
+use line_table::line::with_status;
+use line_table::record::Change;
+use line_table::record::Record;
+use line_table::record::moved_to;
+use line_table::search::is_marked;
+use lists::words::Words;
+ghost use mathlib.Core.Path.{_≡_};
+ghost use Rattle.line_records.specs.Change.{activated, markPlace, marked, statusStored, reported, applied};
+
+// The record with its activity mark set.
+fn activated_record(r: Record) -> Record
+    ensures { λ q. ⌜ q ≡ activated r ⌝ }
+{
+    let state = r.state;
+    moved_to(r, state, true, r.suspended)
+}
+
+// The record of a place marked active, if a busy report of the line marks it.
+fn mark_place(words: &mut [u64; 498], i: usize, number: Words)
+    ensures { λ r. ⌜ now (words .exit) ≡ markPlace number i (now (words .entry)) ⌝ }
+{
+    let r = load(words, i);
+    if is_marked(number, r) {
+        let q = activated_record(r);
+        put_record(words, i, q);
+    }
+}
+
+// Every record that a busy report of the line marks.
+fn mark_line(words: &mut [u64; 498], number: Words)
+    ensures { λ r. ⌜ now (words .exit) ≡ marked number 32 (now (words .entry)) ⌝ }
+{
+    let mut i = 0;
+    while i < 32 {
+        mark_place(words, i, number);
+        i += 1;
+    }
+}
+
+fn store_status(words: &mut [u64; 498], k: usize, busy: bool)
+    ensures { λ r. ⌜ now (words .exit) ≡ statusStored (now (words .entry)) k busy ⌝ }
+{
+    let before = load_line(words, k);
+    let after = with_status(before, busy);
+    put_line(words, k, after);
+}
+
+// A report of the line at a place, with its number: its status, and the marks that busy sets.
+fn report_line(words: &mut [u64; 498], k: usize, number: Words, busy: bool)
+    ensures { λ r. ⌜ now (words .exit) ≡ reported (now (words .entry)) k number busy ⌝ }
+{
+    store_status(words, k, busy);
+    if busy {
+        mark_line(words, number);
+    }
+}
+
+// A planned change, made in place.
+pub fn apply(words: &mut [u64; 498], change: Change)
+    ensures { λ r. ⌜ now (words .exit) ≡ applied (now (words .entry)) change ⌝ }
+{
+    match change {
+        Change::Stay => {}
+        Change::Put(i, r) => put_record(words, i, r),
+        Change::Remove(i) => remove_record(words, i),
+        Change::Report(k, number, busy) => report_line(words, k, number, busy),
+    }
+}

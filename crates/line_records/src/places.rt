@@ -1,0 +1,145 @@
+// The places of a line desk: a record is found, loaded, put and removed, in words that the caller lends.
+use crate::codes::state_code;
+use crate::codes::state_of;
+use desk::codes::connection_code;
+use desk::codes::connection_of;
+use desk::codes::flag_code;
+use desk::codes::keep_code;
+use desk::codes::keep_of;
+use desk::codes::kind_code;
+use desk::codes::kind_of;
+use line_table::record::Record;
+use lists::Found;
+use lists::words::Words;
+ghost use mathlib.Core.Path.{_≡_};
+ghost use Prim.Native.Nat.{_≤_, _<_};
+ghost use lib.ListN.{length, getD};
+ghost use Rattle.lists.specs.Parts.{over};
+ghost use Rattle.store.specs.Rows.{putRow};
+ghost use Rattle.line_records.specs.Records.{recordOf, recordWords, blank, records, meant, place, putRecord, removed};
+
+// The record of a row.
+fn record_of(row: &[u64]) -> Record
+    requires { ⌜ 13 ≤ length (now row) ⌝ }
+    ensures { λ r. ⌜ r ≡ recordOf (now (row .entry)) ⌝ }
+{
+    let identifier = Words {
+        low: row[0],
+        high: row[1],
+    };
+    let numberA = Words {
+        low: row[2],
+        high: row[3],
+    };
+    let numberB = Words {
+        low: row[4],
+        high: row[5],
+    };
+    let kind = kind_of(row[7]);
+    let state = state_of(row[8]);
+    let keep = keep_of(row[9]);
+    let connection = connection_of(row[10]);
+    Record {
+        identifier,
+        numberA,
+        numberB,
+        service: row[6],
+        kind,
+        state,
+        keep,
+        connection,
+        active: row[11] == 1,
+        suspended: row[12] == 1,
+    }
+}
+
+// A record over the front of some words.
+fn put_words(row: &mut [u64], r: Record)
+    requires { ⌜ 13 ≤ length (now row) ⌝ }
+    ensures { λ q. ⌜ now (row .exit) ≡ over (recordWords r) (now (row .entry)) ⌝ }
+{
+    let identifier = r.identifier;
+    let numberA = r.numberA;
+    let numberB = r.numberB;
+    let kind = r.kind;
+    let state = r.state;
+    let keep = r.keep;
+    let connection = r.connection;
+    row[0] = identifier.low;
+    row[1] = identifier.high;
+    row[2] = numberA.low;
+    row[3] = numberA.high;
+    row[4] = numberB.low;
+    row[5] = numberB.high;
+    row[6] = r.service;
+    row[7] = kind_code(kind);
+    row[8] = state_code(state);
+    row[9] = keep_code(keep);
+    row[10] = connection_code(connection);
+    row[11] = flag_code(r.active);
+    row[12] = flag_code(r.suspended);
+}
+
+// The place of the record in use with that identifier.
+pub fn find_meant(words: &[u64; 498], identifier: Words) -> Found
+    ensures { λ r. ⌜ r ≡ meant identifier (records (now (words .entry))) ⌝ }
+{
+    store::find(words, 13, 32, identifier, 3)
+}
+
+// The first place that is not used.
+pub fn find_place(words: &[u64; 498]) -> Found
+    ensures { λ r. ⌜ r ≡ place (records (now (words .entry))) ⌝ }
+{
+    store::find_free(words, 13, 32, 3)
+}
+
+fn load_in(words: &[u64], i: usize) -> Record
+    requires { ⌜ (i < 32) × (498 ≤ length (now words)) ⌝ }
+    ensures { λ r. ⌜ r ≡ getD (records (now (words .entry))) i blank ⌝ }
+{
+    let at = i * 13;
+    record_of(&words[at..])
+}
+
+fn blank_record() -> Record
+    ensures { λ r. ⌜ r ≡ blank ⌝ }
+{
+    record_of(&[0u64; 13])
+}
+
+// The record of a place; past the last place, the blank one.
+pub fn load(words: &[u64; 498], i: usize) -> Record
+    ensures { λ r. ⌜ r ≡ getD (records (now (words .entry))) i blank ⌝ }
+{
+    if i < 32 {
+        return load_in(words, i);
+    }
+    blank_record()
+}
+
+fn put_in(words: &mut [u64], i: usize, r: Record)
+    requires { ⌜ (i < 32) × (498 ≤ length (now words)) ⌝ }
+    ensures { λ q. ⌜ now (words .exit) ≡ putRow 13 (now (words .entry)) i (recordWords r) ⌝ }
+{
+    let at = i * 13;
+    put_words(&mut words[at..], r);
+}
+
+// A record put at a place; a place that is not there changes nothing.
+pub fn put_record(words: &mut [u64; 498], i: usize, r: Record)
+    ensures { λ q. ⌜ now (words .exit) ≡ putRecord (now (words .entry)) i r ⌝ }
+{
+    if i < 32 {
+        put_in(words, i, r);
+    }
+}
+
+// The record of a place removed: the later ones move up.
+pub fn remove_record(words: &mut [u64; 498], i: usize)
+    ensures { λ r. ⌜ now (words .exit) ≡ removed (now (words .entry)) i ⌝ }
+{
+    if i < 32 {
+        store::remove(words, 13, 32, i);
+    }
+}

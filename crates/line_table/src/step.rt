@@ -1,0 +1,76 @@
+// A row taken for a record: what the table's effect makes of the place, the marks, the message and the guard.
+use crate::record::Change;
+use crate::record::Plan;
+use crate::record::Record;
+use crate::record::moved_to;
+use crate::table::Mark;
+use crate::table::Next;
+use crate::table::Row;
+use crate::table::effect_of;
+use desk::outcome::Timers;
+use desk::outcome::done;
+use desk::outcome::no_timers;
+use desk::sends::sent_for;
+ghost use mathlib.Core.Path.{_≡_};
+ghost use Rattle.line_table.specs.Step.{guard, markedBy, changed, stopped, taken};
+
+// The guard alone.
+pub fn only_guard() -> Timers
+    ensures { λ r. ⌜ r ≡ guard ⌝ }
+{
+    Timers {
+        t1: false,
+        t2: false,
+        t3: false,
+        guard: true,
+    }
+}
+
+fn marked_by(mark: Mark, before: bool) -> bool
+    ensures { λ r. ⌜ r ≡ markedBy mark before ⌝ }
+{
+    match mark {
+        Mark::Stays => before,
+        Mark::Sets => true,
+        Mark::Clears => false,
+    }
+}
+
+fn changed_to(next: Next, place: usize, r: Record, active: bool, suspended: bool) -> Change
+    ensures { λ q. ⌜ q ≡ changed next place r active suspended ⌝ }
+{
+    match next {
+        Next::Gone => Change::Remove(place),
+        Next::To(state) => Change::Put(place, moved_to(r, state, active, suspended)),
+    }
+}
+
+// A delete stops the guard.
+fn timers_stopped(next: Next) -> Timers
+    ensures { λ r. ⌜ r ≡ stopped next ⌝ }
+{
+    match next {
+        Next::Gone => only_guard(),
+        Next::To(_) => no_timers(),
+    }
+}
+
+// A row that is taken for the record of a place.
+pub fn take_row(place: usize, r: Record, row: Row) -> Plan
+    ensures { λ q. ⌜ q ≡ taken place r row ⌝ }
+{
+    let effect = effect_of(row);
+    let next = effect.next;
+    let sends = effect.sends;
+    let activity = effect.active;
+    let suspension = effect.suspended;
+    let identifier = r.identifier;
+    let connection = r.connection;
+    let active = marked_by(activity, r.active);
+    let suspended = marked_by(suspension, r.suspended);
+    let change = changed_to(next, place, r, active, suspended);
+    let sending = sent_for(sends, identifier, connection);
+    let stops = timers_stopped(next);
+    let outcome = done(sending, no_timers(), stops);
+    Plan { change, outcome }
+}

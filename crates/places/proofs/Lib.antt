@@ -1,0 +1,4 @@
+pub mod Staying
+pub mod Counting
+pub mod Ordering
+pub mod Holding
