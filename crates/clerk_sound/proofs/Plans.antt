@@ -6,12 +6,10 @@ use mathlib.Core.List.{List}
 use lib.ListN.{getD}
 use lib.Dec.{eqb}
 use native.Mathlib.Omega.{arith}
-use Rattle.lists.specs.Words.{sameWords}
 use Rattle.lists.specs.declared.Found.{Found}
 use Rattle.lists.specs.declared.Found.the-variants.{At, Nothing}
 use Rattle.lists.specs.declared.words.Words.{Words}
 use Rattle.lists.proofs.Choice.{pick-elim, no-true}
-use Rattle.lists.proofs.Lists.{both-parts, first-holds}
 use Rattle.message.specs.declared.Kind.{Kind}
 use Rattle.message.specs.declared.Carrier.{Carrier}
 use Rattle.message.specs.declared.Carrier.the-variants.{Setup, Connect, Facility, ReleaseComplete, Alerting}
@@ -23,6 +21,7 @@ use Rattle.desk.specs.declared.Connection.the-variants as Connection
 use Rattle.desk.specs.declared.Keep.{Keep}
 use Rattle.desk.specs.declared.Keep.the-variants as Keep
 use Rattle.desk.specs.declared.letter.Letter.{Letter}
+use Rattle.places.proofs.Holding.{meant-its}
 use Rattle.clerk_table.specs.Table.{holdsIn}
 use Rattle.clerk_table.specs.Record.{withState}
 use Rattle.clerk_table.specs.Step.{taken}
@@ -41,17 +40,15 @@ use Rattle.clerk_table.specs.declared.inputs.Act.{Act}
 use Rattle.clerk_table.specs.declared.inputs.Act.the-variants.{Accept, Resume, GoOn, Cancel}
 use Rattle.clerk_table.specs.declared.inputs.Meant.{Meant}
 use Rattle.clerk_table.specs.declared.inputs.Meant.the-variants as Meant
-use Rattle.clerk_records.specs.Records.{blank, inUse, used, identified, meant, place}
+use Rattle.clerk_records.specs.Records.{blank, inUse, used, meant, place}
 use Rattle.clerk_plan.specs.Plan.{holdsFor, meantBy, foundPlan, messagePlan, ownFound, ownPlan, newRecord, askPlace, askFound, askPlan}
-use Rattle.clerk_sound.specs.Sound.{Whole, Sound}
+use Rattle.clerk_sound.specs.Sound.{clerkView, Whole, Sound}
 use Rattle.clerk_sound.proofs.Changes.{Fair, stays, turns, stores, removes}
 
 -- ---- what is found is used
 meant-used : (rs : List Record) (identifier : Words) (i : ℕ) → meant identifier rs ≡ At i → used (getD rs i blank) ≡ true
 unfolding meant
-meant-used rs identifier i e =
-    both-parts (sameWords (getD rs i blank .identifier) identifier) (used (getD rs i blank))
-    (first-holds (identified identifier) rs i blank e) .1
+meant-used rs identifier i e = meant-its clerkView rs identifier i e .0
 
 -- ---- states: only Wait-Ack is before the acknowledgment
 abbrev acknowledged : State → Bool

@@ -1,16 +1,17 @@
 -- The started desk is sound: sixteen blank records, so no place is used.
 use Prim.Native.Nat.{ℕ, zero, suc}
 use mathlib.Core.Path.{_≡_, refl, sym, ap, _∙_}
-use mathlib.Core.Bool.{true, false}
+use mathlib.Core.Bool.{false}
 use mathlib.Core.List.{List}
 use lib.ListN.{getD, replicate}
 use Rattle.lists.proofs.Choice.{no-true}
 use Rattle.store.specs.Rows.{rows}
+use Rattle.places.proofs.Staying.{start-placed}
 use Rattle.clerk_table.specs.declared.record.Record.{Record}
 use Rattle.clerk_records.specs.Codes.{stateOf}
 use Rattle.clerk_records.specs.Records.{recordOf, blank, records, used}
 use Rattle.clerk.specs.Steps.{startedDesk}
-use Rattle.clerk_sound.specs.Sound.{StartSound}
+use Rattle.clerk_sound.specs.Sound.{clerkView, StartSound}
 
 -- a blank record is not used
 pub blank-unused : used blank ≡ false
@@ -29,14 +30,9 @@ start-records = refl
 pub start-blank : (i : ℕ) → getD (records (startedDesk .words)) i blank ≡ blank
 start-blank i = ap (λ (rs : List Record). getD rs i blank) start-records ∙ replicate-at 16 blank i
 
-never-used : (i : ℕ) → used (getD (records (startedDesk .words)) i blank) ≡ true → ⊥
-never-used i u = no-true (sym (ap used (start-blank i) ∙ blank-unused) ∙ u)
-
 pub start-sound : StartSound
 start-sound =
     record {
-      compact = λ i j h u. absurd (never-used j u);
-      blanks = λ i u. start-blank i;
-      differ = λ i j u v e. absurd (never-used i u);
-      each = λ i u. absurd (never-used i u);
+      placed = start-placed clerkView (records (startedDesk .words)) start-blank blank-unused;
+      each = λ i u. absurd (no-true (sym (ap used (start-blank i) ∙ blank-unused) ∙ u));
     }

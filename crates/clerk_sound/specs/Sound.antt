@@ -1,12 +1,10 @@
 -- The sentences of document 01 on the clerk's desk as a whole: a refusal leaves it as it was, and what every reached desk is. Each claim is a type; its proof has its name.
 use Prim.Native.Nat.{ℕ, suc, _≤_, _<_}
 use mathlib.Core.Path.{_≡_}
-use mathlib.Core.Bool.{Bool, true, false}
-use mathlib.Core.List.{List, [], _∷_, _++_}
+use mathlib.Core.Bool.{Bool, true}
+use mathlib.Core.List.{List}
 use lib.ListN.{length, getD, set}
-use Rattle.lists.specs.Choice.{pick}
-use Rattle.lists.specs.declared.words.Words.{Words}
-use Rattle.lists.specs.Lists.{count, without}
+use Rattle.lists.specs.Lists.{without}
 use Rattle.lists.specs.Words.{Bytes, bytesOf, wordsOf}
 use Rattle.lists.specs.declared.Found.the-variants.{At, Nothing}
 use Rattle.message.specs.Number.{digitsInRange}
@@ -19,6 +17,7 @@ use Rattle.desk.specs.declared.outcome.Sending.the-variants as Sending
 use Rattle.desk.specs.declared.outcome.Outcome.{Outcome}
 use Rattle.desk.specs.declared.Connection.the-variants as Connection
 use Rattle.desk.specs.declared.Keep.the-variants as Keep
+use Rattle.places.specs.Places.{View, Placed, stored, names, Queued}
 use Rattle.clerk_table.specs.Record.{refusedPlan}
 use Rattle.clerk_table.specs.declared.table.State.the-variants.{WaitAck}
 use Rattle.clerk_table.specs.declared.table.Timer.{Timer}
@@ -29,6 +28,10 @@ use Rattle.clerk_plan.specs.Plan.{newRecord, storedPlan, askPlan}
 use Rattle.clerk.specs.Steps.{startedDesk, askMessage, asked, received, acted, reported, receivedBytes}
 use Rattle.clerk.specs.declared.Desk.{Desk}
 use Rattle.clerk.specs.declared.steps.Asking.{Asking}
+
+-- how a record of the clerk's desk is looked at
+abbrev pub clerkView : View Record
+clerkView = record { used = used; name = λ r. r .identifier; blank = blank }
 
 -- ---- a refusal leaves the desk as it was
 abbrev pub Same : Desk → Desk → Outcome → Type 0
@@ -53,14 +56,8 @@ pub record Whole (r : Record) : Type 0 where
   pub service : r .service < 16384
 
 pub record Sound (rs : List Record) : Type 0 where
-  -- used places come first
-  pub compact : (i j : ℕ) → i < j → used (getD rs j blank) ≡ true → used (getD rs i blank) ≡ true
-  -- a place that is not used is blank
-  pub blanks : (i : ℕ) → used (getD rs i blank) ≡ false → getD rs i blank ≡ blank
-  -- identifiers all differ
-  pub differ :
-      (i j : ℕ) → used (getD rs i blank) ≡ true → used (getD rs j blank) ≡ true →
-      getD rs i blank .identifier ≡ getD rs j blank .identifier → i ≡ j
+  -- used places come first, a free one is blank, identifiers all differ
+  pub placed : Placed clerkView rs
   pub each : (i : ℕ) → used (getD rs i blank) ≡ true → Whole (getD rs i blank)
 
 -- ---- a desk reached from the start, by any inputs
@@ -89,29 +86,25 @@ abbrev pub ReachedFull : Type 0
 ReachedFull = (d : Desk) → Reached d → length (d .words) ≡ 192
 
 -- ---- used places come first, in the order of storing, and a freed place is used again
--- how many records a list has
-abbrev pub stored : List Record → ℕ
-stored rs = count used rs
-
 pub record Sixteen : Type 0 where
-  pub most : (rs : List Record) → length rs ≡ 16 → stored rs ≤ 16
+  pub most : (rs : List Record) → length rs ≡ 16 → stored clerkView rs ≤ 16
   -- the first place that is not used is behind all that are, and there is one exactly if fewer than 16 are
-  pub room : (rs : List Record) → Sound rs → length rs ≡ 16 → stored rs < 16 → place rs ≡ At (stored rs)
-  pub full : (rs : List Record) → Sound rs → length rs ≡ 16 → stored rs ≡ 16 → place rs ≡ Nothing
+  pub room : (rs : List Record) → Sound rs → length rs ≡ 16 → stored clerkView rs < 16 → place rs ≡ At (stored clerkView rs)
+  pub full : (rs : List Record) → Sound rs → length rs ≡ 16 → stored clerkView rs ≡ 16 → place rs ≡ Nothing
   -- a new record is one more, a record in another state is none, a removed record is one less
-  pub more : (rs : List Record) (r : Record) → Sound rs → length rs ≡ 16 → stored rs < 16 → used r ≡ true → stored (set rs (stored rs) r) ≡ suc (stored rs)
-  pub same : (rs : List Record) (i : ℕ) (r : Record) → used (getD rs i blank) ≡ true → used r ≡ true → stored (set rs i r) ≡ stored rs
-  pub fewer : (rs : List Record) (i : ℕ) → used (getD rs i blank) ≡ true → suc (stored (without blank rs i)) ≡ stored rs
+  pub more : (rs : List Record) (r : Record) → Sound rs → length rs ≡ 16 → stored clerkView rs < 16 → used r ≡ true → stored clerkView (set rs (stored clerkView rs) r) ≡ suc (stored clerkView rs)
+  pub same : (rs : List Record) (i : ℕ) (r : Record) → used (getD rs i blank) ≡ true → used r ≡ true → stored clerkView (set rs i r) ≡ stored clerkView rs
+  pub fewer : (rs : List Record) (i : ℕ) → used (getD rs i blank) ≡ true → suc (stored clerkView (without blank rs i)) ≡ stored clerkView rs
 
 -- an ask under an identifier that no used record has: stored behind all used ones exactly if fewer than 16 are, and 5 when 16 are
 pub record AskSixteen : Type 0 where
   pub taken :
       (rs : List Record) (l : Letter) (kind : Kind) (service : ℕ) (canKeep : Bool) → Sound rs → length rs ≡ 16 →
-      meant (l .identifier) rs ≡ Nothing → stored rs < 16 →
-      askPlan rs l kind service canKeep ≡ storedPlan (stored rs) (newRecord l kind service canKeep) l
+      meant (l .identifier) rs ≡ Nothing → stored clerkView rs < 16 →
+      askPlan rs l kind service canKeep ≡ storedPlan (stored clerkView rs) (newRecord l kind service canKeep) l
   pub refused :
       (rs : List Record) (l : Letter) (kind : Kind) (service : ℕ) (canKeep : Bool) → Sound rs → length rs ≡ 16 →
-      meant (l .identifier) rs ≡ Nothing → stored rs ≡ 16 →
+      meant (l .identifier) rs ≡ Nothing → stored clerkView rs ≡ 16 →
       askPlan rs l kind service canKeep ≡ refusedPlan 5 Sending.Nothing
 
 -- an ask in range, under an identifier that no used record of the desk has
@@ -128,9 +121,9 @@ askedRecord a = newRecord (letterOf (askMessage a)) (a .kind) (a .service) (a .c
 -- the same on a reached desk: its record is stored behind all used ones; or the desk is full
 pub record AskedBehind : Type 0 where
   pub taken :
-      (d : Desk) → Reached d → (a : Asking) → Proper d a → stored (records (d .words)) < 16 →
-      (asked d a .outcome .refusal ≡ 0) × (records (asked d a .desk .words) ≡ set (records (d .words)) (stored (records (d .words))) (askedRecord a))
-  pub refused : (d : Desk) → Reached d → (a : Asking) → Proper d a → stored (records (d .words)) ≡ 16 → asked d a .outcome .refusal ≡ 5
+      (d : Desk) → Reached d → (a : Asking) → Proper d a → stored clerkView (records (d .words)) < 16 →
+      (asked d a .outcome .refusal ≡ 0) × (records (asked d a .desk .words) ≡ set (records (d .words)) (stored clerkView (records (d .words))) (askedRecord a))
+  pub refused : (d : Desk) → Reached d → (a : Asking) → Proper d a → stored clerkView (records (d .words)) ≡ 16 → asked d a .outcome .refusal ≡ 5
   -- a freed place is used again: after a record was removed the next ask is taken, also where the desk was full
   pub again :
       (d after : Desk) (i : ℕ) → used (getD (records (d .words)) i blank) ≡ true → records (after .words) ≡ without blank (records (d .words)) i →
@@ -146,19 +139,8 @@ pub record SeventeenthRefused : Type 0 where
   pub refused : (d : Desk) → Asks d 16 → (a : Asking) → Proper d a → asked d a .outcome .refusal ≡ 5
 
 -- ---- used records stand in the order of storing
--- the identifiers of the used records, in the order of their places
-unfoldable pub names : List Record → List Words
-names [] = []
-names (r ∷ rs) = pick (used r) (r .identifier ∷ names rs) (names rs)
-
--- a queue, before and after a step: the same, one more at its end, or one taken out and the others in their order
-pub data Queued : List Words → List Words → Type 0 where
-  same : {xs : List Words} → Queued xs xs
-  last : {xs : List Words} (x : Words) → Queued xs (xs ++ (x ∷ []))
-  out : (front : List Words) (x : Words) (behind : List Words) → Queued (front ++ (x ∷ behind)) (front ++ behind)
-
 abbrev pub InOrder : Desk → Desk → Type 0
-InOrder before after = Queued (names (records (before .words))) (names (records (after .words)))
+InOrder before after = Queued (names clerkView (records (before .words))) (names clerkView (records (after .words)))
 
 pub record OrderOfStoring : Type 0 where
   pub asks : (d : Desk) → Reached d → (a : Asking) → Typed a → InOrder d (asked d a .desk)

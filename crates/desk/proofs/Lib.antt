@@ -1,1 +1,2 @@
 pub mod CodesLaws
+pub mod LetterLaws

@@ -1,4 +1,4 @@
--- What a desk sends: a message of a row of its table, or the reply to a message that it refuses.
+-- What a desk sends: a message of a row of its table, or the answer to a message that it refuses or denies.
 use Rattle.lists.specs.declared.words.Words.{Words}
 use Rattle.message.specs.declared.Carrier.{Carrier}
 use Rattle.message.specs.declared.Carrier.the-variants.{ReleaseComplete}
@@ -24,6 +24,6 @@ abbrev pub sent : Sends → Words → Connection → Sending
 sent Sent.Nothing identifier connection = Sending.Nothing
 sent (Sent.One body) identifier connection = Sending.Send (plainLetter identifier (sentIn body connection) body)
 
--- the reply to a refused message carries its identifier, in Release Complete
+-- an answer in Release Complete with the identifier of what it answers: the reply to a refused message, the error of a request that is denied
 abbrev pub replied : Words → Body → Sending
 replied identifier body = Sending.Send (plainLetter identifier ReleaseComplete body)

@@ -1,4 +1,4 @@
-// What a desk sends: a message of a row of its table, or the reply to a message that it refuses. No such type has numbers of digits.
+// What a desk sends: a message of a row of its table, or the answer to a message that it refuses or denies. No such type has numbers of digits.
 use crate::Connection;
 use crate::carriers::sent_in;
 use crate::letter::Letter;
@@ -42,7 +42,7 @@ pub fn sent_for(sends: Sends, identifier: Words, connection: Connection) -> Send
     }
 }
 
-// The reply to a refused message, with its identifier, in Release Complete.
+// An answer in Release Complete with the identifier of what it answers: a reply, or the error of a request that is denied.
 pub fn reply_with(identifier: Words, body: Body) -> Sending
     ensures { λ r. ⌜ r ≡ replied identifier body ⌝ }
 {

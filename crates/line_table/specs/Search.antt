@@ -34,9 +34,13 @@ invoked Alert = false
 abbrev pub ofLine : Words → Record → Bool
 ofLine number r = both (used r) (sameWords (r .numberB) number)
 
+-- the line's Invoked records
+abbrev pub invokedOn : Words → Record → Bool
+invokedOn number r = both (invoked (r .state)) (sameWords (r .numberB) number)
+
 -- ---- a busy report sets the activity mark of that line's Invoked records
 abbrev pub marks : Words → Record → Bool
-marks number r = both (invoked (r .state)) (sameWords (r .numberB) number)
+marks number r = invokedOn number r
 
 -- ---- nothing to offer if one of the line's records is in Alert, or in Await without suspended mark
 abbrev pub waits : State → Bool → Bool
@@ -54,7 +58,7 @@ fitsKind Ccbs active = true
 fitsKind Ccnr active = active
 
 abbrev pub fits : Words → Record → Bool
-fits number r = both (marks number r) (fitsKind (r .kind) (r .active))
+fits number r = both (invokedOn number r) (fitsKind (r .kind) (r .active))
 
 -- ---- a duplicate has the identifier of a live record, or both numberA are given and equal and numberB is equal, either kind
 abbrev pub given : Words → Bool

@@ -6,7 +6,7 @@ use lists::words::Words;
 use lists::words::same_words;
 use message::Kind;
 ghost use mathlib.Core.Path.{_≡_};
-ghost use Rattle.line_table.specs.Search.{inUse, waits, invoked, ofLine, marks, blocks, fitsKind, fits, given, sameNumbers, duplicates, passes, duplicateOf};
+ghost use Rattle.line_table.specs.Search.{inUse, waits, invoked, invokedOn, ofLine, marks, blocks, fitsKind, fits, given, sameNumbers, duplicates, passes, duplicateOf};
 
 // What is looked for; the words are a line's number, or identifier, numberA and numberB of a request.
 pub enum Sought {
@@ -61,9 +61,9 @@ pub fn of_line(number: Words, r: Record) -> bool
     false
 }
 
-// A record that a busy report of a line marks.
-pub fn is_marked(number: Words, r: Record) -> bool
-    ensures { λ q. ⌜ q ≡ marks number r ⌝ }
+// An Invoked record of a line.
+fn is_invoked_on(number: Words, r: Record) -> bool
+    ensures { λ q. ⌜ q ≡ invokedOn number r ⌝ }
 {
     let state = r.state;
     let own = r.numberB;
@@ -71,6 +71,13 @@ pub fn is_marked(number: Words, r: Record) -> bool
         return same_words(own, number);
     }
     false
+}
+
+// A record that a busy report of a line marks.
+pub fn is_marked(number: Words, r: Record) -> bool
+    ensures { λ q. ⌜ q ≡ marks number r ⌝ }
+{
+    is_invoked_on(number, r)
 }
 
 // A record that keeps its line from being offered.
@@ -99,7 +106,7 @@ fn is_fitting(number: Words, r: Record) -> bool
     ensures { λ q. ⌜ q ≡ fits number r ⌝ }
 {
     let kind = r.kind;
-    if is_marked(number, r) {
+    if is_invoked_on(number, r) {
         return fits_kind(kind, r.active);
     }
     false

@@ -2,7 +2,7 @@
 use Prim.Native.Nat.{ℕ, zero, suc, _+_, _≤_, _<_}
 use mathlib.Core.Path.{_≡_, refl, sym, ap, _∙_}
 use mathlib.Core.Bool.{Bool, true, false}
-use mathlib.Core.List.{List, [], _∷_, _++_}
+use mathlib.Core.List.{List, [], _∷_, _++_, map}
 use lib.ListN.{length, set}
 use native.Mathlib.Omega.{arith}
 use Rattle.lists.specs.Choice.{pick}
@@ -48,11 +48,12 @@ module _ {A : Type 0} (v : View A) where
   pub stored-more : (rs : List A) (i : ℕ) (r : A) → placeIn v rs ≡ At i → v .used r ≡ true → stored v (set rs i r) ≡ suc (stored v rs)
   stored-more rs i r free w = stored-filled rs i r (place-inside v rs i free) (place-unused v rs i free) w
 
-  pub stored-same : (rs : List A) (i : ℕ) (r : A) → v .used (at v rs i) ≡ true → v .used r ≡ true → stored v (set rs i r) ≡ stored v rs
+  -- a record put over one, where both are used or none is
+  pub stored-same : (rs : List A) (i : ℕ) (r : A) → v .used r ≡ v .used (at v rs i) → stored v (set rs i r) ≡ stored v rs
   unfolding count
-  stored-same [] i r u w = refl
-  stored-same (x ∷ xs) zero r u w = rw (u, w)
-  stored-same (x ∷ xs) (suc i) r u w = rw (stored-same xs i r u w)
+  stored-same [] i r e = refl
+  stored-same (x ∷ xs) zero r e = rw e
+  stored-same (x ∷ xs) (suc i) r e = rw (stored-same xs i r e)
 
   stored-behind : (rs : List A) → v .used (v .blank) ≡ false → stored v (rs ++ (v .blank ∷ [])) ≡ stored v rs
   unfolding count
@@ -69,6 +70,26 @@ module _ {A : Type 0} (v : View A) where
       by : (b : Bool) {m n : ℕ} → suc m ≡ n → suc (pick b (suc m) m) ≡ pick b (suc n) n
       by true e = ap suc e
       by false e = e
+
+  -- also of a place that is not used
+  pub stored-without : (rs : List A) (i : ℕ) → v .used (v .blank) ≡ false → stored v (without (v .blank) rs i) ≤ stored v rs
+  unfolding count without
+  stored-without [] i free = omega arith
+  stored-without (x ∷ xs) zero free = rw (stored-behind xs free) (by (v .used x) (stored v xs))
+    where
+      by : (b : Bool) (n : ℕ) → n ≤ pick b (suc n) n
+      by true n = omega arith
+      by false n = omega arith
+  stored-without (x ∷ xs) (suc i) free = by (v .used x) (stored-without xs i free)
+    where
+      by : (b : Bool) {m n : ℕ} → m ≤ n → pick b (suc m) m ≤ pick b (suc n) n
+      by true h = omega arith
+      by false h = omega arith
+
+  pub stored-change : (rs : List A) (f : A → A) → ((r : A) → v .used (f r) ≡ v .used r) → stored v (map f rs) ≡ stored v rs
+  unfolding count
+  stored-change [] f keeps = refl
+  stored-change (x ∷ xs) f keeps = rw (keeps x, stored-change xs f keeps)
 
   -- ---- the first free place
   room-from :
@@ -116,7 +137,6 @@ module _ {A : Type 0} (v : View A) where
   pub place-room : (rs : List A) (n : ℕ) → Placed v rs → length rs ≡ n → stored v rs < n → placeIn v rs ≡ At (stored v rs)
   place-room rs n placed l h = room-from rs 0 (placed .compact) (omega arith) ∙ ap At (omega arith)
 
-  -- also of a list that is not placed
   pub place-full : (rs : List A) (n : ℕ) → length rs ≡ n → stored v rs ≡ n → placeIn v rs ≡ Nothing
   place-full rs n l h = full-from rs 0 (omega arith)
 
@@ -125,8 +145,8 @@ counting v =
     record {
       most = stored-most v;
       room = place-room v;
-      full = λ rs n placed. place-full v rs n;
+      full = place-full v;
       more = stored-more v;
-      same = λ rs i r free. stored-same v rs i r;
+      same = λ rs i r was is. stored-same v rs i r (is ∙ sym was);
       fewer = stored-fewer v;
     }

@@ -225,13 +225,13 @@ holding v =
       found = held-found v;
       missed = held-missed v;
       its = meant-its v;
-      own = λ rs i placed free. held-own v rs i placed;
+      own = held-own v;
       somewhere = held-somewhere v;
-      put = λ rs i r placed free. held-put v rs i r placed;
-      put-other = λ rs i r identifier free was is. held-put-other v rs i r identifier;
+      put = held-put v;
+      put-other = held-put-other v;
       add = held-add v;
       add-other = held-add-other v;
-      remove = λ rs i placed free. held-remove v rs i placed;
+      remove = held-remove v;
       remove-other = held-remove-other v;
       change = held-change v;
     }

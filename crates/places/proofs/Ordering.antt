@@ -83,8 +83,8 @@ module _ {A : Type 0} (v : View A) where
 pub ordering : {A : Type 0} (v : View A) → Ordering v
 ordering v =
     record {
-      put = λ rs i r free. names-put v rs i r;
+      put = names-put v;
       add = names-add v;
-      remove = λ rs i free was. names-remove v rs i free;
+      remove = names-remove v;
       change = names-change v;
     }

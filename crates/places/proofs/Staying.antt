@@ -272,6 +272,6 @@ stays-placed v =
       start = start-placed v;
       put = put-placed v;
       add = add-placed v;
-      remove = λ rs i placed free was. remove-placed v rs i placed;
+      remove = remove-placed v;
       change = change-placed v;
     }

@@ -1,13 +1,13 @@
 -- What a record put, added or removed does to a list of places, over any type of record. Each claim is a type; its proof has its name.
 use Prim.Native.Nat.{ℕ, suc, _≤_, _<_}
 use mathlib.Core.Path.{_≡_}
-use mathlib.Core.Bool.{Bool, true, false}
+use mathlib.Core.Bool.{true, false}
 use mathlib.Core.List.{List, [], _∷_, _++_, map}
-use lib.ListN.{length, getD, set}
+use lib.ListN.{length, set}
 use Rattle.lists.specs.Lists.{without}
 use Rattle.lists.specs.declared.Found.the-variants.{At, Nothing}
 use Rattle.lists.specs.declared.words.Words.{Words}
-use Rattle.places.specs.Places.{View, at, Placed, stored, placeIn, meantIn, Held, none, one, held, mapHeld, names, Queued}
+use Rattle.places.specs.Places.{View, at, Placed, stored, placeIn, meantIn, none, one, held, mapHeld, names, Queued}
 
 -- ---- a list stays placed
 pub record StaysPlaced {A : Type 0} (v : View A) : Type 0 where
@@ -21,8 +21,8 @@ pub record StaysPlaced {A : Type 0} (v : View A) : Type 0 where
   pub add :
       (rs : List A) (i : ℕ) (r : A) → Placed v rs → placeIn v rs ≡ At i → meantIn v (v .name r) rs ≡ Nothing → v .used r ≡ true →
       Placed v (set rs i r)
-  -- a used record taken out
-  pub remove : (rs : List A) (i : ℕ) → Placed v rs → v .used (v .blank) ≡ false → v .used (at v rs i) ≡ true → Placed v (without (v .blank) rs i)
+  -- a record taken out
+  pub remove : (rs : List A) (i : ℕ) → Placed v rs → Placed v (without (v .blank) rs i)
   -- every record changed, identifier and use kept, the blank one as it was
   pub change :
       (rs : List A) (f : A → A) → Placed v rs → ((r : A) → v .used (f r) ≡ v .used r) → ((r : A) → v .name (f r) ≡ v .name r) → f (v .blank) ≡ v .blank →
@@ -33,19 +33,19 @@ pub record Counting {A : Type 0} (v : View A) : Type 0 where
   pub most : (rs : List A) (n : ℕ) → length rs ≡ n → stored v rs ≤ n
   -- the first place that is not used is behind all that are, and there is one exactly if not all are
   pub room : (rs : List A) (n : ℕ) → Placed v rs → length rs ≡ n → stored v rs < n → placeIn v rs ≡ At (stored v rs)
-  pub full : (rs : List A) (n : ℕ) → Placed v rs → length rs ≡ n → stored v rs ≡ n → placeIn v rs ≡ Nothing
+  pub full : (rs : List A) (n : ℕ) → length rs ≡ n → stored v rs ≡ n → placeIn v rs ≡ Nothing
   -- a new record is one more, a record put over another is none, a removed record is one less
   pub more : (rs : List A) (i : ℕ) (r : A) → placeIn v rs ≡ At i → v .used r ≡ true → stored v (set rs i r) ≡ suc (stored v rs)
-  pub same : (rs : List A) (i : ℕ) (r : A) → v .used (v .blank) ≡ false → v .used (at v rs i) ≡ true → v .used r ≡ true → stored v (set rs i r) ≡ stored v rs
+  pub same : (rs : List A) (i : ℕ) (r : A) → v .used (at v rs i) ≡ true → v .used r ≡ true → stored v (set rs i r) ≡ stored v rs
   pub fewer : (rs : List A) (i : ℕ) → v .used (v .blank) ≡ false → v .used (at v rs i) ≡ true → suc (stored v (without (v .blank) rs i)) ≡ stored v rs
 
 -- ---- the order of storing
 pub record Ordering {A : Type 0} (v : View A) : Type 0 where
   pub put :
-      (rs : List A) (i : ℕ) (r : A) → v .used (v .blank) ≡ false → v .used (at v rs i) ≡ true → v .used r ≡ true → v .name r ≡ v .name (at v rs i) →
+      (rs : List A) (i : ℕ) (r : A) → v .used (at v rs i) ≡ true → v .used r ≡ true → v .name r ≡ v .name (at v rs i) →
       names v (set rs i r) ≡ names v rs
   pub add : (rs : List A) (i : ℕ) (r : A) → Placed v rs → placeIn v rs ≡ At i → v .used r ≡ true → names v (set rs i r) ≡ names v rs ++ (v .name r ∷ [])
-  pub remove : (rs : List A) (i : ℕ) → v .used (v .blank) ≡ false → v .used (at v rs i) ≡ true → Queued (names v rs) (names v (without (v .blank) rs i))
+  pub remove : (rs : List A) (i : ℕ) → v .used (v .blank) ≡ false → Queued (names v rs) (names v (without (v .blank) rs i))
   pub change : (rs : List A) (f : A → A) → ((r : A) → v .used (f r) ≡ v .used r) → ((r : A) → v .name (f r) ≡ v .name r) → names v (map f rs) ≡ names v rs
 
 -- ---- the record with an identifier: from places to names
@@ -55,16 +55,16 @@ pub record Holding {A : Type 0} (v : View A) : Type 0 where
   -- the record that is found is used and has the identifier
   pub its : (rs : List A) (identifier : Words) (i : ℕ) → meantIn v identifier rs ≡ At i → (v .used (at v rs i) ≡ true) × (v .name (at v rs i) ≡ identifier)
   -- in a placed list a used record is the one with its identifier
-  pub own : (rs : List A) (i : ℕ) → Placed v rs → v .used (v .blank) ≡ false → v .used (at v rs i) ≡ true → held v (v .name (at v rs i)) rs ≡ one (at v rs i)
+  pub own : (rs : List A) (i : ℕ) → Placed v rs → v .used (at v rs i) ≡ true → held v (v .name (at v rs i)) rs ≡ one (at v rs i)
   -- what is held is somewhere
   pub somewhere :
       (rs : List A) (identifier : Words) (r : A) → held v identifier rs ≡ one r → (i : ℕ) × ((meantIn v identifier rs ≡ At i) × (at v rs i ≡ r))
   -- put over the record with the same identifier: that one is held, every other as before
   pub put :
-      (rs : List A) (i : ℕ) (r : A) → Placed v rs → v .used (v .blank) ≡ false → v .used (at v rs i) ≡ true → v .used r ≡ true → v .name r ≡ v .name (at v rs i) →
+      (rs : List A) (i : ℕ) (r : A) → Placed v rs → v .used (at v rs i) ≡ true → v .used r ≡ true → v .name r ≡ v .name (at v rs i) →
       held v (v .name r) (set rs i r) ≡ one r
   pub put-other :
-      (rs : List A) (i : ℕ) (r : A) (identifier : Words) → v .used (v .blank) ≡ false → v .used (at v rs i) ≡ true → v .used r ≡ true → v .name r ≡ v .name (at v rs i) →
+      (rs : List A) (i : ℕ) (r : A) (identifier : Words) → v .name r ≡ v .name (at v rs i) →
       (v .name r ≡ identifier → ⊥) → held v identifier (set rs i r) ≡ held v identifier rs
   -- a new record at the first free place
   pub add :
@@ -75,7 +75,7 @@ pub record Holding {A : Type 0} (v : View A) : Type 0 where
       held v identifier (set rs i r) ≡ held v identifier rs
   -- a record taken out is held no more, every other as before
   pub remove :
-      (rs : List A) (i : ℕ) → Placed v rs → v .used (v .blank) ≡ false → v .used (at v rs i) ≡ true →
+      (rs : List A) (i : ℕ) → Placed v rs → v .used (at v rs i) ≡ true →
       held v (v .name (at v rs i)) (without (v .blank) rs i) ≡ none
   pub remove-other :
       (rs : List A) (i : ℕ) (identifier : Words) → v .used (v .blank) ≡ false → (v .name (at v rs i) ≡ identifier → ⊥) →

@@ -5,6 +5,7 @@ use crate::fields::behind;
 use crate::fields::byte_in;
 use crate::fields::digits_at;
 use crate::fields::identifier_at;
+use crate::fields::left_of;
 use crate::fields::pair_at;
 use crate::outcome_line::print_outcome;
 use crate::outcome_line::print_started;
@@ -131,14 +132,6 @@ pub fn play_ask(script: &[u8], at: usize, number: usize, line: &mut [u8], d: Des
             stopped(d)
         }
     }
-}
-
-// How many bytes stand behind those that were read.
-fn left_of(count: usize, read: usize) -> usize {
-    if read <= count {
-        return count - read;
-    }
-    0
 }
 
 fn bytes_to(

@@ -25,6 +25,14 @@ pub fn byte_in(script: &[u8], at: usize, offset: usize) -> u8 {
     0
 }
 
+// How many bytes stand behind those that were read.
+pub fn left_of(count: usize, read: usize) -> usize {
+    if read <= count {
+        return count - read;
+    }
+    0
+}
+
 // An identifier.
 pub fn identifier_at(script: &[u8], at: usize) -> [u8; 16] {
     [

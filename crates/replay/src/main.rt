@@ -4,8 +4,12 @@ mod clerk_entries;
 mod clerk_lines;
 mod codec;
 mod fields;
+mod line_entries;
+mod line_lines;
+mod lines_given;
 mod outcome_line;
 mod output;
+mod record_fields;
 mod script;
 
 use crate::clerk_entries::Played;
@@ -18,6 +22,9 @@ use crate::clerk_entries::play_start;
 use crate::clerk_entries::play_timer;
 use crate::clerk_entries::stopped;
 use crate::codec::play_write;
+use crate::line_entries::first_desk;
+use crate::line_entries::is_line_code;
+use crate::line_entries::play_line_code;
 use crate::output::end_line;
 use crate::output::put_number;
 use crate::output::put_text;
@@ -35,8 +42,8 @@ fn write_entry(script: &[u8], at: usize, number: usize, line: &mut [u8], d: Desk
     Played { next, desk: d }
 }
 
-// The entry behind its code.
-fn play_code(
+// The entry behind its code, of those that are not the line desk's.
+fn play_clerk_code(
     code: u8,
     script: &[u8],
     at: usize,
@@ -58,11 +65,38 @@ fn play_code(
     }
 }
 
-// The entry at a place.
-fn play_entry(script: &[u8], at: usize, number: usize, line: &mut [u8], d: Desk) -> Played {
+fn at_clerk(
+    code: u8,
+    script: &[u8],
+    at: usize,
+    number: usize,
+    line: &mut [u8],
+    words: &mut [u64; 192],
+) -> Next {
+    let played = play_clerk_code(code, script, at, number, line, Desk { words: *words });
+    let after = played.desk;
+    let kept = after.words;
+    *words = kept;
+    played.next
+}
+
+// The entry at a place, on the desk that its code names.
+fn play_entry(
+    script: &[u8],
+    at: usize,
+    number: usize,
+    line: &mut [u8],
+    clerkWords: &mut [u64; 192],
+    lineWords: &mut [u64; 498],
+) -> Next {
     match byte_at(script, at) {
-        ByteRead::Ended => stopped(d),
-        ByteRead::Byte(code, behind) => play_code(code, script, behind, number, line, d),
+        ByteRead::Ended => Next::Stop,
+        ByteRead::Byte(code, behind) => {
+            if is_line_code(code) {
+                return play_line_code(code, script, behind, number, line, lineWords);
+            }
+            at_clerk(code, script, behind, number, line, clerkWords)
+        }
     }
 }
 
@@ -77,15 +111,15 @@ fn print_stop(line: &mut [u8], number: usize) {
 fn play(script: &[u8], line: &mut [u8]) {
     let mut at = 0;
     let mut number = 0;
-    let mut d = start();
+    let clerkDesk = start();
+    let lineDesk = first_desk();
+    let mut clerkWords = clerkDesk.words;
+    let mut lineWords = lineDesk.words;
     while number < script.len() {
         if script.len() <= at {
             return;
         }
-        let played = play_entry(script, at, number, line, d);
-        d = played.desk;
-        let next = played.next;
-        match next {
+        match play_entry(script, at, number, line, &mut clerkWords, &mut lineWords) {
             Next::Stop => {
                 print_stop(line, number);
                 return;

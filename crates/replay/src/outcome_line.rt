@@ -46,7 +46,7 @@ fn put_sending(line: &mut [u8], at: usize, sending: Sending) -> usize {
 }
 
 // A bit of a sum.
-fn bit(choice: bool, value: usize) -> usize {
+pub fn bit(choice: bool, value: usize) -> usize {
     if choice {
         return value;
     }
@@ -54,7 +54,7 @@ fn bit(choice: bool, value: usize) -> usize {
 }
 
 // A sum that stays below 16, as every sum of the four bits does.
-fn plus(a: usize, b: usize) -> usize {
+pub fn plus(a: usize, b: usize) -> usize {
     if a < 16 {
         if b < 16 {
             return a + b;

@@ -7,13 +7,16 @@ use Rattle.replay.proofs.play.Statement.{statement}
 use Rattle.replay.proofs.play.Tie as tie
 
 abbrev Inv-loop : tie.InvT-loop
-Inv-loop script line₀ at₀ number₀ d₀ line at number d = length line ≡ length line₀
+Inv-loop script line₀ at₀ number₀ clerkWords₀ lineWords₀ line at number clerkWords lineWords = length line ≡ length line₀
 
 abbrev μ-loop : tie.MeasureT-loop
-μ-loop script line₀ at₀ number₀ d₀ line at number d = length script - number
+μ-loop script line₀ at₀ number₀ clerkWords₀ lineWords₀ line at number clerkWords lineWords = length script - number
 
 start-requires : tie.Need-start-requires Inv-loop μ-loop
 start-requires c κs = search needs
+
+first-desk-requires : tie.Need-first-desk-requires Inv-loop μ-loop
+first-desk-requires c κs = search needs
 
 loop-holds : tie.Need-loop-holds Inv-loop μ-loop
 loop-holds c = search needs
@@ -39,8 +42,8 @@ same-length-2 c = search needs
 returns-2 : tie.Need-returns-2 Inv-loop μ-loop
 returns-2 c = search needs
 
-enum-known-next : tie.Need-enum-known-next Inv-loop μ-loop
-enum-known-next c = search needs
+enum-known-place : tie.Need-enum-known-place Inv-loop μ-loop
+enum-known-place c = search needs
 
 add-number : tie.Need-add-number Inv-loop μ-loop
 add-number c = search needs
@@ -64,6 +67,7 @@ play-spec =
     Inv-loop
     μ-loop
     start-requires
+    first-desk-requires
     loop-holds
     same-length
     returns
@@ -72,7 +76,7 @@ play-spec =
     print-stop-requires
     same-length-2
     returns-2
-    enum-known-next
+    enum-known-place
     add-number
     loop-less
     loop-again
