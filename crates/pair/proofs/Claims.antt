@@ -1,0 +1,202 @@
+-- The five claims of demand 3: what holds of one request's net holds of the world that it is read from.
+use Prim.Native.Nat.{ℕ}
+use mathlib.Core.Path.{_≡_, refl, sym, _∙_, ap, subst}
+use mathlib.Core.Bool.{Bool, true, false, true≢false, false≢true}
+use mathlib.Core.Logic.{_⊎_, inl, inr}
+use mathlib.Core.List.{List, [], _∷_, map}
+use native.Mathlib.Omega.{arith}
+use Rattle.lists.specs.Words.{Bytes, wordsOf}
+use Rattle.lists.specs.declared.words.Words.{Words}
+use Rattle.message.specs.declared.Message.{Message}
+use Rattle.desk.specs.declared.Connection.{Connection}
+use Rattle.desk.specs.declared.Connection.the-variants as Connection
+use Rattle.desk.specs.declared.Keep.the-variants as Keep
+use Rattle.places.specs.Places as P
+use Rattle.clerk_table.specs.declared.record.Record as ClerkRecord
+use Rattle.clerk_table.specs.declared.table.State.the-variants as ClerkState
+use Rattle.line_table.specs.declared.record.Record as LineRecord
+use Rattle.line_table.specs.declared.table.State.the-variants as LineState
+use Rattle.pair_request.specs.Reading as R
+use Rattle.pair_request.specs.Listed as RL
+use Rattle.pair_request.proofs.Over.{Over}
+use Rattle.pair_request.proofs.Claims.{acked-was-accepted, TakesUp, accepts-by-request, both-hold-waiting, both-hold-live, quiet-pair, over-now, over-next}
+use Rattle.pair.specs.World.{World, Event, lineHears, clerkHolds, lineHolds, messagesOf, has, next, Allowed, Run, stop, then, startWorld, Reached, reached}
+use Rattle.pair.specs.Claims.{Acknowledged, Accepted, AcknowledgedWasAccepted, Agree, DataAgree, Listed, no-record, invoked, wait-answer, suspended, ringout, QuietListed, OverForGood}
+use Rattle.pair.proofs.Ends.{clerkRead, clerkRecord, lineRead, lineRecord, messageRead, keepRead, connRead, clerkStateRead, lineStateRead, suspendedRead}
+use Rattle.pair.proofs.Sim.{Sim, Good, Follows, stays, moves}
+use Rattle.pair.proofs.ClerkSteps.{Known}
+use Rattle.pair.proofs.Runs.{step-world, good-next, follows-reach, startPolicy, good-start, start-sim, known-start, run-good}
+
+-- ---- what is held is what is read
+abbrev recordIn : {A : Type 0} → A → P.Held A → A
+recordIn r P.none = r
+recordIn r (P.one q) = q
+
+same-record : {A : Type 0} (q r : A) → P.one q ≡ P.one r → q ≡ r
+same-record q r e = ap (recordIn q) e
+
+not-none : {A : Type 0} {B : Type 0} (r : A) → P.none ≡ P.one r → B
+not-none r e = let z : _≡_ {A = ℕ} 0 1 = cc in absurd (omega (arith, z))
+
+pub known-world : (w : World) → Reached w → (p : R.Policy) × (Good p w × Known p w)
+known-world w (reached given keep retain b run) =
+    (startPolicy given keep retain, run-good run (good-start given keep retain b) (known-start given keep retain))
+
+-- ---- 1. accepted first
+-- the run goes on
+longer : {first w : World} {j : Words} → Accepted first w j → (e : Event) → Allowed w e → Accepted first (next w e) j
+longer a e once =
+    record { before = a .before; sooner = a .sooner; absent = a .absent; stored = a .stored; present = a .present; later = then (a .later) e once }
+
+-- a step by which the net was accepted: the line's end, which held nothing, heard the request and stored it
+accepted-now :
+    {p : R.Policy} {first w : World} {e : Event} {j : Words} {n m : R.Net} → Run first w → Sim j w n → Sim j (next w e) m → TakesUp p n m → e ≡ lineHears →
+    Accepted first (next w e) j
+accepted-now {p} {first} {w} {e} {j} {n} {m} run sim after t h =
+    let r = lineRecord j (after .active) (t .asked-data) (R.keepOf p (t .can-keep)) (R.connOf p (t .preference)) R.idle in
+    let here : lineHolds (next w e) j ≡ P.one r = after .line ∙ ap (lineRead j (after .active)) (t .holds-now) in
+    record {
+      before = w;
+      sooner = run;
+      absent = sim .line ∙ ap (lineRead j (sim .active)) (t .held-none);
+      stored = r;
+      present = subst (λ x. lineHolds (next w x) j ≡ P.one r) h here;
+      later = subst (λ x. Run (next w x) (next w e)) h stop;
+    }
+
+abbrev History : World → World → R.Policy → Words → Type 0
+History first w p j = (n : R.Net) × (R.Reach p n × (Sim j w n × (n .accepted ≡ true → Accepted first w j)))
+
+accepted-step :
+    {p : R.Policy} {first w : World} {e : Event} {j : Words} {n m : R.Net} → Run first w → Allowed w e → R.Reach p n → Sim j w n → Sim j (next w e) m →
+    (n .accepted ≡ true → Accepted first w j) → Follows p e n m → m .accepted ≡ true → Accepted first (next w e) j
+accepted-step {e} run once r sim after before stays h = longer (before h) e once
+accepted-step {p} {first} {w} {e} {j} {n} run once r sim after before (moves x heard) h = go (n .accepted) refl
+  where
+    go : (b : Bool) → n .accepted ≡ b → Accepted first (next w e) j
+    go true q = longer (before q) e once
+    go false q =
+        let t = accepts-by-request x r q h in
+        accepted-now run sim after (t .2) (heard (t .0) (t .1))
+
+run-history :
+    (given : List ℕ) (keep retain : Bool) → Bytes given → {w : World} → Run (startWorld given keep retain) w → (j : Words) →
+    History (startWorld given keep retain) w (startPolicy given keep retain) j
+run-history given keep retain b stop j = (R.start, (R.begin, (start-sim given keep retain j, λ e. absurd (false≢true e))))
+run-history given keep retain b (then {w} run e once) j =
+    let p = startPolicy given keep retain in
+    let h = run-history given keep retain b run j in
+    let g = run-good run (good-start given keep retain b) (known-start given keep retain) in
+    let s = step-world p w (g .0) (g .1) e once j (h .0) (h .1 .0) (h .1 .1 .0) in
+    (s .0, (follows-reach (s .1 .0) (h .1 .0), (s .1 .1, accepted-step run once (h .1 .0) (h .1 .1 .0) (s .1 .1) (h .1 .1 .1) (s .1 .0))))
+
+-- an acknowledged record is read as a live one
+acknowledged-accepted :
+    {p : R.Policy} (n : R.Net) (j : Words) (c : ClerkRecord.Record) (k : R.Clerk) → R.Reach p n → n .clerk ≡ k → P.one c ≡ clerkRead j k → Acknowledged c → n .accepted ≡ true
+acknowledged-accepted n j c R.absent r q e a = not-none c (sym e)
+acknowledged-accepted n j c (R.waiting d ck) r q e a =
+    absurd
+    (a (ap (λ (x : ClerkRecord.Record). x .connection) (same-record c (clerkRecord j d ck ClerkState.WaitAck Keep.Empty Connection.Empty) e)))
+acknowledged-accepted n j c (R.live d ck k m s) r q e a = acked-was-accepted d ck k m s r q
+
+pub acknowledged-was-accepted : AcknowledgedWasAccepted
+acknowledged-was-accepted given keep retain b w run j c e a =
+    let h = run-history given keep retain b run j in
+    h .1 .1 .1 (acknowledged-accepted (h .0) j c (h .0 .clerk) (h .1 .0) refl (sym e ∙ h .1 .1 .0 .clerk) a)
+
+-- ---- 2. the data agree
+agree-waiting :
+    (j : Words) (active : Bool) (d d′ : R.Data) (ck k : Bool) (n : R.Conn) (s : R.LState) → d ≡ d′ →
+    Agree (clerkRecord j d ck ClerkState.WaitAck Keep.Empty Connection.Empty) (lineRecord j active d′ k n s)
+agree-waiting j active d d′ ck k n s e =
+    record {
+      numberA = ap (λ (x : R.Data). x .numberA) e;
+      numberB = ap (λ (x : R.Data). x .numberB) e;
+      service = ap (λ (x : R.Data). x .service) e;
+      kind = ap (λ (x : R.Data). x .kind) e;
+      keep = λ a. absurd (a refl);
+      connection = λ a. absurd (a refl);
+    }
+
+agree-live :
+    (j : Words) (active : Bool) (d d′ : R.Data) (ck k k′ : Bool) (n n′ : R.Conn) (x : R.CState) (y : R.LState) → d ≡ d′ → k ≡ k′ → n ≡ n′ →
+    Agree (clerkRecord j d ck (clerkStateRead x) (keepRead k) (connRead n)) (lineRecord j active d′ k′ n′ y)
+agree-live j active d d′ ck k k′ n n′ x y e f g =
+    record {
+      numberA = ap (λ (z : R.Data). z .numberA) e;
+      numberB = ap (λ (z : R.Data). z .numberB) e;
+      service = ap (λ (z : R.Data). z .service) e;
+      kind = ap (λ (z : R.Data). z .kind) e;
+      keep = λ a. ap keepRead f;
+      connection = λ a. ap connRead g;
+    }
+
+agree-net :
+    {p : R.Policy} (n : R.Net) → R.Reach p n → (j : Words) (active : Bool) (c : ClerkRecord.Record) (l : LineRecord.Record) (k : R.Clerk) (m : R.Line) →
+    n .clerk ≡ k → n .line ≡ m → P.one c ≡ clerkRead j k → P.one l ≡ lineRead j active m → Agree c l
+agree-net n r j active c l R.absent m q s e f = not-none c (sym e)
+agree-net n r j active c l (R.waiting d ck) R.none q s e f = not-none l (sym f)
+agree-net n r j active c l (R.waiting d ck) (R.holds d′ k x y) q s e f =
+    let u = clerkRecord j d ck ClerkState.WaitAck Keep.Empty Connection.Empty in
+    let v = lineRecord j active d′ k x y in
+    subst (λ a. Agree a l) (sym (same-record c u e))
+    (subst (λ b. Agree u b) (sym (same-record l v f)) (agree-waiting j active d d′ ck k x y (both-hold-waiting d d′ ck k x y r q s)))
+agree-net n r j active c l (R.live d ck k x t) R.none q s e f = not-none l (sym f)
+agree-net n r j active c l (R.live d ck k x t) (R.holds d′ k′ x′ y) q s e f =
+    let u = clerkRecord j d ck (clerkStateRead t) (keepRead k) (connRead x) in
+    let v = lineRecord j active d′ k′ x′ y in
+    let h = both-hold-live d d′ ck k k′ x x′ t y r q s in
+    subst (λ a. Agree a l) (sym (same-record c u e))
+    (subst (λ b. Agree u b) (sym (same-record l v f)) (agree-live j active d d′ ck k k′ x x′ t y (h .0) (h .1) (h .2)))
+
+pub data-agree : DataAgree
+data-agree w reach j c l e f =
+    let g = known-world w reach in
+    let k = g .1 .1 j in
+    let sim = k .1 .1 in
+    agree-net (k .0) (k .1 .0) j (sim .active) c l (k .0 .clerk) (k .0 .line) refl refl (sym e ∙ sim .clerk) (sym f ∙ sim .line)
+
+-- ---- 3. quiet wires mean a listed pair
+listed-read : {c : R.Clerk} {l : R.Line} (j : Words) (active : Bool) → RL.Listed c l → Listed (clerkRead j c) (lineRead j active l)
+listed-read j active RL.no-record = no-record
+listed-read j active RL.invoked-invoked = invoked refl refl
+listed-read j active RL.answer-await = wait-answer refl refl
+listed-read j active RL.suspended-await = suspended refl refl refl
+listed-read j active RL.ringout-alert = ringout refl refl
+
+quiet-wire : (j : Words) (ms : List R.Msg) → map (messageRead j) ms ≡ [] → ms ≡ []
+quiet-wire j [] e = refl
+quiet-wire j (m ∷ ms) e = let z : _≡_ {A = ℕ} 0 1 = cc in absurd (omega (arith, z))
+
+pub quiet-listed : QuietListed
+quiet-listed w reach j d u v =
+    let k = known-world w reach .1 .1 j in
+    let n = k .0 in
+    let sim = k .1 .1 in
+    let q = quiet-pair (k .1 .0) (sym (sim .dropped) ∙ d) (quiet-wire j (n .up) (sym (sim .up) ∙ u)) (quiet-wire j (n .down) (sym (sim .down) ∙ v)) in
+    subst (λ x. Listed x (lineHolds w j)) (sym (sim .clerk))
+    (subst (λ x. Listed (clerkRead j (n .clerk)) x) (sym (sim .line)) (listed-read j (sim .active) q))
+
+-- ---- 4. run-out timers mean nobody holds it
+follows-over : {p : R.Policy} {e : Event} {n m : R.Net} → Follows p e n m → Over n → Over m
+follows-over stays h = h
+follows-over {p} (moves x heard) h = over-next p x h
+
+run-over :
+    {p : R.Policy} {first w : World} → Run first w → Good p first → Known p first → (j : Words) (n : R.Net) → R.Reach p n → Sim j first n → Over n →
+    (m : R.Net) × (R.Reach p m × (Sim j w m × Over m))
+run-over stop g known j n r sim h = (n, (r, (sim, h)))
+run-over {p} (then {w} run e once) g known j n r sim h =
+    let i = run-over run g known j n r sim h in
+    let here = run-good run g known in
+    let s = step-world p w (here .0) (here .1) e once j (i .0) (i .1 .0) (i .1 .1 .0) in
+    (s .0, (follows-reach (s .1 .0) (i .1 .0), (s .1 .1, follows-over (s .1 .0) (i .1 .1 .1))))
+
+pub over-for-good : OverForGood
+over-for-good w reach j t u none later run =
+    let g = known-world w reach in
+    let k = g .1 .1 j in
+    let sim = k .1 .1 in
+    let o = run-over run (g .1 .0) (g .1 .1) j (k .0) (k .1 .0) sim (over-now (k .1 .0) (sym (sim .timedOut) ∙ t) (sym (sim .guarded) ∙ u)) in
+    let there = o .1 .1 .0 in
+    (there .clerk ∙ ap (clerkRead j) (o .1 .1 .1 .clerk-none), there .line ∙ ap (lineRead j (there .active)) (o .1 .1 .1 .line-none))

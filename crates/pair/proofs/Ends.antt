@@ -1,0 +1,195 @@
+-- One request's records and messages, read in the words of crate pair_request; and what it is for a step of a desk to do what the reading says.
+use Prim.Native.Nat.{ℕ}
+use mathlib.Core.Path.{_≡_}
+use mathlib.Core.Bool.{Bool, true, false}
+use mathlib.Core.List.{List, [], _∷_, map}
+use Rattle.lists.specs.Choice.{pick}
+use Rattle.lists.specs.Words.{wordsOf, bytesOf}
+use Rattle.lists.specs.declared.words.Words.{Words}
+use Rattle.message.specs.Format.{requestBody, inRange}
+use Rattle.message.specs.declared.Carrier.the-variants as Carrier
+use Rattle.message.specs.declared.Body.the-variants as Body
+use Rattle.message.specs.declared.Message.{Message}
+use Rattle.desk.specs.Letter.{letterOf, messageOf}
+use Rattle.desk.specs.Sends.{plainLetter}
+use Rattle.desk.specs.declared.Connection.{Connection}
+use Rattle.desk.specs.declared.Connection.the-variants as Connection
+use Rattle.desk.specs.declared.Keep.{Keep}
+use Rattle.desk.specs.declared.Keep.the-variants as Keep
+use Rattle.desk.specs.declared.letter.Letter.{Letter}
+use Rattle.places.specs.Places as P
+use Rattle.clerk_table.specs.declared.table.State as ClerkStates
+use Rattle.clerk_table.specs.declared.table.State.the-variants as ClerkState
+use Rattle.clerk_table.specs.declared.table.Timer.{Timer}
+use Rattle.clerk_table.specs.declared.table.Timer.the-variants.{T1, T2, T3}
+use Rattle.clerk_table.specs.declared.record.Record as ClerkRecord
+use Rattle.clerk_table.specs.declared.inputs.Act as ClerkActs
+use Rattle.clerk_table.specs.declared.inputs.Act.the-variants as ClerkAct
+use Rattle.clerk_records.specs.Records as ClerkRecords
+use Rattle.clerk.specs.Steps.{askFlags}
+use Rattle.clerk.specs.declared.steps.Stepped as ClerkStepped
+use Rattle.clerk.specs.declared.steps.Asking.{Asking}
+use Rattle.clerk_sound.specs.Sound.{clerkView}
+use Rattle.line_table.specs.declared.table.State as LineStates
+use Rattle.line_table.specs.declared.table.State.the-variants as LineState
+use Rattle.line_table.specs.declared.record.Record as LineRecord
+use Rattle.line_table.specs.declared.inputs.Act as LineActs
+use Rattle.line_table.specs.declared.inputs.Act.the-variants as LineAct
+use Rattle.line_records.specs.Records as LineRecords
+use Rattle.line_records.specs.Lines.{keeps, retains}
+use Rattle.line.specs.declared.steps.Stepped as LineStepped
+use Rattle.line_sound.specs.Sound.{lineView}
+use Rattle.pair_request.specs.Reading as R
+use Rattle.pair.specs.World.{sentBy}
+use Rattle.desk.specs.Letter.{numberWords}
+
+-- ---- choices and states
+abbrev pub keepRead : Bool → Keep
+keepRead true = Keep.Keeps
+keepRead false = Keep.Ends
+
+abbrev pub connRead : R.Conn → Connection
+connRead R.ret = Connection.Ret
+connRead R.rls = Connection.Rls
+
+abbrev pub clerkStateRead : R.CState → ClerkStates.State
+clerkStateRead R.invoked = ClerkState.Invoked
+clerkStateRead R.waitAnswer = ClerkState.WaitAnswer
+clerkStateRead R.ringing = ClerkState.Ringout
+clerkStateRead R.suspended = ClerkState.Suspended
+
+abbrev pub lineStateRead : R.LState → LineStates.State
+lineStateRead R.idle = LineState.Invoked
+lineStateRead (R.await m) = LineState.Await
+lineStateRead R.alert = LineState.Alert
+
+abbrev pub suspendedRead : R.LState → Bool
+suspendedRead R.idle = false
+suspendedRead (R.await m) = m
+suspendedRead R.alert = false
+
+-- ---- what an end holds of the request with an identifier
+abbrev pub clerkRecord : Words → R.Data → Bool → ClerkStates.State → Keep → Connection → ClerkRecord.Record
+clerkRecord identifier d ck state keep connection =
+    record {
+      identifier = identifier;
+      numberA = d .numberA;
+      numberB = d .numberB;
+      service = d .service;
+      kind = d .kind;
+      state = state;
+      keep = keep;
+      connection = connection;
+      canKeep = ck;
+    }
+
+abbrev pub clerkRead : Words → R.Clerk → P.Held ClerkRecord.Record
+clerkRead identifier R.absent = P.none
+clerkRead identifier (R.waiting d ck) = P.one (clerkRecord identifier d ck ClerkState.WaitAck Keep.Empty Connection.Empty)
+clerkRead identifier (R.live d ck k n s) = P.one (clerkRecord identifier d ck (clerkStateRead s) (keepRead k) (connRead n))
+
+-- the activity mark is no part of the reading
+abbrev pub lineRecord : Words → Bool → R.Data → Bool → R.Conn → R.LState → LineRecord.Record
+lineRecord identifier active d k n s =
+    record {
+      identifier = identifier;
+      numberA = d .numberA;
+      numberB = d .numberB;
+      service = d .service;
+      kind = d .kind;
+      state = lineStateRead s;
+      keep = keepRead k;
+      connection = connRead n;
+      active = active;
+      suspended = suspendedRead s;
+    }
+
+abbrev pub lineRead : Words → Bool → R.Line → P.Held LineRecord.Record
+lineRead identifier active R.none = P.none
+lineRead identifier active (R.holds d k n s) = P.one (lineRecord identifier active d k n s)
+
+-- ---- its messages
+abbrev pub byConn : {A : Type 0} → R.Conn → A → A → A
+byConn R.ret retained released = retained
+byConn R.rls retained released = released
+
+abbrev pub letterRead : Words → R.Msg → Letter
+letterRead identifier (R.request d ck q) =
+    record {
+      carrier = Carrier.Setup;
+      identifier = identifier;
+      numberA = d .numberA;
+      numberB = d .numberB;
+      body = requestBody (d .kind) (d .service) (askFlags ck q);
+    }
+letterRead identifier (R.result k n) = plainLetter identifier (byConn n Carrier.Connect Carrier.ReleaseComplete) (Body.RequestResult (pick k 1 0))
+letterRead identifier (R.denied short) = plainLetter identifier Carrier.ReleaseComplete (Body.RequestError (pick short 1 2))
+letterRead identifier (R.exec n) = plainLetter identifier (byConn n Carrier.Facility Carrier.Setup) Body.CcExecPossible
+letterRead identifier R.ringout = plainLetter identifier Carrier.Setup Body.CcRingout
+letterRead identifier R.busyAgain = plainLetter identifier Carrier.ReleaseComplete (Body.RingoutError 1)
+letterRead identifier R.noMatch = plainLetter identifier Carrier.ReleaseComplete (Body.RingoutError 2)
+letterRead identifier (R.suspend n) = plainLetter identifier (byConn n Carrier.Facility Carrier.ReleaseComplete) Body.CcSuspend
+letterRead identifier (R.resume n) = plainLetter identifier (byConn n Carrier.Facility Carrier.Setup) Body.CcResume
+letterRead identifier (R.cancel n) = plainLetter identifier (byConn n Carrier.ReleaseComplete Carrier.Setup) Body.CcCancel
+letterRead identifier R.alerts = plainLetter identifier Carrier.Alerting Body.CallAlerts
+letterRead identifier R.failed = plainLetter identifier Carrier.ReleaseComplete Body.CallFailed
+
+abbrev pub messageRead : Words → R.Msg → Message
+messageRead identifier m = messageOf (letterRead identifier m)
+
+-- a message as it was sent: it is in range, and read as a letter it is the letter that was sent
+pub record Clear (identifier : Words) (m : R.Msg) : Type 0 where
+  pub back : letterOf (messageRead identifier m) ≡ letterRead identifier m
+  pub ranged : inRange (messageRead identifier m) ≡ true
+
+-- an identifier that its sixteen bytes give back
+abbrev pub Kept : Words → Type 0
+Kept identifier = wordsOf (bytesOf identifier) ≡ identifier
+
+-- the data of an ask
+abbrev pub dataOf : Asking → R.Data
+dataOf a = record { numberA = numberWords (a .numberA); numberB = numberWords (a .numberB); service = a .service; kind = a .kind }
+
+-- ---- inputs
+abbrev pub clerkActRead : ClerkActs.Act → R.CAct
+clerkActRead ClerkAct.Accept = R.accept
+clerkActRead ClerkAct.Resume = R.resumes
+clerkActRead ClerkAct.GoOn = R.recalls
+clerkActRead ClerkAct.Cancel = R.quits
+
+abbrev pub timerRead : Timer → R.CAct
+timerRead T1 = R.t1
+timerRead T2 = R.t2
+timerRead T3 = R.t3
+
+abbrev pub lineActRead : LineActs.Act → R.LAct
+lineActRead LineAct.Alerted = R.alerted
+lineActRead LineAct.CallFailed = R.callFailed
+lineActRead LineAct.Cancel = R.cancels
+
+abbrev pub policyOf : List ℕ → R.Policy
+policyOf words = record { keeps = keeps words; default = pick (retains words) R.ret R.rls }
+
+-- ---- a step of a desk that is about one request, and what it does to that request and to every other
+pub record ClerkStep (before : List ℕ) (step : ClerkStepped.Stepped) (identifier : Words) (reading : R.Clerk → R.CAnswer) : Type 0 where
+  pub others :
+      (other : Words) → (identifier ≡ other → ⊥) →
+      P.held clerkView other (ClerkRecords.records (step .desk .words)) ≡ P.held clerkView other (ClerkRecords.records before)
+  pub itself :
+      (c : R.Clerk) → P.held clerkView identifier (ClerkRecords.records before) ≡ clerkRead identifier c →
+      P.held clerkView identifier (ClerkRecords.records (step .desk .words)) ≡ clerkRead identifier (reading c .0)
+  pub sends :
+      (c : R.Clerk) → P.held clerkView identifier (ClerkRecords.records before) ≡ clerkRead identifier c →
+      sentBy (step .outcome .sending) ≡ map (messageRead identifier) (reading c .1)
+
+pub record LineStep (before : List ℕ) (step : LineStepped.Stepped) (identifier : Words) (reading : R.Line → R.LAnswer) : Type 0 where
+  pub others :
+      (other : Words) → (identifier ≡ other → ⊥) →
+      P.held lineView other (LineRecords.records (step .desk .words)) ≡ P.held lineView other (LineRecords.records before)
+  pub itself :
+      (l : R.Line) (active : Bool) → P.held lineView identifier (LineRecords.records before) ≡ lineRead identifier active l →
+      (after : Bool) × (P.held lineView identifier (LineRecords.records (step .desk .words)) ≡ lineRead identifier after (reading l .0))
+  pub sends :
+      (l : R.Line) (active : Bool) → P.held lineView identifier (LineRecords.records before) ≡ lineRead identifier active l →
+      sentBy (step .outcome .sending) ≡ map (messageRead identifier) (reading l .1)
+  pub settings : policyOf (step .desk .words) ≡ policyOf before

@@ -1,0 +1,50 @@
+-- What the laws of each desk give to a world: a reached desk has its records placed and all its words, a started one holds nothing.
+use Prim.Native.Nat.{ℕ, suc}
+use mathlib.Core.Path.{_≡_, refl, sym, _∙_, ap}
+use mathlib.Core.Bool.{Bool, true, false}
+use mathlib.Core.List.{List, [], _∷_}
+use lib.ListN.{length, getD}
+use Rattle.lists.specs.declared.words.Words.{Words}
+use Rattle.places.specs.Places as P
+use Rattle.places.proofs.Holding.{identified-unused}
+use Rattle.clerk_records.specs.Records as ClerkRecords
+use Rattle.clerk.specs.Steps.{startedDesk}
+use Rattle.clerk.specs.declared.Desk as ClerkDesk
+use Rattle.clerk_sound.specs.Sound as ClerkSound
+use Rattle.clerk_sound.proofs.Start as ClerkStart
+use Rattle.clerk_sound.proofs.Reaching as ClerkReaching
+use Rattle.line_table.specs.Search.{used}
+use Rattle.line_records.specs.Records as LineRecords
+use Rattle.line.specs.Start.{started}
+use Rattle.line.specs.declared.Desk as LineDesk
+use Rattle.line_sound.specs.Sound as LineSound
+use Rattle.line_sound.proofs.Starting as LineStarting
+use Rattle.line_sound.proofs.Reaching as LineReaching
+
+pub clerk-placed : (d : ClerkDesk.Desk) → ClerkSound.Reached d → P.Placed ClerkSound.clerkView (ClerkRecords.records (d .words))
+clerk-placed d r = ClerkReaching.reached-sound d r .placed
+
+pub clerk-full : (d : ClerkDesk.Desk) → ClerkSound.Reached d → length (d .words) ≡ 192
+clerk-full d r = ClerkReaching.reached-full d r
+
+pub line-placed : (d : LineDesk.Desk) → LineSound.Reached d → P.Placed LineSound.lineView (LineRecords.records (d .words))
+line-placed d r = LineReaching.reached-sound d r .placed
+
+pub line-full : (d : LineDesk.Desk) → LineSound.Reached d → length (d .words) ≡ 498
+line-full d r = LineReaching.reached-sound d r .full
+
+-- a list without a used record holds nothing
+held-nothing : {A : Type 0} (v : P.View A) (j : Words) (rs : List A) → ((i : ℕ) → v .used (P.at v rs i) ≡ false) → P.held v j rs ≡ P.none
+unfolding P.held
+held-nothing v j [] h = refl
+held-nothing v j (r ∷ rs) h = rw (identified-unused v j r (h 0)) (held-nothing v j rs (λ i. h (suc i)))
+
+pub clerk-started : (j : Words) → P.held ClerkSound.clerkView j (ClerkRecords.records (startedDesk .words)) ≡ P.none
+clerk-started j =
+    held-nothing ClerkSound.clerkView j (ClerkRecords.records (startedDesk .words)) (λ i. ap ClerkRecords.used (ClerkStart.start-blank i) ∙ ClerkStart.blank-unused)
+
+pub line-started :
+    (given : List ℕ) (keep retain : Bool) (j : Words) → P.held LineSound.lineView j (LineRecords.records (started given keep retain .desk .words)) ≡ P.none
+line-started given keep retain j =
+    held-nothing LineSound.lineView j (LineRecords.records (started given keep retain .desk .words))
+    (λ i. ap used (LineStarting.start-free given keep retain i) ∙ LineStarting.blank-unused)

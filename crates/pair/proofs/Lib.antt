@@ -1,0 +1,15 @@
+pub mod Ends
+pub mod Letters
+pub mod ClerkEnd
+pub mod LineRows
+pub mod LineChanges
+pub mod LineEnd
+pub mod LineLooks
+pub mod Wires
+pub mod Sim
+pub mod Grounds
+pub mod ClerkSteps
+pub mod LineSteps
+pub mod Runs
+pub mod Claims
+pub mod Frame

@@ -1,0 +1,92 @@
+-- Wires and histories for one identifier: the messages of a request among those of all, and what a note adds.
+use Prim.Native.Nat.{ℕ}
+use mathlib.Core.Path.{_≡_, refl, sym, _∙_, ap}
+use mathlib.Core.Bool.{Bool, true, false}
+use mathlib.Core.Logic.{_⊎_, inl, inr}
+use mathlib.Core.List.{List, [], _∷_, _++_, map}
+use Rattle.lists.specs.Words.{sameWords}
+use Rattle.lists.specs.declared.words.Words.{Words}
+use Rattle.lists.proofs.WordsLaws.{same-words-true, same-words-false, words-same, words-differ}
+use Rattle.message.specs.declared.Message.{Message}
+use Rattle.pair_request.specs.Reading.{Msg, or}
+use Rattle.pair_request.specs.Listed.{NoReq}
+use Rattle.pair.specs.World.{nameOf, messagesOf, has, note}
+use Rattle.pair.proofs.Ends.{messageRead, Clear, Kept}
+use Rattle.pair.proofs.Letters.{clear-kept, clear-plain, sent-name}
+
+-- ---- two identifiers are the same or differ
+pub words? : (a b : Words) → (a ≡ b) ⊎ (a ≡ b → ⊥)
+words? a b = go (sameWords a b) refl
+  where
+    go : (t : Bool) → sameWords a b ≡ t → (a ≡ b) ⊎ (a ≡ b → ⊥)
+    go true e = inl (same-words-true a b e)
+    go false e = inr (same-words-false a b e)
+
+-- ---- the messages of a request
+pub messages-hit : (j : Words) (m : Message) (ms : List Message) → nameOf m ≡ j → messagesOf j (m ∷ ms) ≡ m ∷ messagesOf j ms
+unfolding messagesOf
+messages-hit j m ms e = rw (words-same (nameOf m) j e)
+
+pub messages-miss : (j : Words) (m : Message) (ms : List Message) → (nameOf m ≡ j → ⊥) → messagesOf j (m ∷ ms) ≡ messagesOf j ms
+unfolding messagesOf
+messages-miss j m ms h = rw (words-differ (nameOf m) j h)
+
+pub messages-append : (j : Words) (ms ns : List Message) → messagesOf j (ms ++ ns) ≡ messagesOf j ms ++ messagesOf j ns
+unfolding messagesOf
+messages-append j [] ns = refl
+messages-append j (m ∷ ms) ns = go (words? (nameOf m) j) (messages-append j ms ns)
+  where
+    go :
+        (nameOf m ≡ j) ⊎ (nameOf m ≡ j → ⊥) → messagesOf j (ms ++ ns) ≡ messagesOf j ms ++ messagesOf j ns →
+        messagesOf j (m ∷ (ms ++ ns)) ≡ messagesOf j (m ∷ ms) ++ messagesOf j ns
+    go (inl e) rest = rw (messages-hit j m (ms ++ ns) e, messages-hit j m ms e, rest)
+    go (inr h) rest = rw (messages-miss j m (ms ++ ns) h, messages-miss j m ms h, rest)
+
+-- ---- messages as they were sent
+pub data AllClear (j : Words) : List Msg → Type 0 where
+  no-message : AllClear j []
+  one-more : {m : Msg} {ms : List Msg} → Clear j m → AllClear j ms → AllClear j (m ∷ ms)
+
+pub clear-append : {j : Words} {ms ns : List Msg} → AllClear j ms → AllClear j ns → AllClear j (ms ++ ns)
+clear-append no-message k = k
+clear-append (one-more c h) k = one-more c (clear-append h k)
+
+pub plain-clear : (j : Words) (ms : List Msg) → NoReq ms → Kept j → AllClear j ms
+plain-clear j [] h k = no-message
+plain-clear j (m ∷ ms) h k = one-more (clear-plain j m (h .0) k) (plain-clear j ms (h .1) k)
+
+pub messages-own : (j : Words) (ms : List Msg) → AllClear j ms → messagesOf j (map (messageRead j) ms) ≡ map (messageRead j) ms
+unfolding messagesOf
+messages-own j [] no-message = refl
+messages-own j (m ∷ ms) (one-more c h) =
+    messages-hit j (messageRead j m) (map (messageRead j) ms) (sent-name j m (clear-kept j m c)) ∙ ap (λ x. messageRead j m ∷ x) (messages-own j ms h)
+
+pub messages-other : (j other : Words) (ms : List Msg) → AllClear j ms → (j ≡ other → ⊥) → messagesOf other (map (messageRead j) ms) ≡ []
+unfolding messagesOf
+messages-other j other [] no-message d = refl
+messages-other j other (m ∷ ms) (one-more c h) d =
+    messages-miss other (messageRead j m) (map (messageRead j) ms) (λ e. d (sym (sent-name j m (clear-kept j m c)) ∙ e)) ∙ messages-other j other ms h d
+
+-- a wire on which every message is as some desk sent it
+pub data Worded : List Message → Type 0 where
+  quiet : Worded []
+  word : (j : Words) (m : Msg) {ms : List Message} → Clear j m → Worded ms → Worded (messageRead j m ∷ ms)
+
+pub worded-append : {ms ns : List Message} → Worded ms → Worded ns → Worded (ms ++ ns)
+worded-append quiet k = k
+worded-append (word j m c h) k = word j m c (worded-append h k)
+
+pub worded-sent : {j : Words} {ms : List Msg} → AllClear j ms → Worded (map (messageRead j) ms)
+worded-sent no-message = quiet
+worded-sent {j} (one-more {m} c h) = word j m c (worded-sent h)
+
+-- ---- histories
+pub has-own : (so : Bool) (x : Words) (xs : List Words) → has (note so x xs) x ≡ or so (has xs x)
+unfolding has
+has-own true x xs = rw (words-same x x refl)
+has-own false x xs = refl
+
+pub has-other : (so : Bool) (x j : Words) (xs : List Words) → (x ≡ j → ⊥) → has (note so x xs) j ≡ has xs j
+unfolding has
+has-other true x j xs h = rw (words-differ x j h)
+has-other false x j xs h = refl

@@ -1,0 +1,139 @@
+-- Demand 3, sentence by sentence: what is claimed of two desks and two wires in every run. Each claim is a type; its proof has its name.
+use Prim.Native.Nat.{ℕ}
+use mathlib.Core.Path.{_≡_}
+use mathlib.Core.Bool.{Bool, true, false}
+use mathlib.Core.List.{List, [], _∷_}
+use Rattle.lists.specs.Words.{Bytes, wordsOf}
+use Rattle.lists.specs.declared.words.Words.{Words}
+use Rattle.message.specs.declared.Message.{Message}
+use Rattle.message.specs.declared.Body.{Body}
+use Rattle.message.specs.declared.Body.the-variants.{CcbsRequest, CcnrRequest, RequestResult, RequestError, CcExecPossible, CcRingout, RingoutError, CcSuspend, CcResume, CcCancel, CallAlerts, CallFailed}
+use Rattle.desk.specs.Letter.{numberWords}
+use Rattle.desk.specs.declared.Connection.the-variants.{Empty}
+use Rattle.places.specs.Places.{Held, none, one}
+use Rattle.clerk_table.specs.declared.record.Record as ClerkRecord
+use Rattle.clerk_table.specs.declared.table.State.the-variants as ClerkState
+use Rattle.line_table.specs.declared.record.Record as LineRecord
+use Rattle.line_table.specs.declared.record.Change.{Change}
+use Rattle.line_table.specs.declared.record.Change.the-variants.{Stay, Put, Remove, Report}
+use Rattle.line_table.specs.declared.table.State.the-variants as LineState
+use Rattle.line_records.specs.Change.{activated}
+use Rattle.line_plan.specs.Plan.{lookPlan}
+use Rattle.pair.specs.World.{World, Event, asks, clerkActs, clerkReports, clerkHears, lineHears, lineReports, lineLooks, lineActs, guardReports, dropsUp, dropsDown, clerkHolds, lineHolds, nameOf, messagesOf, has, next, Allowed, Run, startWorld, Reached}
+
+-- acknowledged: the connection choice is not empty
+abbrev pub Acknowledged : ClerkRecord.Record → Type 0
+Acknowledged c = c .connection ≡ Empty → ⊥
+
+-- ---- 1. what the clerk's end holds as acknowledged was accepted earlier at the line's end
+-- an earlier world of the run, in which the line's end heard the request and stored it
+pub record Accepted (first w : World) (identifier : Words) : Type 0 where
+  pub before : World
+  pub sooner : Run first before
+  pub absent : lineHolds before identifier ≡ none
+  pub stored : LineRecord.Record
+  pub present : lineHolds (next before lineHears) identifier ≡ one stored
+  pub later : Run (next before lineHears) w
+
+abbrev pub AcknowledgedWasAccepted : Type 0
+AcknowledgedWasAccepted =
+    (given : List ℕ) (keep retain : Bool) → Bytes given → (w : World) → Run (startWorld given keep retain) w →
+    (identifier : Words) (c : ClerkRecord.Record) → clerkHolds w identifier ≡ one c → Acknowledged c →
+    Accepted (startWorld given keep retain) w identifier
+
+-- ---- 2. while both hold it the data agree
+pub record Agree (c : ClerkRecord.Record) (l : LineRecord.Record) : Type 0 where
+  pub numberA : c .numberA ≡ l .numberA
+  pub numberB : c .numberB ≡ l .numberB
+  pub service : c .service ≡ l .service
+  pub kind : c .kind ≡ l .kind
+  -- once acknowledged also keep choice and connection choice
+  pub keep : Acknowledged c → c .keep ≡ l .keep
+  pub connection : Acknowledged c → c .connection ≡ l .connection
+
+abbrev pub DataAgree : Type 0
+DataAgree =
+    (w : World) → Reached w → (identifier : Words) (c : ClerkRecord.Record) (l : LineRecord.Record) →
+    clerkHolds w identifier ≡ one c → lineHolds w identifier ≡ one l → Agree c l
+
+-- ---- 3. quiet wires mean a listed pair (document 01, "Pairs when the wires are quiet")
+pub data Listed : Held ClerkRecord.Record → Held LineRecord.Record → Type 0 where
+  no-record : Listed none none
+  invoked : {c : ClerkRecord.Record} {l : LineRecord.Record} → c .state ≡ ClerkState.Invoked → l .state ≡ LineState.Invoked → Listed (one c) (one l)
+  -- suspended mark set or not
+  wait-answer : {c : ClerkRecord.Record} {l : LineRecord.Record} → c .state ≡ ClerkState.WaitAnswer → l .state ≡ LineState.Await → Listed (one c) (one l)
+  suspended :
+      {c : ClerkRecord.Record} {l : LineRecord.Record} → c .state ≡ ClerkState.Suspended → l .state ≡ LineState.Await → l .suspended ≡ true →
+      Listed (one c) (one l)
+  ringout : {c : ClerkRecord.Record} {l : LineRecord.Record} → c .state ≡ ClerkState.Ringout → l .state ≡ LineState.Alert → Listed (one c) (one l)
+
+-- none of its messages was dropped or is under way
+abbrev pub QuietListed : Type 0
+QuietListed =
+    (w : World) → Reached w → (identifier : Words) → has (w .history .dropped) identifier ≡ false →
+    messagesOf identifier (w .up) ≡ [] → messagesOf identifier (w .down) ≡ [] → Listed (clerkHolds w identifier) (lineHolds w identifier)
+
+-- ---- 4. run-out timers mean nobody holds it
+abbrev pub NotRequest : Body → Type 0
+NotRequest (CcbsRequest service flags) = ⊥
+NotRequest (CcnrRequest service flags) = ⊥
+NotRequest (RequestResult keep) = Unit
+NotRequest (RequestError error) = Unit
+NotRequest CcExecPossible = Unit
+NotRequest CcRingout = Unit
+NotRequest (RingoutError error) = Unit
+NotRequest CcSuspend = Unit
+NotRequest CcResume = Unit
+NotRequest CcCancel = Unit
+NotRequest CallAlerts = Unit
+NotRequest CallFailed = Unit
+
+abbrev pub NoRequest : List Message → Type 0
+NoRequest [] = Unit
+NoRequest (m ∷ ms) = NotRequest (m .body) × NoRequest ms
+
+-- a T1 or T2 report was taken at the clerk's end and a guard report at the line's, its request message is no longer under way: now and in any later world
+abbrev pub OverForGood : Type 0
+OverForGood =
+    (w : World) → Reached w → (identifier : Words) → has (w .history .runOut) identifier ≡ true → has (w .history .guarded) identifier ≡ true →
+    NoRequest (messagesOf identifier (w .up)) →
+    (later : World) → Run w later → (clerkHolds later identifier ≡ none) × (lineHolds later identifier ≡ none)
+
+-- ---- 5. no step alters another request
+-- the request that a change of the line desk is about
+abbrev pub Puts : Change → Words → Type 0
+Puts Stay identifier = ⊥
+Puts (Put i r) identifier = r .identifier ≡ identifier
+Puts (Remove i) identifier = ⊥
+Puts (Report k number busy) identifier = ⊥
+
+abbrev pub Heads : List Message → Words → Type 0
+Heads [] identifier = ⊥
+Heads (m ∷ ms) identifier = nameOf m ≡ identifier
+
+-- the request that a step is about: the one it names, the one whose message it delivers, the one that a Look offers
+abbrev pub About : World → Event → Words → Type 0
+About w (asks a) identifier = wordsOf (a .identifier) ≡ identifier
+About w (clerkActs name act) identifier = wordsOf name ≡ identifier
+About w (clerkReports name timer) identifier = wordsOf name ≡ identifier
+About w (clerkHears busy) identifier = Heads (w .down) identifier
+About w lineHears identifier = Heads (w .up) identifier
+About w (lineReports digits busy) identifier = ⊥
+About w (lineLooks digits) identifier = Puts (lookPlan (w .line .words) (numberWords digits) .change) identifier
+About w (lineActs name act) identifier = wordsOf name ≡ identifier
+About w (guardReports name) identifier = wordsOf name ≡ identifier
+About w dropsUp identifier = ⊥
+About w dropsDown identifier = ⊥
+
+-- the same, except that a line report may mark activity
+pub data Unaltered : Event → Held LineRecord.Record → Held LineRecord.Record → Type 0 where
+  same : {e : Event} {r : Held LineRecord.Record} → Unaltered e r r
+  marked : {digits : List ℕ} {busy : Bool} (r : LineRecord.Record) → Unaltered (lineReports digits busy) (one r) (one (activated r))
+
+pub record Untouched (w : World) (e : Event) (identifier : Words) : Type 0 where
+  pub clerk : clerkHolds (next w e) identifier ≡ clerkHolds w identifier
+  pub line : Unaltered e (lineHolds w identifier) (lineHolds (next w e) identifier)
+
+abbrev pub NoOtherAltered : Type 0
+NoOtherAltered =
+    (w : World) → Reached w → (e : Event) → Allowed w e → (identifier : Words) → (About w e identifier → ⊥) → Untouched w e identifier

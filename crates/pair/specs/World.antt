@@ -1,0 +1,205 @@
+-- Two desks, two wires that deliver in order or drop, and the history of the run. Each step is an operation of a desk, by the definition that its contract cites, or the drop of a wire's head.
+use Prim.Native.Nat.{ℕ}
+use mathlib.Core.Path.{_≡_}
+use mathlib.Core.Bool.{Bool, true, false}
+use mathlib.Core.List.{List, [], _∷_, _++_}
+use lib.Dec.{eqb}
+use lib.ListN.{length}
+use Rattle.lists.specs.Choice.{pick}
+use Rattle.lists.specs.Lists.{both}
+use Rattle.lists.specs.Words.{Bytes, wordsOf, sameWords}
+use Rattle.lists.specs.declared.words.Words.{Words}
+use Rattle.message.specs.declared.Message.{Message}
+use Rattle.desk.specs.Letter.{messageOf}
+use Rattle.desk.specs.declared.outcome.Outcome.{Outcome}
+use Rattle.desk.specs.declared.outcome.Sending.{Sending}
+use Rattle.desk.specs.declared.outcome.Sending.the-variants as Sending
+use Rattle.places.specs.Places.{Held, held}
+use Rattle.clerk_table.specs.declared.inputs.Act as ClerkAct
+use Rattle.clerk_table.specs.declared.record.Record as ClerkRecord
+use Rattle.clerk_table.specs.declared.table.Timer.{Timer}
+use Rattle.clerk_table.specs.declared.table.Timer.the-variants.{T1, T2, T3}
+use Rattle.clerk_records.specs.Records as ClerkRecords
+use Rattle.clerk.specs.Steps as Clerk
+use Rattle.clerk.specs.declared.Desk as ClerkDesk
+use Rattle.clerk.specs.declared.steps.Stepped as ClerkStepped
+use Rattle.clerk.specs.declared.steps.Asking.{Asking}
+use Rattle.clerk_sound.specs.Sound as ClerkSound
+use Rattle.line_table.specs.declared.inputs.Act as LineAct
+use Rattle.line_table.specs.declared.record.Record as LineRecord
+use Rattle.line_records.specs.Records as LineRecords
+use Rattle.line.specs.Start as LineStart
+use Rattle.line.specs.Steps as Line
+use Rattle.line.specs.declared.Desk as LineDesk
+use Rattle.line.specs.declared.steps.Stepped as LineStepped
+use Rattle.line_sound.specs.Sound as LineSound
+
+-- ---- the world
+-- the identifiers that were taken up by an ask; of which a message was dropped; of which a T1 or T2 report was taken at the clerk's end; of which a
+-- guard report was taken at the line's
+pub record History : Type 0 where
+  pub takenUp : List Words
+  pub dropped : List Words
+  pub runOut : List Words
+  pub guarded : List Words
+
+-- `up` is the wire to the line's end, `down` the one to the clerk's; messages arrive from the front
+pub record World : Type 0 where
+  pub clerk : ClerkDesk.Desk
+  pub up : List Message
+  pub line : LineDesk.Desk
+  pub down : List Message
+  pub history : History
+
+-- what an end holds of a request: the record with its identifier, or none
+abbrev pub clerkHolds : World → Words → Held ClerkRecord.Record
+clerkHolds w identifier = held ClerkSound.clerkView identifier (ClerkRecords.records (w .clerk .words))
+
+abbrev pub lineHolds : World → Words → Held LineRecord.Record
+lineHolds w identifier = held LineSound.lineView identifier (LineRecords.records (w .line .words))
+
+-- a message's identifier, as the desks compare it
+abbrev pub nameOf : Message → Words
+nameOf m = wordsOf (m .identifier)
+
+-- the messages of a request: those with its identifier, replies too
+unfoldable pub messagesOf : Words → List Message → List Message
+messagesOf identifier [] = []
+messagesOf identifier (m ∷ ms) = pick (sameWords (nameOf m) identifier) (m ∷ messagesOf identifier ms) (messagesOf identifier ms)
+
+-- whether a list of the history has an identifier
+unfoldable pub has : List Words → Words → Bool
+has [] identifier = false
+has (x ∷ xs) identifier = pick (sameWords x identifier) true (has xs identifier)
+
+-- ---- what a step leaves
+-- what an outcome sends, a reply too
+abbrev pub sentBy : Sending → List Message
+sentBy Sending.Nothing = []
+sentBy (Sending.Send l) = messageOf l ∷ []
+
+-- a step that is not refused
+abbrev pub taken : Outcome → Bool
+taken outcome = eqb (outcome .refusal) 0
+
+-- an identifier noted if something is so
+abbrev pub note : Bool → Words → List Words → List Words
+note so identifier noted = pick so (identifier ∷ noted) noted
+
+-- the clerk's desk after a step, with the wire that it heard from and the history
+abbrev pub clerkStepped : World → List Message → ClerkStepped.Stepped → History → World
+clerkStepped w down step history =
+    record { clerk = step .desk; up = w .up ++ sentBy (step .outcome .sending); line = w .line; down = down; history = history }
+
+-- the line desk after a step
+abbrev pub lineStepped : World → List Message → LineStepped.Stepped → History → World
+lineStepped w up step history =
+    record { clerk = w .clerk; up = up; line = step .desk; down = w .down ++ sentBy (step .outcome .sending); history = history }
+
+abbrev pub withTakenUp : History → Bool → Words → History
+withTakenUp h so identifier =
+    record { takenUp = note so identifier (h .takenUp); dropped = h .dropped; runOut = h .runOut; guarded = h .guarded }
+
+abbrev pub withDropped : History → Words → History
+withDropped h identifier = record { takenUp = h .takenUp; dropped = identifier ∷ h .dropped; runOut = h .runOut; guarded = h .guarded }
+
+abbrev pub withRunOut : History → Bool → Words → History
+withRunOut h so identifier = record { takenUp = h .takenUp; dropped = h .dropped; runOut = note so identifier (h .runOut); guarded = h .guarded }
+
+abbrev pub withGuarded : History → Bool → Words → History
+withGuarded h so identifier = record { takenUp = h .takenUp; dropped = h .dropped; runOut = h .runOut; guarded = note so identifier (h .guarded) }
+
+-- ---- the steps
+pub data Event : Type 0 where
+  -- at the clerk's end: an ask, User A's act, a timer's report; the head of `down` is delivered, with the host's word on User A
+  asks : Asking → Event
+  clerkActs : List ℕ → ClerkAct.Act → Event
+  clerkReports : List ℕ → Timer → Event
+  clerkHears : Bool → Event
+  -- at the line's end: the head of `up` is delivered; a line report, a Look, an act, the guard's report
+  lineHears : Event
+  lineReports : List ℕ → Bool → Event
+  lineLooks : List ℕ → Event
+  lineActs : List ℕ → LineAct.Act → Event
+  guardReports : List ℕ → Event
+  -- the head of a wire is dropped
+  dropsUp : Event
+  dropsDown : Event
+
+-- T3 is no timer of the demand
+abbrev pub counts : Timer → Bool
+counts T1 = true
+counts T2 = true
+counts T3 = false
+
+unfoldable pub clerkHeard : World → Bool → List Message → World
+clerkHeard w busy [] = w
+clerkHeard w busy (m ∷ rest) = clerkStepped w rest (Clerk.received (w .clerk) m busy) (w .history)
+
+unfoldable pub lineHeard : World → List Message → World
+lineHeard w [] = w
+lineHeard w (m ∷ rest) = lineStepped w rest (Line.received (w .line) m) (w .history)
+
+unfoldable pub upDropped : World → List Message → World
+upDropped w [] = w
+upDropped w (m ∷ rest) = record { clerk = w .clerk; up = rest; line = w .line; down = w .down; history = withDropped (w .history) (nameOf m) }
+
+unfoldable pub downDropped : World → List Message → World
+downDropped w [] = w
+downDropped w (m ∷ rest) = record { clerk = w .clerk; up = w .up; line = w .line; down = rest; history = withDropped (w .history) (nameOf m) }
+
+unfoldable pub next : World → Event → World
+next w (asks a) =
+    let step = Clerk.asked (w .clerk) a in
+    clerkStepped w (w .down) step (withTakenUp (w .history) (taken (step .outcome)) (wordsOf (a .identifier)))
+next w (clerkActs identifier act) = clerkStepped w (w .down) (Clerk.acted (w .clerk) identifier act) (w .history)
+next w (clerkReports identifier timer) =
+    let step = Clerk.reported (w .clerk) identifier timer in
+    clerkStepped w (w .down) step (withRunOut (w .history) (both (counts timer) (taken (step .outcome))) (wordsOf identifier))
+next w (clerkHears busy) = clerkHeard w busy (w .down)
+next w lineHears = lineHeard w (w .up)
+next w (lineReports digits busy) = lineStepped w (w .up) (Line.lineReported (w .line) digits busy) (w .history)
+next w (lineLooks digits) = lineStepped w (w .up) (Line.looked (w .line) digits) (w .history)
+next w (lineActs identifier act) = lineStepped w (w .up) (Line.acted (w .line) identifier act) (w .history)
+next w (guardReports identifier) =
+    let step = Line.guardReported (w .line) identifier in
+    lineStepped w (w .up) step (withGuarded (w .history) (taken (step .outcome)) (wordsOf identifier))
+next w dropsUp = upDropped w (w .up)
+next w dropsDown = downDropped w (w .down)
+
+-- ---- runs
+-- what the code's type says of an ask: sixteen bytes for the identifier and for each number
+pub record Typed (a : Asking) : Type 0 where
+  pub numbers : ClerkSound.Typed a
+  pub identifier : Bytes (a .identifier)
+  pub whole : length (a .identifier) ≡ 16
+
+-- every identifier is taken up by at most one ask that is not refused
+abbrev pub Allowed : World → Event → Type 0
+Allowed w (asks a) = Typed a × (taken (Clerk.asked (w .clerk) a .outcome) ≡ true → has (w .history .takenUp) (wordsOf (a .identifier)) ≡ false)
+Allowed w (clerkActs identifier act) = Unit
+Allowed w (clerkReports identifier timer) = Unit
+Allowed w (clerkHears busy) = Unit
+Allowed w lineHears = Unit
+Allowed w (lineReports digits busy) = Unit
+Allowed w (lineLooks digits) = Unit
+Allowed w (lineActs identifier act) = Unit
+Allowed w (guardReports identifier) = Unit
+Allowed w dropsUp = Unit
+Allowed w dropsDown = Unit
+
+pub data Run (first : World) : World → Type 0 where
+  stop : Run first first
+  then : {w : World} → Run first w → (e : Event) → Allowed w e → Run first (next w e)
+
+abbrev pub noHistory : History
+noHistory = record { takenUp = []; dropped = []; runOut = []; guarded = [] }
+
+-- two desks started empty, the line desk with any lines and settings
+abbrev pub startWorld : List ℕ → Bool → Bool → World
+startWorld given keep retain =
+    record { clerk = Clerk.startedDesk; up = []; line = LineStart.started given keep retain .desk; down = []; history = noHistory }
+
+-- a world of a run from the start
+pub data Reached (w : World) : Type 0 where
+  reached : (given : List ℕ) (keep retain : Bool) → Bytes given → Run (startWorld given keep retain) w → Reached w

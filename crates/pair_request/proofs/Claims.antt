@@ -1,0 +1,124 @@
+-- What is claimed of one request at its two ends, for every net that some run leads to: by the invariants of Agree, Quiet and Over.
+use Prim.Native.Nat.{ℕ}
+use mathlib.Core.Path.{_≡_, refl, sym, _∙_}
+use mathlib.Core.Bool.{Bool, true, false, true≢false, false≢true}
+use mathlib.Core.Logic.{_⊎_, inl, inr}
+use mathlib.Core.List.{List, [], _∷_}
+use Rattle.pair_request.specs.Reading.{Conn, Data, Msg, request, CState, waiting, live, LState, idle, Line, none, holds, Policy, keepOf, connOf, Word, lineTakes, lineActs, Net, held, Event, asks, clerkDoes, lineDoes, clerkGets, lineGets, losesUp, losesDown, askStep, clerkGetStep, lineGetStep, loseUpStep, loseDownStep, next, Reach}
+use Rattle.pair_request.specs.Listed.{Listed}
+use Rattle.pair_request.proofs.Effects.{LineActEffect, line-stays, line-quits, line-offers, line-alerts, line-fails, line-act-effect, LineTakeEffect, line-take-stays, line-take-ends, line-take-moves, line-take-accepts, line-take-effect, or-elim, Move, still, asked, clerk-act, line-act, clerk-get, line-get, up-lost, down-lost, moves}
+use Rattle.pair_request.proofs.Agree.{agreed, live-accepted, held-accepted, accepted-plain, waiting-agrees, live-agrees}
+use Rattle.pair_request.proofs.Quiet.{undropped, quiet-listed}
+use Rattle.pair_request.proofs.Over.{Over, over-move, ran}
+
+-- ---- accepted first
+pub acked-was-accepted : {p : Policy} {s : Net} (d : Data) (ck k : Bool) (n : Conn) (x : CState) → Reach p s → s .clerk ≡ live d ck k n x → s .accepted ≡ true
+acked-was-accepted d ck k n x r e = live-accepted (rw e at (agreed r))
+
+newly : {p : Policy} {s s′ : Net} → Move p s s′ → s′ .accepted ≡ true → (s .accepted ≡ true) ⊎ (held (s′ .line) ≡ true)
+newly still h = inl h
+newly (asked q e) h = inl h
+newly (clerk-act e t) h = inl h
+newly (line-act {l} e t) h = or-elim (held l) _ h inr inl
+newly (clerk-get b e) h = inl h
+newly {p} {s} (line-get {m} w e) h = or-elim (held (lineTakes p (s .line) m w .0)) _ h inr inl
+newly (up-lost e) h = inl h
+newly (down-lost e) h = inl h
+
+-- accepted after a step: it was before, or the line holds it now
+pub newly-next : (p : Policy) (s : Net) (e : Event) → (next p s e) .accepted ≡ true → (s .accepted ≡ true) ⊎ (held ((next p s e) .line) ≡ true)
+newly-next p s e h = newly (moves p s e) h
+
+-- from s to s′ the line, which held nothing, takes up the request at the head of its wire
+pub record TakesUp (p : Policy) (s s′ : Net) : Type 0 where
+  pub asked-data : Data
+  pub can-keep : Bool
+  pub preference : ℕ
+  pub rest : List Msg
+  pub under-way : s .up ≡ request asked-data can-keep preference ∷ rest
+  pub held-none : s .line ≡ none
+  pub holds-now : s′ .line ≡ holds asked-data (keepOf p can-keep) (connOf p preference) idle
+
+-- an act leaves nothing held where nothing was
+held-before : {l l′ : Line} {o : List Msg} → LineActEffect l l′ o → held l′ ≡ true → held l ≡ true
+held-before line-stays h = h
+held-before line-quits h = refl
+held-before line-offers h = refl
+held-before line-alerts h = refl
+held-before line-fails h = refl
+
+not-held : (l : Line) → (held l ≡ true → ⊥) → l ≡ none
+not-held none h = refl
+not-held (holds d k n s) h = absurd (h refl)
+
+-- a message at a line that holds nothing, after which it holds something
+takes-up : {p : Policy} {m : Msg} {s s′ : Net} {u o : List Msg} {l l′ : Line} → LineTakeEffect p l m l′ o → s .up ≡ m ∷ u → s .line ≡ l → s′ .line ≡ l′ → l ≡ none → held l′ ≡ true → TakesUp p s s′
+takes-up (line-take-stays i) e f g n h = absurd (false≢true cc)
+takes-up (line-take-ends i) e f g n h = absurd (false≢true h)
+takes-up (line-take-moves i) e f g n h = absurd (false≢true cc)
+takes-up {u} (line-take-accepts {d} {ck} {q}) e f g n h =
+    record { asked-data = d; can-keep = ck; preference = q; rest = u; under-way = e; held-none = f; holds-now = g }
+
+ask-accepts-none : (s : Net) (d : Data) (ck : Bool) (q : ℕ) (b : Bool) → (askStep s d ck q b) .accepted ≡ s .accepted
+unfolding askStep
+ask-accepts-none s d ck q true = refl
+ask-accepts-none s d ck q false = refl
+
+clerk-accepts-none : (s : Net) (b : Bool) (v : List Msg) → (clerkGetStep s b v) .accepted ≡ s .accepted
+unfolding clerkGetStep
+clerk-accepts-none s b [] = refl
+clerk-accepts-none s b (m ∷ v) = refl
+
+up-lost-accepts-none : (s : Net) (u : List Msg) → (loseUpStep s u) .accepted ≡ s .accepted
+unfolding loseUpStep
+up-lost-accepts-none s [] = refl
+up-lost-accepts-none s (m ∷ u) = refl
+
+down-lost-accepts-none : (s : Net) (v : List Msg) → (loseDownStep s v) .accepted ≡ s .accepted
+unfolding loseDownStep
+down-lost-accepts-none s [] = refl
+down-lost-accepts-none s (m ∷ v) = refl
+
+both-ways : {b : Bool} → b ≡ false → b ≡ true → ⊥
+both-ways f h = true≢false (sym h ∙ f)
+
+line-accepts : {p : Policy} (s : Net) (w : Word) (u : List Msg) → s .up ≡ u → s .line ≡ none → s .accepted ≡ false → (lineGetStep p s w u) .accepted ≡ true → TakesUp p s (lineGetStep p s w u)
+unfolding lineGetStep
+line-accepts s w [] e n f h = absurd (both-ways f h)
+line-accepts {p} s w (m ∷ u) e n f h =
+    or-elim (held (lineTakes p (s .line) m w .0)) _ h (λ g. takes-up (line-take-effect p (s .line) m w) e refl refl n g) (λ g. absurd (both-ways f g))
+
+-- nothing but a delivery to the line, which takes a request, makes a request accepted
+pub accepts-by-request : {p : Policy} {s : Net} (e : Event) → Reach p s → s .accepted ≡ false → (next p s e) .accepted ≡ true → (w : Word) × (e ≡ lineGets w) × TakesUp p s (next p s e)
+unfolding next
+accepts-by-request {s} (asks d ck q) r f h = absurd (both-ways f (sym (ask-accepts-none s d ck q (s .used)) ∙ h))
+accepts-by-request (clerkDoes x) r f h = absurd (both-ways f h)
+accepts-by-request {s} (lineDoes x) r f h = absurd (both-ways f (or-elim (held (lineActs (s .line) x .0)) _ h (λ g. held-accepted (agreed r) (held-before (line-act-effect (s .line) x) g)) (λ g. g)))
+accepts-by-request {s} (clerkGets b) r f h = absurd (both-ways f (sym (clerk-accepts-none s b (s .down)) ∙ h))
+accepts-by-request {s} (lineGets w) r f h = (w, refl, line-accepts s w (s .up) refl (not-held (s .line) (λ g. both-ways f (held-accepted (agreed r) g))) f h)
+accepts-by-request {s} losesUp r f h = absurd (both-ways f (sym (up-lost-accepts-none s (s .up)) ∙ h))
+accepts-by-request {s} losesDown r f h = absurd (both-ways f (sym (down-lost-accepts-none s (s .down)) ∙ h))
+
+-- ---- the data agree while both hold it
+pub both-hold-waiting : {p : Policy} {s : Net} (d d′ : Data) (ck k : Bool) (n : Conn) (y : LState) → Reach p s → s .clerk ≡ waiting d ck → s .line ≡ holds d′ k n y → d ≡ d′
+both-hold-waiting d d′ ck k n y r e f = waiting-agrees (rw (e, f) at (agreed r))
+
+pub both-hold-live : {p : Policy} {s : Net} (d d′ : Data) (ck k k′ : Bool) (n n′ : Conn) (x : CState) (y : LState) → Reach p s → s .clerk ≡ live d ck k n x → s .line ≡ holds d′ k′ n′ y → (d ≡ d′) × (k ≡ k′) × (n ≡ n′)
+both-hold-live d d′ ck k k′ n n′ x y r e f = live-agrees (rw (e, f) at (agreed r))
+
+-- ---- nothing dropped and nothing under way: a listed pair
+pub quiet-pair : {p : Policy} {s : Net} → Reach p s → s .dropped ≡ false → s .up ≡ [] → s .down ≡ [] → Listed (s .clerk) (s .line)
+quiet-pair r f u v = quiet-listed (rw (u, v) at (undropped r f))
+
+-- ---- T1 or T2 ran out at one end and the guard at the other: over now, and from then on
+pub over-now : {p : Policy} {s : Net} → Reach p s → s .timedOut ≡ true → s .guarded ≡ true → Over s
+over-now r t g =
+    record {
+      was-used = ran r .timer-ran t .0;
+      clerk-none = ran r .timer-ran t .1;
+      line-none = ran r .guard-ran g .1;
+      no-request = accepted-plain (rw (ran r .guard-ran g .0) at (agreed r));
+    }
+
+pub over-next : (p : Policy) {s : Net} (e : Event) → Over s → Over (next p s e)
+over-next p {s} e h = over-move (moves p s e) h

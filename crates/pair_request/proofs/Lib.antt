@@ -1,0 +1,5 @@
+pub mod Effects
+pub mod Agree
+pub mod Quiet
+pub mod Over
+pub mod Claims

@@ -1,0 +1,239 @@
+-- Without drops, two ends whose wires are quiet stand in a listed pair: an invariant that tells what is under way in each pair of states.
+use Prim.Native.Nat.{ℕ}
+use mathlib.Core.Path.{_≡_}
+use mathlib.Core.Bool.{Bool, true, false, true≢false}
+use mathlib.Core.List.{List, [], _∷_, _++_}
+use Rattle.pair_request.specs.Reading.{Conn, ret, Data, Msg, request, result, denied, exec, ringout, busyAgain, suspend, resume, cancel, alerts, failed, CState, invoked, waitAnswer, ringing, suspended, Clerk, absent, waiting, live, LState, idle, await, alert, Line, none, holds, and, inRinging, onBusyAgain, onExec, clerkTakes, Policy, Verdict, takes, denies, Word, onRequest, onRingout, onResume, onSuspend, lineTakes, Net, Reach, begin, more}
+use Rattle.pair_request.specs.Listed.{Listed, no-record, invoked-invoked, answer-await, suspended-await, ringout-alert, NoReq}
+use Rattle.pair_request.proofs.Effects.{noReq++, just-cancel, Has, here, there, has++, has-sent, ++[], ClerkActEffect, stays, quit-waiting, quit-live, accepts, resuming, recalling, act-plain, ClerkTakeEffect, take-stays, take-replies, clerk-take-effect, take-plain, LineActEffect, line-stays, line-quits, line-offers, line-alerts, line-fails, none-stays, same-fits, resume-fits, and-again, Move, still, asked, clerk-act, line-act, clerk-get, line-get, up-lost, down-lost, moves}
+
+-- a constructor with a pair as premise tells what the head of a wire will make of its receiver
+pub data Pair : Clerk → List Msg → Line → List Msg → Type 0 where
+  -- the listed pairs
+  both-invoked : {d : Data} {ck k : Bool} {n : Conn} → Pair (live d ck k n invoked) [] (holds d k n idle) []
+  answering : {d : Data} {ck k : Bool} {n : Conn} (m : Bool) → Pair (live d ck k n waitAnswer) [] (holds d k n (await m)) []
+  paused : {d : Data} {ck k : Bool} {n : Conn} → Pair (live d ck k n suspended) [] (holds d k n (await true)) []
+  ring : {d : Data} {ck k : Bool} {n : Conn} → Pair (live d ck k n ringing) [] (holds d k n alert) []
+  -- a message of the clerk's is under way
+  requested : {d : Data} {ck : Bool} {q : ℕ} → Pair (waiting d ck) (request d ck q ∷ []) none []
+  resumed : {d : Data} {ck k : Bool} {n : Conn} → Pair (live d ck k n invoked) (resume n ∷ []) (holds d k n (await true)) []
+  called : {d : Data} {ck k : Bool} {n : Conn} (m : Bool) → Pair (live d ck k n ringing) (ringout ∷ []) (holds d k n (await m)) []
+  late : {c : Clerk} {u : List Msg} {d : Data} {k : Bool} {n : Conn} → Pair c u (holds d k n (await true)) [] → Pair c (suspend n ∷ u) (holds d k n (await false)) []
+  -- a message of the line's is under way
+  offered : {d : Data} {ck k : Bool} {n : Conn} → Pair (live d ck k n invoked) [] (holds d k n (await false)) (exec n ∷ [])
+  unacked : {d : Data} {ck k : Bool} {n : Conn} {l : Line} {v : List Msg} → and ck k ≡ k → Pair (live d ck k n invoked) [] l v → Pair (waiting d ck) [] l (result k n ∷ v)
+  again : {d : Data} {ck : Bool} {n : Conn} {l : Line} {v : List Msg} → Pair (live d ck true n invoked) [] l v → Pair (live d ck true n ringing) [] l (busyAgain ∷ v)
+  refused : {d : Data} {ck : Bool} {w : Bool} → Pair (waiting d ck) [] none (denied w ∷ [])
+  ended : {d : Data} {ck : Bool} {n : Conn} → Pair (live d ck false n ringing) [] none (busyAgain ∷ [])
+  alerting : {d : Data} {ck k : Bool} {n : Conn} → Pair (live d ck k n ringing) [] none (alerts ∷ [])
+  failing : {d : Data} {ck k : Bool} {n : Conn} → Pair (live d ck k n ringing) [] none (failed ∷ [])
+
+-- the invariant of a run without drops, once the request is asked
+pub data Inv : Clerk → List Msg → Line → List Msg → Type 0 where
+  pair : {c : Clerk} {u : List Msg} {l : Line} {v : List Msg} → Pair c u l v → Inv c u l v
+  line-out : {c : Clerk} {u : List Msg} {v : List Msg} → NoReq u → Has v → Inv c u none v
+  clerk-out : {u : List Msg} {l : Line} {v : List Msg} → NoReq u → Has u → Inv absent u l v
+  early-out : {d : Data} {ck : Bool} {q : ℕ} {u : List Msg} → NoReq u → Has u → Inv absent (request d ck q ∷ u) none []
+  both-out : {u : List Msg} {v : List Msg} → NoReq u → Inv absent u none v
+
+-- ---- an act at the clerk's end
+pair-accept : {d : Data} {ck k : Bool} {n : Conn} {u : List Msg} {l : Line} {v : List Msg} → Pair (live d ck k n waitAnswer) u l v → Pair (live d ck k n ringing) (u ++ (ringout ∷ [])) l v
+pair-accept (answering m) = called m
+pair-accept (late p) = late (pair-accept p)
+
+pair-resume : {d : Data} {ck k : Bool} {n : Conn} {u : List Msg} {l : Line} {v : List Msg} → Pair (live d ck k n suspended) u l v → Pair (live d ck k n invoked) (u ++ (resume n ∷ [])) l v
+pair-resume paused = resumed
+pair-resume (late p) = late (pair-resume p)
+
+pair-recall : {d : Data} {ck k : Bool} {n : Conn} {u : List Msg} {l : Line} {v : List Msg} → Pair (live d ck k n suspended) u l v → Pair (live d ck k n waitAnswer) (u ++ []) l v
+pair-recall paused = answering true
+pair-recall (late p) = late (pair-recall p)
+
+-- a pair of a live record has no request under way
+live-plain : {d : Data} {ck k : Bool} {n : Conn} {s : CState} {u : List Msg} {l : Line} {v : List Msg} → Pair (live d ck k n s) u l v → NoReq u
+live-plain both-invoked = tt
+live-plain (answering m) = tt
+live-plain paused = tt
+live-plain ring = tt
+live-plain resumed = (tt, tt)
+live-plain (called m) = (tt, tt)
+live-plain (late p) = (tt, live-plain p)
+live-plain offered = tt
+live-plain (again p) = tt
+live-plain ended = tt
+live-plain alerting = tt
+live-plain failing = tt
+
+quit-from-live : {d : Data} {ck k : Bool} {n : Conn} {s : CState} {u : List Msg} {l : Line} {v : List Msg} → Pair (live d ck k n s) u l v → Inv absent (u ++ (cancel n ∷ [])) l v
+quit-from-live {n} {u} p = clerk-out (noReq++ u _ (live-plain p) (just-cancel n)) (has-sent n u)
+
+quit-from-waiting : {d : Data} {ck : Bool} {u : List Msg} {l : Line} {v : List Msg} → Pair (waiting d ck) u l v → Inv absent (u ++ (cancel ret ∷ [])) l v
+quit-from-waiting requested = early-out (just-cancel ret) here
+quit-from-waiting (unacked e p) = clerk-out (just-cancel ret) here
+quit-from-waiting refused = clerk-out (just-cancel ret) here
+
+pair-acts : {c c′ : Clerk} {o u : List Msg} {l : Line} {v : List Msg} → Pair c u l v → ClerkActEffect c c′ o → Inv c′ (u ++ o) l v
+pair-acts {u} p stays = rw (++[] u) (pair p)
+pair-acts p quit-waiting = quit-from-waiting p
+pair-acts p quit-live = quit-from-live p
+pair-acts p accepts = pair (pair-accept p)
+pair-acts p resuming = pair (pair-resume p)
+pair-acts p recalling = pair (pair-recall p)
+
+inv-clerk-acts : {c c′ : Clerk} {o u : List Msg} {l : Line} {v : List Msg} → Inv c u l v → ClerkActEffect c c′ o → Inv c′ (u ++ o) l v
+inv-clerk-acts (pair p) e = pair-acts p e
+inv-clerk-acts {o} {u} (line-out h k) e = line-out (noReq++ u o h (act-plain e)) k
+inv-clerk-acts {u} (clerk-out h k) stays = rw (++[] u) (clerk-out h k)
+inv-clerk-acts {u} (early-out h k) stays = rw (++[] u) (early-out h k)
+inv-clerk-acts {u} (both-out h) stays = rw (++[] u) (both-out h)
+
+-- ---- a message at the clerk's end
+pair-clerk-gets : {c : Clerk} {m : Msg} {u v : List Msg} {l : Line} → Pair c u l (m ∷ v) → (b : Bool) → Inv (clerkTakes c m b .0) (u ++ clerkTakes c m b .1) l v
+unfolding clerkTakes inRinging onBusyAgain onExec
+pair-clerk-gets (offered {n}) false = rw (same-fits n, onExec) (pair (answering false))
+pair-clerk-gets (offered {n}) true = rw (same-fits n, onExec) (pair (late paused))
+pair-clerk-gets (unacked e p) b = rw e (pair p)
+pair-clerk-gets (again p) b = pair p
+pair-clerk-gets refused b = both-out tt
+pair-clerk-gets ended b = both-out tt
+pair-clerk-gets alerting b = both-out tt
+pair-clerk-gets (failing {n}) b = both-out (just-cancel n)
+
+-- a ccCancel ends whatever the clerk holds
+cancelled : (c : Clerk) (n : Conn) (b : Bool) (u v : List Msg) → NoReq u → Inv (clerkTakes c (cancel n) b .0) (u ++ clerkTakes c (cancel n) b .1) none v
+unfolding clerkTakes
+cancelled absent n b u v h = both-out (noReq++ u _ h tt)
+cancelled (waiting d ck) n b u v h = both-out (noReq++ u _ h tt)
+cancelled (live d ck k n′ s) n b u v h = both-out (noReq++ u _ h tt)
+
+-- a deleted record stays deleted
+gone-out : {m : Msg} {c′ : Clerk} {o : List Msg} {l : Line} {v : List Msg} (u : List Msg) → ClerkTakeEffect absent m c′ o → NoReq u → Has u → Inv c′ (u ++ o) l v
+gone-out u take-stays h k = clerk-out (noReq++ u [] h tt) (has++ [] k)
+gone-out u take-replies h k = clerk-out (noReq++ u _ h (just-cancel ret)) (has++ _ k)
+
+gone-both : {m : Msg} {c′ : Clerk} {o : List Msg} {v : List Msg} (u : List Msg) → ClerkTakeEffect absent m c′ o → NoReq u → Inv c′ (u ++ o) none v
+gone-both u take-stays h = both-out (noReq++ u [] h tt)
+gone-both u take-replies h = both-out (noReq++ u _ h (just-cancel ret))
+
+inv-clerk-gets : {c : Clerk} {m : Msg} {u v : List Msg} {l : Line} → Inv c u l (m ∷ v) → (b : Bool) → Inv (clerkTakes c m b .0) (u ++ clerkTakes c m b .1) l v
+inv-clerk-gets (pair p) b = pair-clerk-gets p b
+inv-clerk-gets {c} {u} {v} (line-out h (here {n})) b = cancelled c n b u v h
+inv-clerk-gets {c} {m} {u} (line-out h (there k)) b = line-out (noReq++ u _ h (take-plain (clerk-take-effect c m b))) k
+inv-clerk-gets {m} {u} (clerk-out h k) b = gone-out u (clerk-take-effect _ m b) h k
+inv-clerk-gets {m} {u} (both-out h) b = gone-both u (clerk-take-effect _ m b) h
+
+-- ---- an act at the line's end
+held-plain : {c : Clerk} {d : Data} {k : Bool} {n : Conn} {s : LState} {u : List Msg} {v : List Msg} → Pair c u (holds d k n s) v → NoReq u
+held-plain both-invoked = tt
+held-plain (answering m) = tt
+held-plain paused = tt
+held-plain ring = tt
+held-plain resumed = (tt, tt)
+held-plain (called m) = (tt, tt)
+held-plain (late p) = (tt, held-plain p)
+held-plain offered = tt
+held-plain (unacked e p) = tt
+held-plain (again p) = tt
+
+pair-offer : {c : Clerk} {u : List Msg} {d : Data} {k : Bool} {n : Conn} {v : List Msg} → Pair c u (holds d k n idle) v → Pair c u (holds d k n (await false)) (v ++ (exec n ∷ []))
+pair-offer both-invoked = offered
+pair-offer (unacked e p) = unacked e (pair-offer p)
+pair-offer (again p) = again (pair-offer p)
+
+-- in Alert the wires are quiet
+pair-alerts : {c : Clerk} {u : List Msg} {d : Data} {k : Bool} {n : Conn} {v : List Msg} → Pair c u (holds d k n alert) v → Pair c u none (v ++ (alerts ∷ []))
+pair-alerts ring = alerting
+
+pair-fails : {c : Clerk} {u : List Msg} {d : Data} {k : Bool} {n : Conn} {v : List Msg} → Pair c u (holds d k n alert) v → Pair c u none (v ++ (failed ∷ []))
+pair-fails ring = failing
+
+pair-line-acts : {c : Clerk} {u : List Msg} {l l′ : Line} {o v : List Msg} → Pair c u l v → LineActEffect l l′ o → Inv c u l′ (v ++ o)
+pair-line-acts {v} p line-stays = rw (++[] v) (pair p)
+pair-line-acts {v} p (line-quits {n}) = line-out (held-plain p) (has-sent n v)
+pair-line-acts p line-offers = pair (pair-offer p)
+pair-line-acts p line-alerts = pair (pair-alerts p)
+pair-line-acts p line-fails = pair (pair-fails p)
+
+inv-line-acts : {c : Clerk} {u : List Msg} {l l′ : Line} {o v : List Msg} → Inv c u l v → LineActEffect l l′ o → Inv c u l′ (v ++ o)
+inv-line-acts (pair p) e = pair-line-acts p e
+inv-line-acts (line-out h k) line-stays = line-out h (has++ _ k)
+inv-line-acts (clerk-out h k) e = clerk-out h k
+inv-line-acts (early-out h k) line-stays = early-out h k
+inv-line-acts (both-out h) line-stays = both-out h
+
+-- ---- a message at the line's end
+request-taken : (p : Policy) (d : Data) (ck : Bool) (q : ℕ) (a : Verdict) → Inv (waiting d ck) [] (onRequest p none d ck q a .0) (onRequest p none d ck q a .1)
+unfolding onRequest
+request-taken p d ck q takes = pair (unacked (and-again ck (p .keeps)) both-invoked)
+request-taken p d ck q (denies w) = pair refused
+
+ringout-taken : (d : Data) (ck k : Bool) (n : Conn) (b : Bool) → Inv (live d ck k n ringing) [] (onRingout d k n b .0) (onRingout d k n b .1)
+unfolding onRingout
+ringout-taken d ck k n true = pair ring
+ringout-taken d ck true n false = pair (again both-invoked)
+ringout-taken d ck false n false = pair ended
+
+pair-line-gets : {c : Clerk} {m : Msg} {u v : List Msg} {l : Line} (p : Policy) (w : Word) → Pair c (m ∷ u) l v → Inv c u (lineTakes p l m w .0) (v ++ lineTakes p l m w .1)
+unfolding lineTakes onResume onSuspend
+pair-line-gets p w (requested {d} {ck} {q}) = request-taken p d ck q (w .verdict)
+pair-line-gets p w (resumed {n}) = rw (resume-fits n, onResume) (pair both-invoked)
+pair-line-gets p w (called {d} {ck} {k} {n} m) = ringout-taken d ck k n (w .free)
+pair-line-gets p w (late {n} i) = rw (same-fits n, onSuspend) (pair i)
+
+inv-line-gets : {c : Clerk} {m : Msg} {u v : List Msg} {l : Line} (p : Policy) (w : Word) → Inv c (m ∷ u) l v → Inv c u (lineTakes p l m w .0) (v ++ lineTakes p l m w .1)
+inv-line-gets p w (pair i) = pair-line-gets p w i
+inv-line-gets {m} p w (line-out h k) = rw (none-stays p m w (h .0)) (line-out (h .1) (has++ _ k))
+inv-line-gets p w (clerk-out h here) = unfold lineTakes in both-out (h .1)
+inv-line-gets p w (clerk-out h (there k)) = clerk-out (h .1) k
+inv-line-gets p w (early-out h k) = clerk-out h k
+inv-line-gets {m} p w (both-out h) = rw (none-stays p m w (h .0)) (both-out (h .1))
+
+-- ---- over a run
+-- the invariant of a net: before the ask there is nothing at all
+pub data Stage : Bool → Clerk → List Msg → Line → List Msg → Type 0 where
+  new : Stage false absent [] none []
+  old : {c : Clerk} {u : List Msg} {l : Line} {v : List Msg} → Inv c u l v → Stage true c u l v
+
+-- the history says whether something was dropped
+abbrev pub Undropped : Net → Type 0
+Undropped s = s .dropped ≡ false → Stage (s .used) (s .clerk) (s .up) (s .line) (s .down)
+
+stage-asks : {c : Clerk} {u v : List Msg} {l : Line} (d : Data) (ck : Bool) (q : ℕ) → Stage false c u l v → Stage true (waiting d ck) (u ++ (request d ck q ∷ [])) l v
+stage-asks d ck q new = old (pair requested)
+
+stage-acts : {t : Bool} {c c′ : Clerk} {o u v : List Msg} {l : Line} → Stage t c u l v → ClerkActEffect c c′ o → Stage t c′ (u ++ o) l v
+stage-acts new stays = new
+stage-acts (old i) e = old (inv-clerk-acts i e)
+
+stage-line-acts : {t : Bool} {c : Clerk} {o u v : List Msg} {l l′ : Line} → Stage t c u l v → LineActEffect l l′ o → Stage t c u l′ (v ++ o)
+stage-line-acts new line-stays = new
+stage-line-acts (old i) e = old (inv-line-acts i e)
+
+stage-gets : {t : Bool} {c : Clerk} {m : Msg} {u v : List Msg} {l : Line} (b : Bool) → Stage t c u l (m ∷ v) → Stage t (clerkTakes c m b .0) (u ++ clerkTakes c m b .1) l v
+stage-gets b (old i) = old (inv-clerk-gets i b)
+
+stage-line-gets : {t : Bool} {c : Clerk} {m : Msg} {u v : List Msg} {l : Line} (p : Policy) (w : Word) → Stage t c (m ∷ u) l v → Stage t c u (lineTakes p l m w .0) (v ++ lineTakes p l m w .1)
+stage-line-gets p w (old i) = old (inv-line-gets p w i)
+
+move-undropped : {p : Policy} {s s′ : Net} → Move p s s′ → Undropped s → Undropped s′
+move-undropped still i h = i h
+move-undropped (asked {d} {ck} q e) i h = stage-asks d ck q (rw e at (i h))
+move-undropped (clerk-act e t) i h = stage-acts (i h) e
+move-undropped (line-act e t) i h = stage-line-acts (i h) e
+move-undropped (clerk-get b e) i h = stage-gets b (rw e at (i h))
+move-undropped {p} (line-get w e) i h = stage-line-gets p w (rw e at (i h))
+move-undropped (up-lost e) i h = absurd (true≢false h)
+move-undropped (down-lost e) i h = absurd (true≢false h)
+
+pub undropped : {p : Policy} {s : Net} → Reach p s → Undropped s
+undropped begin = λ h. new
+undropped {p} (more {s} r e) = move-undropped (moves p s e) (undropped r)
+
+-- ---- what the invariant tells
+pub quiet-listed : {t : Bool} {c : Clerk} {l : Line} → Stage t c [] l [] → Listed c l
+quiet-listed new = no-record
+quiet-listed (old (pair both-invoked)) = invoked-invoked
+quiet-listed (old (pair (answering m))) = answer-await
+quiet-listed (old (pair paused)) = suspended-await
+quiet-listed (old (pair ring)) = ringout-alert
+quiet-listed (old (both-out h)) = no-record
