@@ -19,44 +19,97 @@
 //! - a record whose numberB is no line: it would have got the long error, and
 //!   a taken start makes a desk without records.
 //!
-//! Refusal 12 is the writer's and at neither desk, so it is not in the table.
+//! Refusal 12 is the writer's and at neither desk, so it is in the codec's table.
+//!
+//! The rows of `stop N` are counted apart: a script reaches one of them at most.
 
 mod expected;
+mod expected_codec;
 mod observed;
+mod observed_codec;
+mod stops;
 
-use crate::script::{take_entry, Session};
+use crate::script::{take_entry, Answer, Entry, Session};
+use std::collections::{BTreeSet, HashMap};
 
 struct Row {
     name: String,
     count: u64,
 }
 
+/// Every row, those of `stop N` at the end.
+fn all_rows() -> Vec<String> {
+    let mut rows = expected::rows();
+    rows.extend(expected_codec::rows());
+    rows.extend(stops::rows());
+    rows
+}
+
+/// The tables as they are reported, and how their rows' names begin.
+const TABLES: [(&str, &str); 3] = [("clerk's desk", "clerk: "), ("line desk", "line: "), ("codec", "codec: ")];
+
+const STOP: &str = "stop: ";
+
+/// Document 01 has the refusal numbers 1 to 12.
+const REFUSAL_NUMBERS: usize = 12;
+
 /// The expected rows and those that were observed and not expected.
 pub struct Coverage {
     rows: Vec<Row>,
+    places: HashMap<String, usize>,
     unlisted: Vec<Row>,
+    refusals: BTreeSet<u32>,
 }
 
-fn count_one(rows: &mut [Row], name: &str) -> bool {
-    match rows.iter_mut().find(|row| row.name == name) {
-        Some(row) => {
-            row.count += 1;
-            true
-        }
-        None => false,
+fn refusal_number(answer: &Answer) -> u32 {
+    match answer {
+        Answer::Step { outcome, .. } => outcome.refusal.map_or(0, |r| r.number()),
+        Answer::Written { refusal, .. } => *refusal,
+        Answer::Printed { .. } => 0,
     }
 }
 
 impl Coverage {
     pub fn new() -> Coverage {
-        let rows = expected::rows().into_iter().map(|name| Row { name, count: 0 }).collect();
-        Coverage { rows, unlisted: Vec::new() }
+        let names = all_rows();
+        let places = names.iter().enumerate().map(|(place, name)| (name.clone(), place)).collect();
+        let rows = names.into_iter().map(|name| Row { name, count: 0 }).collect();
+        Coverage { rows, places, unlisted: Vec::new(), refusals: BTreeSet::new() }
     }
 
-    fn note(&mut self, name: String) {
-        if !count_one(&mut self.rows, &name) && !count_one(&mut self.unlisted, &name) {
-            self.unlisted.push(Row { name, count: 1 });
+    /// Counts a row; true where it was listed and never reached before.
+    fn note(&mut self, name: String) -> bool {
+        let place = self.places.get(&name).copied();
+        if let Some(row) = place.and_then(|place| self.rows.get_mut(place)) {
+            row.count += 1;
+            return row.count == 1;
         }
+        match self.unlisted.iter_mut().find(|row| row.name == name) {
+            Some(row) => row.count += 1,
+            None => self.unlisted.push(Row { name, count: 1 }),
+        }
+        false
+    }
+
+    /// Plays one entry and counts its rows; true where one of them was never
+    /// reached before.
+    pub fn step(&mut self, session: &mut Session, entry: &Entry) -> bool {
+        let before = session.clone();
+        let answer = session.play(entry);
+        self.refusals.extend(Some(refusal_number(&answer)).filter(|number| *number > 0));
+        let mut new = false;
+        for name in observed::names(&before, entry, &answer, session) {
+            new |= self.note(name);
+        }
+        new
+    }
+
+    /// Plays one entry and tells the places of its rows, and counts nothing.
+    pub fn places_of(&self, session: &mut Session, entry: &Entry) -> Vec<usize> {
+        let before = session.clone();
+        let answer = session.play(entry);
+        let names = observed::names(&before, entry, &answer, session);
+        names.iter().filter_map(|name| self.places.get(name).copied()).collect()
     }
 
     /// Plays one script as far as it goes.
@@ -64,24 +117,54 @@ impl Coverage {
         let mut session = Session::default();
         let mut rest = script;
         while let Some((entry, behind)) = take_entry(rest) {
-            let before = session.clone();
-            let answer = session.play(&entry);
-            for name in observed::names(&before, &entry, &answer, &session) {
-                self.note(name);
-            }
+            self.step(&mut session, &entry);
             rest = behind;
+        }
+        self.note_stop(rest);
+    }
+
+    /// Counts the stop at what is left of a script, if something is.
+    pub fn note_stop(&mut self, rest: &[u8]) {
+        if !rest.is_empty() {
+            self.note(stops::name(rest));
         }
     }
 
-    fn reached(&self) -> usize {
-        self.rows.iter().filter(|row| row.count > 0).count()
+    /// How many rows are listed, those of `stop N` too.
+    pub fn all_rows(&self) -> usize {
+        self.rows.len()
+    }
+
+    /// How many of the rows whose names begin so were reached, and how many
+    /// there are.
+    fn reached(&self, start: &str) -> (usize, usize) {
+        let of_table: Vec<&Row> = self.rows.iter().filter(|row| row.name.starts_with(start)).collect();
+        (of_table.iter().filter(|row| row.count > 0).count(), of_table.len())
+    }
+
+    /// The same for all rows but those of `stop N`.
+    pub fn reached_of_tables(&self) -> (usize, usize) {
+        let each = TABLES.map(|(_, start)| self.reached(start));
+        each.iter().fold((0, 0), |sum, table| (sum.0 + table.0, sum.1 + table.1))
+    }
+
+    pub fn reached_stops(&self) -> (usize, usize) {
+        self.reached(STOP)
+    }
+
+    /// The rows never reached, but those of `stop N`.
+    pub fn missing(&self) -> Vec<&str> {
+        let rows = self.rows.iter().filter(|row| row.count == 0 && !row.name.starts_with(STOP));
+        rows.map(|row| row.name.as_str()).collect()
     }
 
     pub fn complete(&self) -> bool {
-        self.unlisted.is_empty() && self.reached() == self.rows.len()
+        self.unlisted.is_empty() && self.missing().is_empty()
     }
 
-    pub fn report(&self) -> String {
+    /// All rows with their counts; the missing ones once more where they are
+    /// asked for; the sums.
+    pub fn report(&self, list_missing: bool) -> String {
         let mut text = String::new();
         for row in &self.rows {
             text.push_str(&format!("{} {}\n", row.count, row.name));
@@ -89,7 +172,20 @@ impl Coverage {
         for row in &self.unlisted {
             text.push_str(&format!("UNLISTED {} {}\n", row.count, row.name));
         }
-        text.push_str(&format!("rows reached {} of {}\n", self.reached(), self.rows.len()));
+        if list_missing {
+            for name in self.missing() {
+                text.push_str(&format!("MISSING {name}\n"));
+            }
+        }
+        let (reached, all) = self.reached_stops();
+        text.push_str(&format!("stop rows, counted apart: reached {reached} of {all}\n"));
+        for (table, start) in TABLES.iter() {
+            let (reached, all) = self.reached(start);
+            text.push_str(&format!("{table}: rows reached {reached} of {all}\n"));
+        }
+        text.push_str(&format!("refusal numbers reached {} of {REFUSAL_NUMBERS}\n", self.refusals.len()));
+        let (reached, all) = self.reached_of_tables();
+        text.push_str(&format!("rows reached {reached} of {all}\n"));
         text
     }
 }
@@ -100,9 +196,89 @@ mod tests {
 
     #[test]
     fn no_row_is_listed_twice() {
-        let rows = expected::rows();
+        let rows = all_rows();
         for (place, name) in rows.iter().enumerate() {
             assert!(!rows[..place].contains(name), "{name}");
         }
+    }
+
+    #[test]
+    fn the_last_lines_are_the_sums() {
+        let mut coverage = Coverage::new();
+        // The clerk's desk is started, no bytes reach it, a code isn't listed.
+        coverage.play(&[2, 17, 0, 0, 0]);
+        let report = coverage.report(false);
+        assert!(report.contains("\n1 clerk: no bytes: refusal 1\n"));
+        assert!(report.contains("\n1 stop: code not listed\n"));
+        let (clerk, line, codec) =
+            (coverage.reached("clerk: "), coverage.reached("line: "), coverage.reached("codec: "));
+        // The start, the bytes, and the refusal's own row.
+        assert_eq!((clerk.0, line.0, codec.0), (3, 0, 0));
+        let all = clerk.1 + line.1 + codec.1;
+        assert_eq!(all + coverage.reached_stops().1, coverage.all_rows());
+        let lines = [
+            format!("stop rows, counted apart: reached 1 of {}", coverage.reached_stops().1),
+            format!("clerk's desk: rows reached 3 of {}", clerk.1),
+            format!("line desk: rows reached 0 of {}", line.1),
+            format!("codec: rows reached 0 of {}", codec.1),
+            "refusal numbers reached 1 of 12".to_string(),
+            format!("rows reached 3 of {all}"),
+        ];
+        assert!(report.ends_with(&format!("{}\n", lines.join("\n"))), "{report}");
+    }
+
+    #[test]
+    fn missing_rows_are_listed_where_all_are_required() {
+        let mut coverage = Coverage::new();
+        coverage.play(&[2]);
+        assert!(!coverage.complete());
+        let listed = |report: &str| report.lines().filter(|line| line.starts_with("MISSING ")).count();
+        let (reached, all) = coverage.reached_of_tables();
+        assert_eq!(reached, 1);
+        assert_eq!(listed(&coverage.report(true)), all - 1);
+        assert_eq!(listed(&coverage.report(false)), 0);
+        assert!(coverage.report(true).contains("\nMISSING line: refusal 10\n"));
+        assert!(!coverage.report(true).contains("MISSING clerk: start\n"));
+        // A stop row is counted apart and never required.
+        assert!(!coverage.report(true).contains("MISSING stop"));
+    }
+
+    #[test]
+    fn a_name_that_is_not_listed_is_no_completeness() {
+        let mut coverage = Coverage::new();
+        for row in all_rows() {
+            coverage.note(row);
+        }
+        assert!(coverage.complete());
+        coverage.note("clerk: something else".to_string());
+        assert!(!coverage.complete());
+    }
+
+    #[test]
+    fn stops_are_named() {
+        let name = |rest: &[u8]| stops::name(rest);
+        assert_eq!(name(&[0, 64]), "stop: code not listed");
+        assert_eq!(name(&[34, 2, 1]), "stop: code 34: the script ends inside");
+        assert_eq!(name(&[1, 1, 1, 5, 4, 0]), "stop: code 1: kinds not listed");
+        assert_eq!(name(&[1, 1, 1, 5, 3, 4, 64]), "stop: code 1: settings not listed");
+        assert_eq!(name(&[17, 2, 0]), "stop: code 17: User A busy not listed");
+        assert_eq!(name(&[33, 1, 1, 2]), "stop: code 33: busy or free not listed");
+        let identifier = [5; 16];
+        assert_eq!(name(&[&[16][..], &identifier, &[3, 0]].concat()), "stop: code 16: kind not listed");
+        let ask = [&[16][..], &identifier, &[1, 0, 1, 1, 0, 0, 2, 0]].concat();
+        assert_eq!(name(&ask), "stop: code 16: can-keep not listed");
+        assert_eq!(name(&[&[35][..], &identifier, &[0]].concat()), "stop: code 35: act not listed");
+        assert_eq!(name(&[&[21][..], &identifier, &[4]].concat()), "stop: code 21: timer not listed");
+        assert_eq!(name(&[&[19][..], &identifier, &[2]].concat()), "stop: code 19: resume or recall not listed");
+    }
+
+    #[test]
+    fn the_stop_scripts_reach_every_stop_row() {
+        let mut coverage = Coverage::new();
+        for script in crate::make::stop::scripts().into_cases() {
+            coverage.play(&script);
+        }
+        let (reached, all) = coverage.reached_stops();
+        assert_eq!(reached, all);
     }
 }

@@ -19,7 +19,8 @@ independent make clerk DIR
 independent make line DIR
 independent make stop DIR
 independent make random SEED ENTRIES DIR
-independent coverage SCRIPT..";
+independent make stored FILE
+independent coverage [--require-all] SCRIPT..";
 
 /// Writes to standard output; a closed one is an error and no panic.
 fn print(text: &str) -> io::Result<()> {
@@ -54,6 +55,7 @@ fn make(words: &[&str]) -> io::Result<()> {
         ["clerk", directory] => make::clerk::scripts().save(Path::new(directory), "clerk")?,
         ["line", directory] => make::line::scripts().save(Path::new(directory), "line")?,
         ["stop", directory] => make::stop::scripts().save(Path::new(directory), "stop")?,
+        ["stored", file] => make::stored::Stored::new().save(Path::new(file))?,
         ["random", seed, entries, directory] => {
             let number: u64 = seed.parse().map_err(|_| usage())?;
             let entries = entries.parse().map_err(|_| usage())?;
@@ -65,22 +67,28 @@ fn make(words: &[&str]) -> io::Result<()> {
     print(&format!("{told}\n"))
 }
 
-/// True where every row was reached.
-fn cover(paths: &[&str]) -> io::Result<bool> {
+/// The report, and true where every row was reached, but those of `stop N`.
+fn cover(paths: &[&str]) -> io::Result<(String, bool)> {
+    let (require_all, paths) = match paths.split_first() {
+        Some((&"--require-all", rest)) => (true, rest),
+        _ => (false, paths),
+    };
     let mut coverage = coverage::Coverage::new();
     for path in paths {
         let script = std::fs::read(path)?;
         coverage.play(&script);
     }
-    print(&coverage.report())?;
-    Ok(coverage.complete())
+    Ok((coverage.report(require_all), coverage.complete()))
 }
 
 fn run(words: &[&str]) -> io::Result<bool> {
     match words.split_first() {
         Some((&"play", [])) => play().map(|()| true),
         Some((&"make", rest)) => make(rest).map(|()| true),
-        Some((&"coverage", paths)) => cover(paths),
+        Some((&"coverage", paths)) => {
+            let (report, complete) = cover(paths)?;
+            print(&report).map(|()| complete)
+        }
         _ => Err(usage()),
     }
 }
@@ -95,5 +103,20 @@ fn main() -> ExitCode {
             let _ = writeln!(io::stderr(), "{error}");
             ExitCode::from(2)
         }
+    }
+}
+
+#[cfg(test)]
+mod tests {
+    use super::*;
+
+    #[test]
+    fn coverage_that_requires_all_tells_by_its_status_what_is_missing() {
+        // No script reaches no row; false becomes a status of 1.
+        let listed = |(report, complete): (String, bool)| (report.contains("\nMISSING clerk: start\n"), complete);
+        assert_eq!(cover(&["--require-all"]).map(listed).ok(), Some((true, false)));
+        assert_eq!(cover(&[]).map(listed).ok(), Some((false, false)));
+        assert!(run(&["coverage", "--require-all", "no such file"]).is_err());
+        assert!(run(&["make", "stored"]).is_err());
     }
 }

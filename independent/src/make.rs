@@ -5,12 +5,14 @@ pub mod codec;
 pub mod line;
 pub mod random;
 pub mod stop;
+pub mod stored;
 
 use crate::codec::{message_bytes, Carrier, Content, Identifier, Message, RequestFields};
 use crate::outcome::Kind;
 use crate::script::take_entry;
 use std::fs;
 use std::io;
+use std::ops::Range;
 use std::path::Path;
 
 /// REPLAY: "at most 262,144 bytes".
@@ -22,6 +24,8 @@ pub const LARGEST_SCRIPT: usize = 262_144;
 pub struct Scripts {
     full: Vec<Vec<u8>>,
     current: Vec<u8>,
+    /// Each case's file and its place in it.
+    cases: Vec<(usize, Range<usize>)>,
 }
 
 impl Scripts {
@@ -29,7 +33,17 @@ impl Scripts {
         if self.current.len() + case.len() > LARGEST_SCRIPT {
             self.close();
         }
+        let start = self.current.len();
         self.current.extend_from_slice(case);
+        self.cases.push((self.full.len(), start..self.current.len()));
+    }
+
+    /// The cases one by one, in the order in which they were added.
+    pub fn into_cases(mut self) -> Vec<Vec<u8>> {
+        self.close();
+        let Scripts { full, cases, .. } = self;
+        let bytes = |(file, range): (usize, Range<usize>)| full.get(file)?.get(range).map(<[u8]>::to_vec);
+        cases.into_iter().filter_map(bytes).collect()
     }
 
     /// Ends the current file, so that the next case begins a new one.
@@ -39,9 +53,10 @@ impl Scripts {
         }
     }
 
-    /// True where another case of this size goes into the current file.
+    /// True where the current file stays below the largest with another case of
+    /// this size.
     pub fn has_room(&self, size: usize) -> bool {
-        self.current.len() + size <= LARGEST_SCRIPT
+        self.current.len() + size < LARGEST_SCRIPT
     }
 
     /// Writes NAME-000.script, NAME-001.script, .. and tells what was written.
@@ -247,14 +262,21 @@ impl Case {
     }
 }
 
+/// The values that are tried in an identifier's bytes, where all are alike.
+const EDGES: [u8; 15] = [0, 1, 2, 3, 5, 6, 9, 10, 12, 13, 15, 16, 127, 128, 255];
+
+/// Where the identifier stands in a message of a one-byte type and carrier.
+const IDENTIFIER: Range<usize> = 2..18;
+
 /// Bytes with a fault, or next to one: every truncation, every byte replaced by
-/// values on an edge, and bytes behind the message.
+/// every other value (in the identifier by some), and bytes behind the message.
 pub fn damaged(bytes: &[u8]) -> Vec<Vec<u8>> {
     let mut damaged: Vec<Vec<u8>> = (0..bytes.len()).map(|length| bytes[..length].to_vec()).collect();
     for place in 0..bytes.len() {
-        for value in [0, 1, 2, 3, 5, 6, 9, 10, 12, 13, 15, 16, 127, 128, 255].iter() {
+        let values = if IDENTIFIER.contains(&place) { EDGES.to_vec() } else { (0..=255).collect() };
+        for value in values {
             let mut changed = bytes.to_vec();
-            changed[place] = *value;
+            changed[place] = value;
             damaged.push(changed);
         }
     }
@@ -264,4 +286,28 @@ pub fn damaged(bytes: &[u8]) -> Vec<Vec<u8>> {
         damaged.push(longer);
     }
     damaged
+}
+
+/// Requests on the edges of what can be read: 15 against 16 digits in numberA
+/// and in numberB, service 16383 against 16384 (three bytes), flags 5 against 6.
+/// Put together by hand, as no writer makes those that are out of range; the
+/// numberB is a line's number of 15 digits, with one more behind it or not.
+pub fn requests_on_edges(type_number: u8, identifier: Identifier, line: &[u8; 15]) -> Vec<Vec<u8>> {
+    let request = |number_a: &[u8], number_b: &[u8], service: &[u8], flags: u8| {
+        let mut bytes = vec![type_number, 1];
+        bytes.extend_from_slice(&identifier);
+        bytes.extend(counted(number_a));
+        bytes.extend(counted(number_b));
+        bytes.extend_from_slice(service);
+        bytes.push(flags);
+        bytes
+    };
+    let longer = [&line[..], &[7]].concat();
+    vec![
+        request(&[3; 16], line, &[0], 5),
+        request(&[3; 15], &longer, &[0], 5),
+        request(&[3; 15], line, &[0x80, 0x80, 0x01], 5),
+        request(&[3; 15], line, &[0xFF, 0x7F], 6),
+        request(&[3; 15], line, &[0xFF, 0x7F], 5),
+    ]
 }

@@ -72,7 +72,7 @@ actPlan rs identifier act = ownPlan rs identifier (rowOfAct act) 7
 abbrev pub timerPlan : List Record → Words → Timer → Plan
 timerPlan rs identifier timer = ownPlan rs identifier (rowOfTimer timer) 9
 
--- ---- ask: 4, 5, then stored in Wait-Ack at the first place that is not used; the request is sent, T1 starts
+-- ---- ask: 4, 5, then stored in Wait-Ack at the first place that is not used; the request is sent, T1 starts (8.1.1.1 to 8.1.1.3, 11.4.1)
 abbrev pub newRecord : Letter → Kind → ℕ → Bool → Record
 newRecord l kind service canKeep =
     record {

@@ -88,7 +88,7 @@ rowOfTimer T3 = T3RunsOut
 abbrev pub cancelReply : Letter → Sending
 cancelReply l = replied (l .identifier) CcCancel
 
--- on 6, to a result or ccExecPossible
+-- on 6, to a result (document 01) or ccExecPossible (8.1.2.6, first paragraph)
 abbrev pub unmatchedBy : Body → Sending → Sending
 unmatchedBy (CcbsRequest service flags) reply = Sending.Nothing
 unmatchedBy (CcnrRequest service flags) reply = Sending.Nothing
@@ -134,7 +134,7 @@ unfitBy CallFailed reply = Sending.Nothing
 abbrev pub replyUnfit : Letter → Sending
 replyUnfit l = unfitBy (l .body) (replyInSetup l)
 
--- ---- the choices that a result brings: keep only if can-keep was sent true and keep is 1
+-- ---- the choices that a result brings (8.1.1.3): keep only if can-keep was sent true and keep is 1
 abbrev pub keepChosen : Bool → ℕ → Keep
 keepChosen canKeep keep = pick canKeep (pick (eqb keep 1) Keeps Ends) Ends
 

@@ -62,13 +62,13 @@ effectOf Recalls = row InInvoked (To WaitAnswer) nothing (starts T3) no Says.Rec
 effectOf Suspends = row InInvoked (To Suspended) (sends CcSuspend) none no Says.Silent false
 -- accept in Wait-Answer (8.1.1.4)
 effectOf RingsOut = row InWaitAnswer (To Ringout) (sends CcRingout) none (stops T3) Says.Silent false
--- User A free in Suspended: resume (8.1.1.5)
+-- User A free in Suspended: resume (8.1.1.5, of RLS too: the connection choice is for life)
 effectOf Resumes = row InSuspended (To Invoked) (sends CcResume) none no Says.Silent false
 -- User A free in Suspended: go on to recall (8.1.1.5, last paragraph)
 effectOf GoesOn = row InSuspended (To WaitAnswer) nothing (starts T3) no Says.Recall false
 -- call alerts in Ringout (8.1.1.4)
 effectOf Completes = row InRingout Gone nothing none all Says.Completed false
--- call failed in Ringout (8.1.2.4, last paragraph: mend M2)
+-- call failed in Ringout (8.1.2.4, last paragraph, and 8.1.1.6 a: mend M2)
 effectOf CallFails = row InRingout Gone (sends CcCancel) none all Says.Failed false
 -- ringout error 1 in Ringout, keep chosen (8.1.2.4)
 effectOf BusyAgainKept = row InRingout (To Invoked) nothing none no Says.BusyAgainKept false
@@ -80,7 +80,7 @@ effectOf NotMatched = row InRingout Gone nothing none all Says.Failed false
 effectOf LineCancels = row Always Gone nothing none all Says.Failed true
 -- user's cancel (8.1.1.6 a)
 effectOf UserCancels = row Always Gone (sends CcCancel) none all Says.Cancelled true
--- T1 reported (8.1.2.1)
+-- T1 reported (8.1.2.1; the ccCancel is document 01's)
 effectOf T1RunsOut = row InWaitAck Gone (sends CcCancel) none all Says.Failed false
 -- T2 reported (8.1.2.2; not in Ringout: mend M1)
 effectOf T2RunsOut = row WhereT2Counts Gone (sends CcCancel) none all Says.Failed false

@@ -29,13 +29,13 @@ pub enum Row {
     Suspends,
     // accept in Wait-Answer (8.1.1.4)
     RingsOut,
-    // User A free in Suspended: resume (8.1.1.5)
+    // User A free in Suspended: resume (8.1.1.5, of RLS too: the connection choice is for life)
     Resumes,
     // User A free in Suspended: go on to recall (8.1.1.5, last paragraph)
     GoesOn,
     // call alerts in Ringout (8.1.1.4)
     Completes,
-    // call failed in Ringout (8.1.2.4, last paragraph: mend M2)
+    // call failed in Ringout (8.1.2.4, last paragraph, and 8.1.1.6 a: mend M2)
     CallFails,
     // ringout error 1 in Ringout, keep chosen (8.1.2.4)
     BusyAgainKept,
@@ -47,7 +47,7 @@ pub enum Row {
     LineCancels,
     // user's cancel (8.1.1.6 a)
     UserCancels,
-    // T1 reported (8.1.2.1)
+    // T1 reported (8.1.2.1; the ccCancel is document 01's)
     T1RunsOut,
     // T2 reported (8.1.2.2; not in Ringout: mend M1)
     T2RunsOut,

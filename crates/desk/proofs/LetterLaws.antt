@@ -25,7 +25,7 @@ bytes-sixteen xs b =
 
 -- a number in range, kept as words
 module _ (g : List ℕ) (low : ℕ) (l : length g ≡ 16) (b : Bytes g) (ok : digitsInRange low g ≡ true) where
-  normal-length : length (sixteen (digitsBytes g)) ≡ 16
+  pub normal-length : length (sixteen (digitsBytes g)) ≡ 16
   normal-length =
       let n = digits-length g l (digits-few g low ok .1) in
       let m = digits-few g low ok .1 in

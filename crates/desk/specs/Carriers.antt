@@ -15,6 +15,7 @@ byConnection Empty retained released = released
 byConnection Ret retained released = retained
 byConnection Rls retained released = released
 
+-- 8.1.1.3 to 8.1.1.6, 8.1.2.4, 8.2.1.3 to 8.2.1.7, 8.2.2.1, 8.2.2.3
 abbrev pub allowedFor : Body → Connection → Allowed
 allowedFor (CcbsRequest service flags) connection = Setup
 allowedFor (CcnrRequest service flags) connection = Setup
@@ -69,7 +70,7 @@ takes AlertingOrConnect C.Alerting = true
 unfoldable pub carrierFits : Body → Connection → Carrier → Bool
 carrierFits body connection carrier = takes (allowedFor body connection) carrier
 
--- a ccCancel goes in Release Complete for RET or before the acknowledgment, in Setup for RLS
+-- a ccCancel goes in Release Complete for RET or before the acknowledgment, in Setup for RLS (8.1.1.6 a, 8.2.1.7 b)
 abbrev pub cancelIn : Connection → Carrier
 cancelIn Empty = C.ReleaseComplete
 cancelIn Ret = C.ReleaseComplete

@@ -70,7 +70,7 @@ inputFound ws l input (At i) = recordPlan ws i (getD (records ws) i blank) l inp
 unfoldable pub inputPlan : List ℕ → Letter → Input → Plan
 inputPlan ws l input = inputFound ws l input (meant (l .identifier) (records ws))
 
--- ---- a request: 8; then the completed steps: long, short, accepted
+-- ---- a request: 8; then the completed steps: long, short (8.2.2.1), accepted (8.2.1.3)
 -- 1 short, 2 long: nothing is stored
 abbrev pub deniedPlan : Letter → ℕ → Plan
 deniedPlan l error = record { change = Stay; outcome = doneWith (replied (l .identifier) (RequestError error)) noTimers noTimers }

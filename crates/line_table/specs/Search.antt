@@ -52,7 +52,7 @@ waits Alert suspended = true
 abbrev pub blocks : Words → Record → Bool
 blocks number r = both (waits (r .state) (r .suspended)) (sameWords (r .numberB) number)
 
--- ---- a record fits if Invoked and CCBS, or Invoked, CCNR and marked active
+-- ---- a record fits if Invoked and CCBS, or Invoked, CCNR and marked active (8.2.1.1, 8.2.1.2, 8.2.1.4)
 abbrev pub fitsKind : Kind → Bool → Bool
 fitsKind Ccbs active = true
 fitsKind Ccnr active = active

@@ -32,7 +32,7 @@ abbrev pub effectOf : Row → Effect
 effectOf Offers = row InInvoked (To Await) (sends CcExecPossible) Stays Stays
 -- ccSuspend in Await (8.2.1.6, first paragraph)
 effectOf Suspends = row InAwait (To Await) nothing Stays Sets
--- ccResume in Await (8.2.1.6, second and third paragraphs)
+-- ccResume in Await (8.2.1.6, second and third paragraphs: mend M5)
 effectOf Resumes = row InAwait (To Invoked) nothing Stays Clears
 -- ccRingout in Await, line free (8.2.1.5)
 effectOf RingsOut = row InAwait (To Alert) nothing Stays Clears
@@ -42,13 +42,13 @@ effectOf BusyAgainKept = row InAwait (To Invoked) (sends (RingoutError 1)) Sets 
 effectOf BusyAgainEnded = row InAwait Gone (sends (RingoutError 1)) Stays Stays
 -- act alerted in Alert (8.2.1.5, last paragraph)
 effectOf Alerts = row InAlert Gone (sends CallAlerts) Stays Stays
--- act call failed in Alert (8.2.2.4)
+-- act call failed in Alert (8.2.2.4; type 12 is document 01's)
 effectOf CallFails = row InAlert Gone (sends CallFailed) Stays Stays
 -- ccCancel received (8.2.1.7 a)
 effectOf ClerkCancels = row Always Gone nothing Stays Stays
 -- act cancel (8.2.1.7 b)
 effectOf LineCancels = row Always Gone (sends CcCancel) Stays Stays
--- guard reported (8.2.1.4, note; 8.2.1.7 b)
+-- guard reported (8.2.1.4, note; 8.2.1.7 b; ours, as 11.4.2 names no timer)
 effectOf GuardRunsOut = row Always Gone (sends CcCancel) Stays Stays
 
 -- the states in which a row is taken; a free place has no row

@@ -18,7 +18,7 @@ pub enum Row {
     Offers,
     // ccSuspend in Await (8.2.1.6, first paragraph)
     Suspends,
-    // ccResume in Await (8.2.1.6, second and third paragraphs)
+    // ccResume in Await (8.2.1.6, second and third paragraphs: mend M5)
     Resumes,
     // ccRingout in Await, line free (8.2.1.5)
     RingsOut,
@@ -28,13 +28,13 @@ pub enum Row {
     BusyAgainEnded,
     // act alerted in Alert (8.2.1.5, last paragraph)
     Alerts,
-    // act call failed in Alert (8.2.2.4)
+    // act call failed in Alert (8.2.2.4; type 12 is document 01's)
     CallFails,
     // ccCancel received (8.2.1.7 a)
     ClerkCancels,
     // act cancel (8.2.1.7 b)
     LineCancels,
-    // guard reported (8.2.1.4, note; 8.2.1.7 b)
+    // guard reported (8.2.1.4, note; 8.2.1.7 b; ours, as 11.4.2 names no timer)
     GuardRunsOut,
 }
 

@@ -7,11 +7,16 @@ use mathlib.Core.List.{List, [], _∷_, map}
 use native.Mathlib.Omega.{arith}
 use Rattle.lists.specs.Words.{Bytes, wordsOf}
 use Rattle.lists.specs.declared.words.Words.{Words}
+use Rattle.message.specs.Format.{requestBody}
+use Rattle.message.specs.declared.Kind.{Kind}
+use Rattle.message.specs.declared.Kind.the-variants.{Ccbs, Ccnr}
 use Rattle.message.specs.declared.Message.{Message}
+use Rattle.desk.specs.Letter.{messageOf}
 use Rattle.desk.specs.declared.Connection.{Connection}
 use Rattle.desk.specs.declared.Connection.the-variants as Connection
 use Rattle.desk.specs.declared.Keep.the-variants as Keep
 use Rattle.places.specs.Places as P
+use Rattle.clerk.specs.Steps.{askFlags}
 use Rattle.clerk_table.specs.declared.record.Record as ClerkRecord
 use Rattle.clerk_table.specs.declared.table.State.the-variants as ClerkState
 use Rattle.line_table.specs.declared.record.Record as LineRecord
@@ -21,8 +26,9 @@ use Rattle.pair_request.specs.Listed as RL
 use Rattle.pair_request.proofs.Over.{Over}
 use Rattle.pair_request.proofs.Claims.{acked-was-accepted, TakesUp, accepts-by-request, both-hold-waiting, both-hold-live, quiet-pair, over-now, over-next}
 use Rattle.pair.specs.World.{World, Event, lineHears, clerkHolds, lineHolds, messagesOf, has, next, Allowed, Run, stop, then, startWorld, Reached, reached}
-use Rattle.pair.specs.Claims.{Acknowledged, Accepted, AcknowledgedWasAccepted, Agree, DataAgree, Listed, no-record, invoked, wait-answer, suspended, ringout, QuietListed, OverForGood}
+use Rattle.pair.specs.Claims.{Acknowledged, IsRequest, Requests, Heads, Stores, Accepted, AcknowledgedWasAccepted, Agree, DataAgree, KindAgrees, Listed, no-record, invoked, wait-answer, suspended, ringout, QuietListed, OverForGood}
 use Rattle.pair.proofs.Ends.{clerkRead, clerkRecord, lineRead, lineRecord, messageRead, keepRead, connRead, clerkStateRead, lineStateRead, suspendedRead}
+use Rattle.pair.proofs.Wires.{messages-hit}
 use Rattle.pair.proofs.Sim.{Sim, Good, Follows, stays, moves}
 use Rattle.pair.proofs.ClerkSteps.{Known}
 use Rattle.pair.proofs.Runs.{step-world, good-next, follows-reach, startPolicy, good-start, start-sim, known-start, run-good}
@@ -43,49 +49,63 @@ known-world w (reached given keep retain b run) =
     (startPolicy given keep retain, run-good run (good-start given keep retain b) (known-start given keep retain))
 
 -- ---- 1. accepted first
--- the run goes on
-longer : {first w : World} {j : Words} → Accepted first w j → (e : Event) → Allowed w e → Accepted first (next w e) j
-longer a e once =
-    record { before = a .before; sooner = a .sooner; absent = a .absent; stored = a .stored; present = a .present; later = then (a .later) e once }
+-- the head of the wire, which is the request's, is the request message that the net takes up
+request-body : (k : Kind) (service flags : ℕ) → IsRequest (requestBody k service flags)
+request-body Ccbs service flags = tt
+request-body Ccnr service flags = tt
+
+abbrev first : Message → List Message → Message
+first m [] = m
+first m (x ∷ xs) = x
+
+requests-head :
+    (j : Words) (d : R.Data) (ck : Bool) (q : ℕ) (left : List R.Msg) (ms : List Message) → Heads ms j →
+    messagesOf j ms ≡ map (messageRead j) (R.request d ck q ∷ left) → Requests ms j
+unfolding messageOf
+requests-head j d ck q left [] h e = h
+requests-head j d ck q left (m ∷ ms) h e =
+    let same : m ≡ messageRead j (R.request d ck q) = ap (first m) (sym (messages-hit j m ms h) ∙ e) in
+    (h, subst (λ (x : Message). IsRequest (x .body)) (sym same) (request-body (d .kind) (d .service) (askFlags ck q)))
 
 -- a step by which the net was accepted: the line's end, which held nothing, heard the request and stored it
-accepted-now :
-    {p : R.Policy} {first w : World} {e : Event} {j : Words} {n m : R.Net} → Run first w → Sim j w n → Sim j (next w e) m → TakesUp p n m → e ≡ lineHears →
-    Accepted first (next w e) j
-accepted-now {p} {first} {w} {e} {j} {n} {m} run sim after t h =
-    let r = lineRecord j (after .active) (t .asked-data) (R.keepOf p (t .can-keep)) (R.connOf p (t .preference)) R.idle in
-    let here : lineHolds (next w e) j ≡ P.one r = after .line ∙ ap (lineRead j (after .active)) (t .holds-now) in
+stores-now :
+    {p : R.Policy} {w : World} {e : Event} {j : Words} {n m : R.Net} → Sim j w n → Sim j (next w e) m → TakesUp p n m →
+    (e ≡ lineHears) × Heads (w .up) j → Stores j w e
+stores-now {p} {w} {e} {j} {n} {m} sim after t h =
     record {
-      before = w;
-      sooner = run;
+      heard = h .0;
+      request =
+          requests-head j (t .asked-data) (t .can-keep) (t .preference) (t .rest) (w .up) (h .1)
+          (sim .up ∙ ap (map (messageRead j)) (t .under-way));
       absent = sim .line ∙ ap (lineRead j (sim .active)) (t .held-none);
-      stored = r;
-      present = subst (λ x. lineHolds (next w x) j ≡ P.one r) h here;
-      later = subst (λ x. Run (next w x) (next w e)) h stop;
+      stored = lineRecord j (after .active) (t .asked-data) (R.keepOf p (t .can-keep)) (R.connOf p (t .preference)) R.idle;
+      present = after .line ∙ ap (lineRead j (after .active)) (t .holds-now);
     }
 
-abbrev History : World → World → R.Policy → Words → Type 0
-History first w p j = (n : R.Net) × (R.Reach p n × (Sim j w n × (n .accepted ≡ true → Accepted first w j)))
+-- the net of a world at the end of a run, with how it came to be accepted
+abbrev Told : {first w : World} → R.Policy → Words → Run first w → Type 0
+Told {first} {w} p j run = (n : R.Net) × (R.Reach p n × (Sim j w n × (n .accepted ≡ true → Accepted j run)))
 
 accepted-step :
-    {p : R.Policy} {first w : World} {e : Event} {j : Words} {n m : R.Net} → Run first w → Allowed w e → R.Reach p n → Sim j w n → Sim j (next w e) m →
-    (n .accepted ≡ true → Accepted first w j) → Follows p e n m → m .accepted ≡ true → Accepted first (next w e) j
-accepted-step {e} run once r sim after before stays h = longer (before h) e once
-accepted-step {p} {first} {w} {e} {j} {n} run once r sim after before (moves x heard) h = go (n .accepted) refl
+    {p : R.Policy} {first w : World} {e : Event} {j : Words} {n m : R.Net} (run : Run first w) (once : Allowed w e) → R.Reach p n → Sim j w n → Sim j (next w e) m →
+    (n .accepted ≡ true → Accepted j run) → Follows p w e j n m → m .accepted ≡ true → Stores j w e ⊎ Accepted j run
+accepted-step run once r sim after before stays h = inr (before h)
+accepted-step {w} {e} {j} {n} run once r sim after before (moves x heard) h = go (n .accepted) refl
   where
-    go : (b : Bool) → n .accepted ≡ b → Accepted first (next w e) j
-    go true q = longer (before q) e once
+    go : (b : Bool) → n .accepted ≡ b → Stores j w e ⊎ Accepted j run
+    go true q = inr (before q)
     go false q =
         let t = accepts-by-request x r q h in
-        accepted-now run sim after (t .2) (heard (t .0) (t .1))
+        inl (stores-now sim after (t .2) (heard .only (t .0) (t .1)))
 
-run-history :
-    (given : List ℕ) (keep retain : Bool) → Bytes given → {w : World} → Run (startWorld given keep retain) w → (j : Words) →
-    History (startWorld given keep retain) w (startPolicy given keep retain) j
-run-history given keep retain b stop j = (R.start, (R.begin, (start-sim given keep retain j, λ e. absurd (false≢true e))))
-run-history given keep retain b (then {w} run e once) j =
+run-told :
+    (given : List ℕ) (keep retain : Bool) → Bytes given → {w : World} (run : Run (startWorld given keep retain) w) (j : Words) →
+    Told (startPolicy given keep retain) j run
+unfolding Accepted
+run-told given keep retain b stop j = (R.start, (R.begin, (start-sim given keep retain j, λ e. absurd (false≢true e))))
+run-told given keep retain b (then {w} run e once) j =
     let p = startPolicy given keep retain in
-    let h = run-history given keep retain b run j in
+    let h = run-told given keep retain b run j in
     let g = run-good run (good-start given keep retain b) (known-start given keep retain) in
     let s = step-world p w (g .0) (g .1) e once j (h .0) (h .1 .0) (h .1 .1 .0) in
     (s .0, (follows-reach (s .1 .0) (h .1 .0), (s .1 .1, accepted-step run once (h .1 .0) (h .1 .1 .0) (s .1 .1) (h .1 .1 .1) (s .1 .0))))
@@ -101,7 +121,7 @@ acknowledged-accepted n j c (R.live d ck k m s) r q e a = acked-was-accepted d c
 
 pub acknowledged-was-accepted : AcknowledgedWasAccepted
 acknowledged-was-accepted given keep retain b w run j c e a =
-    let h = run-history given keep retain b run j in
+    let h = run-told given keep retain b run j in
     h .1 .1 .1 (acknowledged-accepted (h .0) j c (h .0 .clerk) (h .1 .0) refl (sym e ∙ h .1 .1 .0 .clerk) a)
 
 -- ---- 2. the data agree
@@ -113,7 +133,6 @@ agree-waiting j active d d′ ck k n s e =
       numberA = ap (λ (x : R.Data). x .numberA) e;
       numberB = ap (λ (x : R.Data). x .numberB) e;
       service = ap (λ (x : R.Data). x .service) e;
-      kind = ap (λ (x : R.Data). x .kind) e;
       keep = λ a. absurd (a refl);
       connection = λ a. absurd (a refl);
     }
@@ -126,7 +145,6 @@ agree-live j active d d′ ck k k′ n n′ x y e f g =
       numberA = ap (λ (z : R.Data). z .numberA) e;
       numberB = ap (λ (z : R.Data). z .numberB) e;
       service = ap (λ (z : R.Data). z .service) e;
-      kind = ap (λ (z : R.Data). z .kind) e;
       keep = λ a. ap keepRead f;
       connection = λ a. ap connRead g;
     }
@@ -156,6 +174,27 @@ data-agree w reach j c l e f =
     let sim = k .1 .1 in
     agree-net (k .0) (k .1 .0) j (sim .active) c l (k .0 .clerk) (k .0 .line) refl refl (sym e ∙ sim .clerk) (sym f ∙ sim .line)
 
+kind-net :
+    {p : R.Policy} (n : R.Net) → R.Reach p n → (j : Words) (active : Bool) (c : ClerkRecord.Record) (l : LineRecord.Record) (k : R.Clerk) (m : R.Line) →
+    n .clerk ≡ k → n .line ≡ m → P.one c ≡ clerkRead j k → P.one l ≡ lineRead j active m → c .kind ≡ l .kind
+kind-net n r j active c l R.absent m q s e f = not-none c (sym e)
+kind-net n r j active c l (R.waiting d ck) R.none q s e f = not-none l (sym f)
+kind-net n r j active c l (R.waiting d ck) (R.holds d′ k x y) q s e f =
+    ap (λ (u : ClerkRecord.Record). u .kind) (same-record c (clerkRecord j d ck ClerkState.WaitAck Keep.Empty Connection.Empty) e)
+    ∙ ap (λ (z : R.Data). z .kind) (both-hold-waiting d d′ ck k x y r q s)
+    ∙ sym (ap (λ (v : LineRecord.Record). v .kind) (same-record l (lineRecord j active d′ k x y) f))
+kind-net n r j active c l (R.live d ck k x t) R.none q s e f = not-none l (sym f)
+kind-net n r j active c l (R.live d ck k x t) (R.holds d′ k′ x′ y) q s e f =
+    ap (λ (u : ClerkRecord.Record). u .kind) (same-record c (clerkRecord j d ck (clerkStateRead t) (keepRead k) (connRead x)) e)
+    ∙ ap (λ (z : R.Data). z .kind) (both-hold-live d d′ ck k k′ x x′ t y r q s .0)
+    ∙ sym (ap (λ (v : LineRecord.Record). v .kind) (same-record l (lineRecord j active d′ k′ x′ y) f))
+
+pub kind-agrees : KindAgrees
+kind-agrees w reach j c l e f =
+    let k = known-world w reach .1 .1 j in
+    let sim = k .1 .1 in
+    kind-net (k .0) (k .1 .0) j (sim .active) c l (k .0 .clerk) (k .0 .line) refl refl (sym e ∙ sim .clerk) (sym f ∙ sim .line)
+
 -- ---- 3. quiet wires mean a listed pair
 listed-read : {c : R.Clerk} {l : R.Line} (j : Words) (active : Bool) → RL.Listed c l → Listed (clerkRead j c) (lineRead j active l)
 listed-read j active RL.no-record = no-record
@@ -178,7 +217,7 @@ quiet-listed w reach j d u v =
     (subst (λ x. Listed (clerkRead j (n .clerk)) x) (sym (sim .line)) (listed-read j (sim .active) q))
 
 -- ---- 4. run-out timers mean nobody holds it
-follows-over : {p : R.Policy} {e : Event} {n m : R.Net} → Follows p e n m → Over n → Over m
+follows-over : {p : R.Policy} {w : World} {e : Event} {j : Words} {n m : R.Net} → Follows p w e j n m → Over n → Over m
 follows-over stays h = h
 follows-over {p} (moves x heard) h = over-next p x h
 

@@ -30,7 +30,7 @@ use Rattle.pair.proofs.Letters.{clear-kept, sent-name}
 use Rattle.pair.proofs.ClerkEnd.{clerk-hears, clerk-acts, clerk-reports, clerk-runs-out, AskStored, AskStep, refused, stored, clerk-asks}
 use Rattle.pair.proofs.Wires.{words?, messages-hit, messages-miss, messages-append, AllClear, no-message, one-more, clear-append, plain-clear, messages-own, messages-other, Worded, quiet, word, has-own, has-other}
 use Rattle.pair.proofs.Grounds.{clerk-placed, clerk-full}
-use Rattle.pair.proofs.Sim.{Sim, Good, Follows, stays, moves, Step, Noted, unnoted, append-none, wire-own, wire-other, clerk-own, clerk-other}
+use Rattle.pair.proofs.Sim.{Sim, Good, Hearing, Follows, stays, moves, Step, Noted, unnoted, append-none, wire-own, wire-other, clerk-own, clerk-other}
 
 -- every identifier of the world has its net
 abbrev pub Known : R.Policy → World → Type 0
@@ -57,15 +57,15 @@ unfolding R.next
 acting-own {w} {n} sim r x step history s h =
     clerk-own sim (w .down) (n .down) (sim .down) (sim .downClear) step history (λ c. R.clerkActs c x) s (act-clear sim r x) (R.runsOut (n .clerk) x) h
 
-acting-other :
+pub acting-other :
     {p : R.Policy} {j k : Words} {w : World} {n : R.Net} → Sim j w n → (m : R.Net) × (R.Reach p m × Sim k w m) → (k ≡ j → ⊥) → (x : R.CAct) (step : Stepped)
     (history : History) → ClerkStep (w .clerk .words) step k (λ c. R.clerkActs c x) → Noted history (w .history) j false false →
     Sim j (clerkStepped w (w .down) step history) n
 acting-other {w} sim its d x step history s h =
     clerk-other sim (its .1 .1) d (w .down) refl step history (λ c. R.clerkActs c x) s (act-clear (its .1 .1) (its .1 .0) x) h
 
-does-not-hear : {e : Event} {x : R.CAct} (y : R.Word) → R.clerkDoes x ≡ R.lineGets y → e ≡ lineHears
-does-not-hear y q = cc
+does-not-hear : {w : World} {e : Event} {j : Words} {x : R.CAct} → Hearing w e j (R.clerkDoes x)
+does-not-hear = record { only = λ y q. let z : _≡_ {A = ℕ} 0 1 = cc in absurd (omega (arith, z)) }
 
 -- an act is no timer
 act-no-timer : (c : R.Clerk) (act : Act) → R.runsOut c (clerkActRead act) ≡ false
@@ -97,7 +97,7 @@ step-acts p w g known identifier act j n r sim (inr d) =
 noted-own : (h : History) (j : Words) (so : Bool) → Noted (withRunOut h so j) h j so false
 noted-own h j so = record { takenUp = refl; runOut = has-own so j (h .runOut); guarded = refl; dropped = refl }
 
-noted-other : (h : History) (k j : Words) (so : Bool) → (k ≡ j → ⊥) → Noted (withRunOut h so k) h j false false
+pub noted-other : (h : History) (k j : Words) (so : Bool) → (k ≡ j → ⊥) → Noted (withRunOut h so k) h j false false
 noted-other h k j so d = record { takenUp = refl; runOut = has-other so k j (h .runOut) d; guarded = refl; dropped = refl }
 
 pub step-timer :
@@ -163,10 +163,10 @@ pub head-own :
 head-own j m rest wire ms e name c h = headed j m rest ms c (sym (messages-hit j m rest name) ∙ ap (messagesOf j) (sym e) ∙ h)
 
 abbrev Heard : R.Policy → World → Bool → List Message → Words → R.Net → Type 0
-Heard p w busy ms j n = (after : R.Net) × (Follows p (clerkHears busy) n after × Sim j (clerkHeard w busy ms) after)
+Heard p w busy ms j n = (after : R.Net) × (Follows p w (clerkHears busy) j n after × Sim j (clerkHeard w busy ms) after)
 
-does-not-get : {e : Event} {b : Bool} (y : R.Word) → R.clerkGets b ≡ R.lineGets y → e ≡ lineHears
-does-not-get y q = cc
+does-not-get : {w : World} {e : Event} {j : Words} {b : Bool} → Hearing w e j (R.clerkGets b)
+does-not-get = record { only = λ y q. let z : _≡_ {A = ℕ} 0 1 = cc in absurd (omega (arith, z)) }
 
 hears-own :
     (p : R.Policy) (w : World) → Good p w → (busy : Bool) (m : Message) (rest : List Message) (j : Words) (n : R.Net) → Sim j w n → Headed j m rest (n .down) →
@@ -188,9 +188,9 @@ hears-own p w g busy m rest j n sim h =
       ),
     )
 
-hears-other :
+pub hears-other :
     (p : R.Policy) (w : World) → Good p w → Known p w → (busy : Bool) (k : Words) (c : R.Msg) → Clear k c → (rest : List Message) → w .down ≡ messageRead k c ∷ rest →
-    (j : Words) (n : R.Net) → Sim j w n → (k ≡ j → ⊥) → Heard p w busy (messageRead k c ∷ rest) j n
+    (j : Words) (n : R.Net) → Sim j w n → (k ≡ j → ⊥) → Sim j (clerkHeard w busy (messageRead k c ∷ rest)) n
 unfolding clerkHeard
 hears-other p w g known busy k c clear rest e j n sim d =
     let s = clerk-hears (w .clerk) (clerk-placed (w .clerk) (g .clerk)) (clerk-full (w .clerk) (g .clerk)) k c busy clear in
@@ -199,7 +199,7 @@ hears-other p w g known busy k c clear rest e j n sim d =
     let kept = clear-kept k c clear in
     let sent = plain-clear k (R.clerkTakes (m .clerk) c busy .1) (take-plain (clerk-take-effect (m .clerk) c busy)) kept in
     let same = sym (messages-miss j (messageRead k c) rest (λ q. d (sym (sent-name k c kept) ∙ q))) ∙ ap (messagesOf j) (sym e) in
-    (n, (stays, clerk-other sim its d rest same (received (w .clerk) (messageRead k c) busy) (w .history) (λ x. R.clerkTakes x c busy) s sent (unnoted (w .history) j)))
+    clerk-other sim its d rest same (received (w .clerk) (messageRead k c) busy) (w .history) (λ x. R.clerkTakes x c busy) s sent (unnoted (w .history) j)
 
 pub step-hears :
     (p : R.Policy) (w : World) → Good p w → Known p w → (busy : Bool) (j : Words) (n : R.Net) → Sim j w n →
@@ -212,7 +212,7 @@ step-hears p w g known busy j n sim (m ∷ rest) e (word k c clear others) = go 
     go (inl q) =
         hears-own p w g busy (messageRead k c) rest j n sim
         (head-own j (messageRead k c) rest (w .down) (n .down) e (sent-name k c (clear-kept k c clear) ∙ q) (sim .downClear) (sim .down))
-    go (inr d) = hears-other p w g known busy k c clear rest e j n sim d
+    go (inr d) = (n, (stays, hears-other p w g known busy k c clear rest e j n sim d))
 
 -- ---- an ask
 taking-own : (h : History) (j : Words) → has (withTakenUp h true j .takenUp) j ≡ true
@@ -221,11 +221,11 @@ taking-own h j = has-own true j (h .takenUp)
 taking-other : (h : History) (k j : Words) (so : Bool) → (k ≡ j → ⊥) → Noted (withTakenUp h so k) h j false false
 taking-other h k j so d = record { takenUp = has-other so k j (h .takenUp) d; runOut = refl; guarded = refl; dropped = refl }
 
-does-not-ask : {e : Event} {d : R.Data} {ck : Bool} {q : ℕ} (y : R.Word) → R.asks d ck q ≡ R.lineGets y → e ≡ lineHears
-does-not-ask y q = cc
+does-not-ask : {w : World} {e : Event} {j : Words} {d : R.Data} {ck : Bool} {q : ℕ} → Hearing w e j (R.asks d ck q)
+does-not-ask = record { only = λ y q. let z : _≡_ {A = ℕ} 0 1 = cc in absurd (omega (arith, z)) }
 
 -- a step that leaves the desk and sends nothing
-clerk-still :
+pub clerk-still :
     {j : Words} {w : World} {n : R.Net} → Sim j w n → (step : Stepped) (history : History) → step .desk ≡ w .clerk → step .outcome .sending ≡ Sending.Nothing →
     Noted history (w .history) j false false → Sim j (clerkStepped w (w .down) step history) n
 clerk-still {j} {w} sim step history e s h =
@@ -244,7 +244,7 @@ clerk-still {j} {w} sim step history e s h =
       dropped = h .dropped ∙ sim .dropped;
     }
 
-not-taking : (h : History) (k j : Words) → Noted (withTakenUp h false k) h j false false
+pub not-taking : (h : History) (k j : Words) → Noted (withTakenUp h false k) h j false false
 not-taking h k j = record { takenUp = refl; runOut = refl; guarded = refl; dropped = refl }
 
 -- the request's own ask, which is taken, at a net that was not taken up
@@ -270,7 +270,7 @@ ask-own w a n sim s =
       dropped = sim .dropped;
     }
 
-ask-other :
+pub ask-other :
     (w : World) (a : Asking) (j : Words) (n : R.Net) → Sim j w n → AskStored (w .clerk) a (asked (w .clerk) a) → (wordsOf (a .identifier) ≡ j → ⊥) → (so : Bool) →
     Sim j (clerkStepped w (w .down) (asked (w .clerk) a) (withTakenUp (w .history) so (wordsOf (a .identifier)))) n
 ask-other w a j n sim s d so =

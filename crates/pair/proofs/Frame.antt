@@ -1,10 +1,11 @@
 -- No step alters another request: each end's step leaves every record but the one it is about, and a line report marks activity at most.
 use Prim.Native.Nat.{ℕ}
 use mathlib.Core.Path.{_≡_, refl, sym, _∙_, ap, subst}
-use mathlib.Core.Bool.{Bool}
+use mathlib.Core.Bool.{Bool, true}
 use mathlib.Core.List.{List, [], _∷_}
 use Rattle.lists.specs.Words.{wordsOf}
 use Rattle.lists.specs.declared.words.Words.{Words}
+use Rattle.message.specs.Number.{digitsInRange}
 use Rattle.message.specs.declared.Message.{Message}
 use Rattle.places.specs.Places as P
 use Rattle.clerk_records.specs.Records as ClerkRecords
@@ -62,7 +63,7 @@ line-heard-frame w g (m ∷ rest) (word k c clear more) j h =
     let s = line-hears (w .line) (line-placed (w .line) (g .line)) (line-full (w .line) (g .line)) k c clear in
     (refl, s .1 .others j (λ e. h (sent-name k c (clear-kept k c clear) ∙ e)))
 
-puts-one : (c : Change) (k j : Words) → Puts c k → k ≡ j → Puts c j
+pub puts-one : (c : Change) (k j : Words) → Puts c k → k ≡ j → Puts c j
 puts-one Stay k j p e = p
 puts-one (Put i r) k j p e = p ∙ e
 puts-one (Remove i) k j p e = p
@@ -70,10 +71,10 @@ puts-one (Report i number busy) k j p e = p
 
 look-frame :
     (d : LineDesk.Desk) (digits : List ℕ) → Looked d digits → (j : Words) →
-    (Puts (lookPlan (d .words) (numberWords digits) .change) j → ⊥) →
+    ((digitsInRange 1 digits ≡ true) × Puts (lookPlan (d .words) (numberWords digits) .change) j → ⊥) →
     P.held lineView j (LineRecords.records (Line.looked d digits .desk .words)) ≡ P.held lineView j (LineRecords.records (d .words))
 look-frame d digits (nothing e s) j h = ap (λ (x : LineDesk.Desk). P.held lineView j (LineRecords.records (x .words))) e
-look-frame d digits (offers k puts s) j h = s .others j (λ e. h (puts-one (lookPlan (d .words) (numberWords digits) .change) k j puts e))
+look-frame d digits (offers k ranged puts s) j h = s .others j (λ e. h (ranged, puts-one (lookPlan (d .words) (numberWords digits) .change) k j puts e))
 
 up-dropped-frame : (w : World) (ms : List Message) (j : Words) → (clerkHolds (upDropped w ms) j ≡ clerkHolds w j) × (lineHolds (upDropped w ms) j ≡ lineHolds w j)
 unfolding upDropped

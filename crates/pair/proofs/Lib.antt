@@ -13,3 +13,5 @@ pub mod LineSteps
 pub mod Runs
 pub mod Claims
 pub mod Frame
+pub mod Others
+pub mod AsBytes

@@ -98,7 +98,7 @@ offer-puts i r = refl
 pub data Looked (d : Desk) (digits : List ℕ) : Type 0 where
   nothing : looked d digits .desk ≡ d → looked d digits .outcome .sending ≡ Sending.Nothing → Looked d digits
   offers :
-      (identifier : Words) → Puts (lookPlan (d .words) (numberWords digits) .change) identifier →
+      (identifier : Words) → digitsInRange 1 digits ≡ true → Puts (lookPlan (d .words) (numberWords digits) .change) identifier →
       LineStep (d .words) (looked d digits) identifier (λ l. R.lineActs l R.offers) → Looked d digits
 
 module _ (d : Desk) (placed : P.Placed lineView (records (d .words))) (full : length (d .words) ≡ 498) where
@@ -122,7 +122,7 @@ module _ (d : Desk) (placed : P.Placed lineView (records (d .words))) (full : le
   look-step digits true e (refuses refusal q) = nothing (rw (e, q) (ap (λ (v : List ℕ). record { words = v }) (applied-stay (d .words)))) (rw (e, q))
   look-step digits true e (gives i fit q) =
       let r = getD (records (d .words)) i blank in
-      offers (r .identifier) (rw q (offer-puts i r))
+      offers (r .identifier) e (rw q (offer-puts i r))
       (rw (e, q) (plan-step d placed full (r .identifier) (taken i r Offers) (λ l. R.lineActs l R.offers) (offer-does i (numberWords digits) fit)))
 
   pub line-looks : (digits : List ℕ) → Looked d digits
@@ -144,21 +144,19 @@ unaltered-read :
     {digits : List ℕ} {busy : Bool} {before after : P.Held Record} → Unaltered (lineReports digits busy) before after →
     (identifier : Words) (l : R.Line) (b : Bool) → before ≡ lineRead identifier b l → (c : Bool) × (after ≡ lineRead identifier c l)
 unaltered-read same identifier l b e = (b, e)
-unaltered-read (marked r) identifier R.none b e = absurd (no-one (sym e))
-unaltered-read (marked r) identifier (R.holds d k n s) b e =
+unaltered-read (marked r t) identifier R.none b e = absurd (no-one (sym e))
+unaltered-read (marked r t) identifier (R.holds d k n s) b e =
     let q : r ≡ lineRecord identifier b d k n s = cc in
     (true, ap (λ (x : Record). P.one (activated x)) q)
 
 abbrev marking : Words → Record → Record
 marking number r = pick (marks number r) (activated r) r
 
-marking-held :
-    {digits : List ℕ} {busy : Bool} (number : Words) (h : P.Held Record) →
-    Unaltered (lineReports digits busy) h (P.mapHeld (marking number) h)
+marking-held : (digits : List ℕ) (h : P.Held Record) → Unaltered (lineReports digits true) h (P.mapHeld (marking (numberWords digits)) h)
 unfolding P.mapHeld
-marking-held number P.none = same
-marking-held {digits} {busy} number (P.one r) =
-    pick-elim (λ (x : Record). Unaltered (lineReports digits busy) (P.one r) (P.one x)) (marks number r) (λ t. marked r) (λ t. same)
+marking-held digits P.none = same
+marking-held digits (P.one r) =
+    pick-elim (λ (x : Record). Unaltered (lineReports digits true) (P.one r) (P.one x)) (marks (numberWords digits) r) (λ t. marked r t) (λ t. same)
 
 marking-used : (number : Words) (r : Record) → used (marking number r) ≡ used r
 marking-used number r = pick-elim (λ (x : Record). used x ≡ used r) (marks number r) (λ t. refl) (λ t. refl)
@@ -168,18 +166,19 @@ marking-named number r = pick-elim (λ (x : Record). x .identifier ≡ r .identi
 
 module _ (d : Desk) (full : length (d .words) ≡ 498) (digits : List ℕ) (busy : Bool) where
   report-unaltered :
-      (k : ℕ) (number identifier : Words) →
+      (k : ℕ) (identifier : Words) →
       Unaltered (lineReports digits busy) (P.held lineView identifier (records (d .words)))
-      (P.held lineView identifier (records (applied (d .words) (Report k number busy))))
-  report-unaltered k number identifier = rw (records-applied-report (d .words) k number busy full) (by busy)
+      (P.held lineView identifier (records (applied (d .words) (Report k (numberWords digits) busy))))
+  report-unaltered k identifier = rw (records-applied-report (d .words) k (numberWords digits) busy full) (by busy)
     where
       by :
           (b : Bool) →
-          Unaltered (lineReports digits busy) (P.held lineView identifier (records (d .words)))
-          (P.held lineView identifier (pick b (map (marking number) (records (d .words))) (records (d .words))))
+          Unaltered (lineReports digits b) (P.held lineView identifier (records (d .words)))
+          (P.held lineView identifier (pick b (map (marking (numberWords digits)) (records (d .words))) (records (d .words))))
       by true =
+          let number = numberWords digits in
           rw (held-change lineView (records (d .words)) (marking number) identifier (marking-used number) (marking-named number))
-          (marking-held number (P.held lineView identifier (records (d .words))))
+          (marking-held digits (P.held lineView identifier (records (d .words))))
       by false = same
 
   reported :
@@ -190,16 +189,17 @@ module _ (d : Desk) (full : length (d .words) ≡ 498) (digits : List ℕ) (busy
   reported step silent settings unaltered =
       record { silent = silent; settings = settings; unaltered = unaltered; reads = λ identifier. unaltered-read (unaltered identifier) identifier }
 
-  found-reported : (number : Words) (f : Found) → Reported d digits busy (stepped d (reportFound number busy f))
-  found-reported number Nothing =
-      reported (stepped d (reportFound number busy Nothing)) refl (ap policyOf (applied-stay (d .words)))
+  found-reported : (f : Found) → Reported d digits busy (stepped d (reportFound (numberWords digits) busy f))
+  found-reported Nothing =
+      reported (stepped d (reportFound (numberWords digits) busy Nothing)) refl (ap policyOf (applied-stay (d .words)))
       (λ identifier. rw (applied-stay (d .words)) same)
-  found-reported number (At k) =
-      reported (stepped d (reportFound number busy (At k))) refl (policy-kept (d .words) (Report k number busy) full) (report-unaltered k number)
+  found-reported (At k) =
+      reported (stepped d (reportFound (numberWords digits) busy (At k))) refl (policy-kept (d .words) (Report k (numberWords digits) busy) full)
+      (report-unaltered k)
 
   pub line-reports : Reported d digits busy (lineReported d digits busy)
   unfolding lineReported reportPlan
   line-reports =
       pick-elim (Reported d digits busy) (digitsInRange 1 digits)
-      (λ t. found-reported (numberWords digits) (lineAt (numberWords digits) (lines (d .words))))
+      (λ t. found-reported (lineAt (numberWords digits) (lines (d .words))))
       (λ t. reported (refusedStep d 10) refl refl (λ identifier. same))

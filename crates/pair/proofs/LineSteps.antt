@@ -4,6 +4,7 @@ use mathlib.Core.Path.{_≡_, refl, sym, _∙_, ap, subst}
 use mathlib.Core.Bool.{Bool, true, false}
 use mathlib.Core.Logic.{_⊎_, inl, inr}
 use mathlib.Core.List.{List, [], _∷_, _++_, map}
+use native.Mathlib.Omega.{arith}
 use Rattle.lists.specs.Words.{wordsOf}
 use Rattle.lists.specs.declared.words.Words.{Words}
 use Rattle.message.specs.declared.Message.{Message}
@@ -21,13 +22,14 @@ use Rattle.pair_request.specs.Reading as R
 use Rattle.pair_request.proofs.Effects.{line-act-effect, line-act-plain, line-take-effect, line-take-plain}
 use Rattle.pair_request.proofs.Agree.{agreed, untaken}
 use Rattle.pair.specs.World.{World, History, Event, lineHears, lineReports, lineLooks, lineActs, guardReports, dropsUp, dropsDown, messagesOf, nameOf, has, sentBy, taken, lineStepped, lineHeard, upDropped, downDropped, withDropped, withGuarded, next}
+use Rattle.pair.specs.Claims.{Heads}
 use Rattle.pair.proofs.Ends.{messageRead, Clear, lineActRead, policyOf, LineStep}
 use Rattle.pair.proofs.Letters.{clear-kept, sent-name}
 use Rattle.pair.proofs.LineEnd.{line-hears, line-acts, line-guards, guard-ends}
 use Rattle.pair.proofs.LineLooks.{Looked, nothing, offers, Reported}
 use Rattle.pair.proofs.Wires.{words?, messages-miss, AllClear, no-message, plain-clear, Worded, quiet, word, has-own, has-other}
 use Rattle.pair.proofs.Grounds.{line-placed, line-full}
-use Rattle.pair.proofs.Sim.{Sim, Good, Follows, stays, moves, Step, Noted, unnoted, append-none, line-own, line-other}
+use Rattle.pair.proofs.Sim.{Sim, Good, Hearing, Follows, stays, moves, Step, Noted, unnoted, append-none, line-own, line-other}
 use Rattle.pair.proofs.ClerkSteps.{Known, Headed, head-own}
 
 -- ---- acts, Looks and the guard
@@ -50,15 +52,15 @@ unfolding R.next
 acting-own {w} {n} sim r x step history s h =
     line-own sim (w .up) (n .up) (sim .up) (sim .upClear) step history (λ l. R.lineActs l x) s (line-act-clear sim r x) (R.guardEnds (n .line) x) h
 
-acting-other :
+pub acting-other :
     {p : R.Policy} {j k : Words} {w : World} {n : R.Net} → Sim j w n → (m : R.Net) × (R.Reach p m × Sim k w m) → (k ≡ j → ⊥) → (x : R.LAct) (step : Stepped)
     (history : History) → LineStep (w .line .words) step k (λ l. R.lineActs l x) → Noted history (w .history) j false false →
     Sim j (lineStepped w (w .up) step history) n
 acting-other {w} sim its d x step history s h =
     line-other sim (its .1 .1) d (w .up) refl step history (λ l. R.lineActs l x) s (line-act-clear (its .1 .1) (its .1 .0) x) h
 
-does-not-hear : {e : Event} {x : R.LAct} (y : R.Word) → R.lineDoes x ≡ R.lineGets y → e ≡ lineHears
-does-not-hear y q = cc
+does-not-hear : {w : World} {e : Event} {j : Words} {x : R.LAct} → Hearing w e j (R.lineDoes x)
+does-not-hear = record { only = λ y q. let z : _≡_ {A = ℕ} 0 1 = cc in absurd (omega (arith, z)) }
 
 act-no-guard : (l : R.Line) (act : Act) → R.guardEnds l (lineActRead act) ≡ false
 act-no-guard R.none Act.Alerted = refl
@@ -94,7 +96,7 @@ step-acts p w g known identifier act j n r sim (inr d) =
 noted-own : (h : History) (j : Words) (so : Bool) → Noted (withGuarded h so j) h j false so
 noted-own h j so = record { takenUp = refl; runOut = refl; guarded = has-own so j (h .guarded); dropped = refl }
 
-noted-other : (h : History) (k j : Words) (so : Bool) → (k ≡ j → ⊥) → Noted (withGuarded h so k) h j false false
+pub noted-other : (h : History) (k j : Words) (so : Bool) → (k ≡ j → ⊥) → Noted (withGuarded h so k) h j false false
 noted-other h k j so d = record { takenUp = refl; runOut = refl; guarded = has-other so k j (h .guarded) d; dropped = refl }
 
 pub step-guard :
@@ -130,7 +132,7 @@ step-guard p w g known identifier j n r sim (inr d) =
     )
 
 -- a step that leaves the desk and sends nothing
-line-still :
+pub line-still :
     {j : Words} {w : World} {n : R.Net} → Sim j w n → (step : Stepped) → step .desk ≡ w .line → step .outcome .sending ≡ Sending.Nothing →
     Sim j (lineStepped w (w .up) step (w .history)) n
 line-still {j} {w} sim step e s =
@@ -154,9 +156,9 @@ pub step-looks :
     Sim j w n → Step p w (lineLooks digits) j n
 unfolding next
 step-looks p w known digits (nothing e s) j n r sim = (n, (stays, line-still sim (looked (w .line) digits) e s))
-step-looks p w known digits (offers k puts s) j n r sim = go (words? k j)
+step-looks p w known digits (offers k ranged puts s) j n r sim = go (words? k j)
   where
-    go : (k ≡ j) ⊎ (k ≡ j → ⊥) → (after : R.Net) × (Follows p (lineLooks digits) n after × Sim j (lineStepped w (w .up) (looked (w .line) digits) (w .history)) after)
+    go : (k ≡ j) ⊎ (k ≡ j → ⊥) → (after : R.Net) × (Follows p w (lineLooks digits) j n after × Sim j (lineStepped w (w .up) (looked (w .line) digits) (w .history)) after)
     go (inl e) = (
       R.next p n (R.lineDoes R.offers),
       (
@@ -169,6 +171,13 @@ step-looks p w known digits (offers k puts s) j n r sim = go (words? k j)
     go (inr d) = (n, (stays, acting-other sim (known k) d R.offers (looked (w .line) digits) (w .history) s (unnoted (w .history) j)))
 
 -- ---- a line report marks activity at most
+pub report-quiet :
+    (w : World) (digits : List ℕ) (busy : Bool) → Reported (w .line) digits busy (lineReported (w .line) digits busy) → (j : Words) →
+    (messagesOf j (w .up) ≡ messagesOf j (w .up))
+    × (messagesOf j (w .down ++ sentBy (lineReported (w .line) digits busy .outcome .sending)) ≡ messagesOf j (w .down))
+report-quiet w digits busy s j =
+    (refl, ap (λ (x : Sending). messagesOf j (w .down ++ sentBy x)) (s .silent) ∙ ap (messagesOf j) (append-none (w .down)))
+
 pub step-reports :
     (p : R.Policy) (w : World) (digits : List ℕ) (busy : Bool) → Reported (w .line) digits busy (lineReported (w .line) digits busy) → (j : Words) (n : R.Net) →
     Sim j w n → Step p w (lineReports digits busy) j n
@@ -197,13 +206,13 @@ step-reports p w digits busy s j n sim =
 
 -- ---- a message delivered
 abbrev Heard : R.Policy → World → List Message → Words → R.Net → Type 0
-Heard p w ms j n = (after : R.Net) × (Follows p lineHears n after × Sim j (lineHeard w ms) after)
+Heard p w ms j n = (after : R.Net) × (Follows p w lineHears j n after × Sim j (lineHeard w ms) after)
 
 hears-own :
     (p : R.Policy) (w : World) → Good p w → (m : Message) (rest : List Message) (j : Words) (n : R.Net) → Sim j w n → Headed j m rest (n .up) →
-    Heard p w (m ∷ rest) j n
+    Heads (w .up) j → Heard p w (m ∷ rest) j n
 unfolding lineHeard R.next R.lineGetStep
-hears-own p w g m rest j n sim h =
+hears-own p w g m rest j n sim h head =
     let c = h .code in
     let both = line-hears (w .line) (line-placed (w .line) (g .line)) (line-full (w .line) (g .line)) j c (h .clear) in
     let x = both .0 in
@@ -216,14 +225,14 @@ hears-own p w g m rest j n sim h =
     let here = subst (λ y. Sim j (lineStepped w rest (received (w .line) y) (w .history)) after) (sym (h .same)) there in (
       R.next p n (R.lineGets x),
       (
-        moves (R.lineGets x) (λ y q. refl),
+        moves (R.lineGets x) (record { only = λ y q. (refl, head) }),
         subst (λ y. Sim j (lineStepped w rest (received (w .line) m) (w .history)) (R.lineGetStep p n x y)) (sym (h .whole)) here,
       ),
     )
 
-hears-other :
+pub hears-other :
     (p : R.Policy) (w : World) → Good p w → Known p w → (k : Words) (c : R.Msg) → Clear k c → (rest : List Message) → w .up ≡ messageRead k c ∷ rest →
-    (j : Words) (n : R.Net) → Sim j w n → (k ≡ j → ⊥) → Heard p w (messageRead k c ∷ rest) j n
+    (j : Words) (n : R.Net) → Sim j w n → (k ≡ j → ⊥) → Sim j (lineHeard w (messageRead k c ∷ rest)) n
 unfolding lineHeard
 hears-other p w g known k c clear rest e j n sim d =
     let both = line-hears (w .line) (line-placed (w .line) (g .line)) (line-full (w .line) (g .line)) k c clear in
@@ -234,7 +243,7 @@ hears-other p w g known k c clear rest e j n sim d =
     let kept = clear-kept k c clear in
     let sent = plain-clear k (R.lineTakes q (m .line) c x .1) (line-take-plain (line-take-effect q (m .line) c x)) kept in
     let same = sym (messages-miss j (messageRead k c) rest (λ y. d (sym (sent-name k c kept) ∙ y))) ∙ ap (messagesOf j) (sym e) in
-    (n, (stays, line-other sim its d rest same (received (w .line) (messageRead k c)) (w .history) (λ l. R.lineTakes q l c x) (both .1) sent (unnoted (w .history) j)))
+    line-other sim its d rest same (received (w .line) (messageRead k c)) (w .history) (λ l. R.lineTakes q l c x) (both .1) sent (unnoted (w .history) j)
 
 pub step-hears :
     (p : R.Policy) (w : World) → Good p w → Known p w → (j : Words) (n : R.Net) → Sim j w n → (ms : List Message) → w .up ≡ ms → Worded ms → Heard p w ms j n
@@ -246,7 +255,8 @@ step-hears p w g known j n sim (m ∷ rest) e (word k c clear others) = go (word
     go (inl q) =
         hears-own p w g (messageRead k c) rest j n sim
         (head-own j (messageRead k c) rest (w .up) (n .up) e (sent-name k c (clear-kept k c clear) ∙ q) (sim .upClear) (sim .up))
-    go (inr d) = hears-other p w g known k c clear rest e j n sim d
+        (subst (λ (ms : List Message). Heads ms j) (sym e) (sent-name k c (clear-kept k c clear) ∙ q))
+    go (inr d) = (n, (stays, hears-other p w g known k c clear rest e j n sim d))
 
 -- ---- drops
 dropping-own : (h : History) (j k : Words) → k ≡ j → has (withDropped h k .dropped) j ≡ true
@@ -255,15 +265,15 @@ dropping-own h j k e = subst (λ i. has (k ∷ h .dropped) i ≡ true) e (has-ow
 dropping-other : (h : History) (k j : Words) → (k ≡ j → ⊥) → has (withDropped h k .dropped) j ≡ has (h .dropped) j
 dropping-other h k j d = has-other true k j (h .dropped) d
 
-loses-not-up : {e : Event} (y : R.Word) → R.losesUp ≡ R.lineGets y → e ≡ lineHears
-loses-not-up y q = cc
+loses-not-up : {w : World} {e : Event} {j : Words} → Hearing w e j R.losesUp
+loses-not-up = record { only = λ y q. let z : _≡_ {A = ℕ} 0 1 = cc in absurd (omega (arith, z)) }
 
-loses-not-down : {e : Event} (y : R.Word) → R.losesDown ≡ R.lineGets y → e ≡ lineHears
-loses-not-down y q = cc
+loses-not-down : {w : World} {e : Event} {j : Words} → Hearing w e j R.losesDown
+loses-not-down = record { only = λ y q. let z : _≡_ {A = ℕ} 0 1 = cc in absurd (omega (arith, z)) }
 
 pub step-drops-up :
     (p : R.Policy) (w : World) (j : Words) (n : R.Net) → Sim j w n → (ms : List Message) → w .up ≡ ms →
-    (after : R.Net) × (Follows p dropsUp n after × Sim j (upDropped w ms) after)
+    (after : R.Net) × (Follows p w dropsUp j n after × Sim j (upDropped w ms) after)
 unfolding upDropped R.next R.loseUpStep
 step-drops-up p w j n sim [] e = (n, (stays, sim))
 step-drops-up p w j n sim (m ∷ rest) e = go (words? (nameOf m) j)
@@ -293,7 +303,7 @@ step-drops-up p w j n sim (m ∷ rest) e = go (words? (nameOf m) j)
     go :
         (nameOf m ≡ j) ⊎ (nameOf m ≡ j → ⊥) →
         (after : R.Net)
-        × (Follows p dropsUp n after
+        × (Follows p w dropsUp j n after
         × Sim j (record { clerk = w .clerk; up = rest; line = w .line; down = w .down; history = withDropped (w .history) (nameOf m) }) after)
     go (inl q) = (R.next p n R.losesUp, (moves R.losesUp loses-not-up, lost (head-own j m rest (w .up) (n .up) e q (sim .upClear) (sim .up)) q))
     go (inr d) = (
@@ -319,7 +329,7 @@ step-drops-up p w j n sim (m ∷ rest) e = go (words? (nameOf m) j)
 
 pub step-drops-down :
     (p : R.Policy) (w : World) (j : Words) (n : R.Net) → Sim j w n → (ms : List Message) → w .down ≡ ms →
-    (after : R.Net) × (Follows p dropsDown n after × Sim j (downDropped w ms) after)
+    (after : R.Net) × (Follows p w dropsDown j n after × Sim j (downDropped w ms) after)
 unfolding downDropped R.next R.loseDownStep
 step-drops-down p w j n sim [] e = (n, (stays, sim))
 step-drops-down p w j n sim (m ∷ rest) e = go (words? (nameOf m) j)
@@ -349,7 +359,7 @@ step-drops-down p w j n sim (m ∷ rest) e = go (words? (nameOf m) j)
     go :
         (nameOf m ≡ j) ⊎ (nameOf m ≡ j → ⊥) →
         (after : R.Net)
-        × (Follows p dropsDown n after
+        × (Follows p w dropsDown j n after
         × Sim j (record { clerk = w .clerk; up = w .up; line = w .line; down = rest; history = withDropped (w .history) (nameOf m) }) after)
     go (inl q) = (R.next p n R.losesDown, (moves R.losesDown loses-not-down, lost (head-own j m rest (w .down) (n .down) e q (sim .downClear) (sim .down)) q))
     go (inr d) = (

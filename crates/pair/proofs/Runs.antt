@@ -123,7 +123,7 @@ look-good : (p : R.Policy) (w : World) → Good p w → Known p w → (digits : 
 look-good p w g known digits (nothing e s) =
     line-good g (w .up) (g .up) (Line.looked (w .line) digits) (w .history) (LineSound.looks digits (g .line)) (ap (λ d. policyOf (d .words)) e)
     (silent-worded (Line.looked (w .line) digits .outcome .sending) s)
-look-good p w g known digits (offers k puts s) =
+look-good p w g known digits (offers k ranged puts s) =
     line-good g (w .up) (g .up) (Line.looked (w .line) digits) (w .history) (LineSound.looks digits (g .line)) (s .settings)
     (line-worded (known k .0) (known k .1 .1) s (L.line-act-clear (known k .1 .1) (known k .1 .0) R.offers))
 
@@ -174,7 +174,7 @@ good-next p w g known dropsUp once = up-dropped-good p w g (w .up) (g .up)
 good-next p w g known dropsDown once = down-dropped-good p w g (w .down) (g .down)
 
 -- ---- runs
-pub follows-reach : {p : R.Policy} {e : Event} {n m : R.Net} → Follows p e n m → R.Reach p n → R.Reach p m
+pub follows-reach : {p : R.Policy} {w : World} {e : Event} {j : Words} {n m : R.Net} → Follows p w e j n m → R.Reach p n → R.Reach p m
 follows-reach stays r = r
 follows-reach (moves x h) r = R.more r x
 

@@ -11,6 +11,7 @@ use Rattle.line.specs.declared.steps.Stepped as LineStepped
 use Rattle.line_sound.specs.Sound as LineSound
 use Rattle.pair_request.specs.Reading as R
 use Rattle.pair.specs.World.{World, History, Event, lineHears, clerkHolds, lineHolds, messagesOf, has, sentBy, clerkStepped, lineStepped, next}
+use Rattle.pair.specs.Claims.{Heads}
 use Rattle.pair.proofs.Ends.{clerkRead, lineRead, messageRead, Kept, policyOf, ClerkStep, LineStep}
 use Rattle.pair.proofs.Wires.{messages-append, AllClear, clear-append, messages-own, messages-other, Worded}
 
@@ -36,13 +37,16 @@ pub record Good (p : R.Policy) (w : World) : Type 0 where
   pub up : Worded (w .up)
   pub down : Worded (w .down)
 
--- a step of the world leaves the net or is a step of it; only a delivery to the line is one there
-pub data Follows (p : R.Policy) (e : Event) (n : R.Net) : R.Net → Type 0 where
-  stays : Follows p e n n
-  moves : (r : R.Event) → ((x : R.Word) → r ≡ R.lineGets x → e ≡ lineHears) → Follows p e n (R.next p n r)
+-- a step of the world leaves the net or is a step of it; only a delivery of the request's own message to the line is one there
+pub record Hearing (w : World) (e : Event) (j : Words) (r : R.Event) : Type 0 where
+  pub only : (x : R.Word) → r ≡ R.lineGets x → (e ≡ lineHears) × Heads (w .up) j
+
+pub data Follows (p : R.Policy) (w : World) (e : Event) (j : Words) (n : R.Net) : R.Net → Type 0 where
+  stays : Follows p w e j n n
+  moves : (r : R.Event) → Hearing w e j r → Follows p w e j n (R.next p n r)
 
 abbrev pub Step : R.Policy → World → Event → Words → R.Net → Type 0
-Step p w e j n = (after : R.Net) × (Follows p e n after × Sim j (next w e) after)
+Step p w e j n = (after : R.Net) × (Follows p w e j n after × Sim j (next w e) after)
 
 -- ---- the history of one identifier after a step: a T1 or T2 report taken, a guard report taken
 pub record Noted (after before : History) (j : Words) (t g : Bool) : Type 0 where

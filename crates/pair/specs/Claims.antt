@@ -2,9 +2,13 @@
 use Prim.Native.Nat.{ℕ}
 use mathlib.Core.Path.{_≡_}
 use mathlib.Core.Bool.{Bool, true, false}
-use mathlib.Core.List.{List, [], _∷_}
+use mathlib.Core.Logic.{_⊎_}
+use mathlib.Core.List.{List, [], _∷_, _++_}
+use lib.ListN.{length}
 use Rattle.lists.specs.Words.{Bytes, wordsOf}
 use Rattle.lists.specs.declared.words.Words.{Words}
+use Rattle.message.specs.Number.{digitsInRange}
+use Rattle.message.specs.Format.{messageBytes}
 use Rattle.message.specs.declared.Message.{Message}
 use Rattle.message.specs.declared.Body.{Body}
 use Rattle.message.specs.declared.Body.the-variants.{CcbsRequest, CcnrRequest, RequestResult, RequestError, CcExecPossible, CcRingout, RingoutError, CcSuspend, CcResume, CcCancel, CallAlerts, CallFailed}
@@ -13,40 +17,64 @@ use Rattle.desk.specs.declared.Connection.the-variants.{Empty}
 use Rattle.places.specs.Places.{Held, none, one}
 use Rattle.clerk_table.specs.declared.record.Record as ClerkRecord
 use Rattle.clerk_table.specs.declared.table.State.the-variants as ClerkState
+use Rattle.clerk.specs.Steps as Clerk
+use Rattle.line.specs.Steps as Line
 use Rattle.line_table.specs.declared.record.Record as LineRecord
 use Rattle.line_table.specs.declared.record.Change.{Change}
 use Rattle.line_table.specs.declared.record.Change.the-variants.{Stay, Put, Remove, Report}
 use Rattle.line_table.specs.declared.table.State.the-variants as LineState
+use Rattle.line_table.specs.Search.{marks}
 use Rattle.line_records.specs.Change.{activated}
 use Rattle.line_plan.specs.Plan.{lookPlan}
-use Rattle.pair.specs.World.{World, Event, asks, clerkActs, clerkReports, clerkHears, lineHears, lineReports, lineLooks, lineActs, guardReports, dropsUp, dropsDown, clerkHolds, lineHolds, nameOf, messagesOf, has, next, Allowed, Run, startWorld, Reached}
+use Rattle.pair.specs.World.{World, Event, asks, clerkActs, clerkReports, clerkHears, lineHears, lineReports, lineLooks, lineActs, guardReports, dropsUp, dropsDown, clerkHolds, lineHolds, nameOf, messagesOf, has, next, Allowed, Run, stop, then, startWorld, Reached}
 
 -- acknowledged: the connection choice is not empty
 abbrev pub Acknowledged : ClerkRecord.Record → Type 0
 Acknowledged c = c .connection ≡ Empty → ⊥
 
 -- ---- 1. what the clerk's end holds as acknowledged was accepted earlier at the line's end
--- an earlier world of the run, in which the line's end heard the request and stored it
-pub record Accepted (first w : World) (identifier : Words) : Type 0 where
-  pub before : World
-  pub sooner : Run first before
-  pub absent : lineHolds before identifier ≡ none
+abbrev pub IsRequest : Body → Type 0
+IsRequest (CcbsRequest service flags) = Unit
+IsRequest (CcnrRequest service flags) = Unit
+IsRequest (RequestResult keep) = ⊥
+IsRequest (RequestError error) = ⊥
+IsRequest CcExecPossible = ⊥
+IsRequest CcRingout = ⊥
+IsRequest (RingoutError error) = ⊥
+IsRequest CcSuspend = ⊥
+IsRequest CcResume = ⊥
+IsRequest CcCancel = ⊥
+IsRequest CallAlerts = ⊥
+IsRequest CallFailed = ⊥
+
+-- the head of a wire is the request message with an identifier
+abbrev pub Requests : List Message → Words → Type 0
+Requests [] identifier = ⊥
+Requests (m ∷ ms) identifier = (nameOf m ≡ identifier) × IsRequest (m .body)
+
+-- the step by which the line's end, which held nothing of it, hears the request and stores it
+pub record Stores (identifier : Words) (w : World) (e : Event) : Type 0 where
+  pub heard : e ≡ lineHears
+  pub request : Requests (w .up) identifier
+  pub absent : lineHolds w identifier ≡ none
   pub stored : LineRecord.Record
-  pub present : lineHolds (next before lineHears) identifier ≡ one stored
-  pub later : Run (next before lineHears) w
+  pub present : lineHolds (next w e) identifier ≡ one stored
+
+-- some step of the run is that one
+unfoldable pub Accepted : {first w : World} → Words → Run first w → Type 0
+Accepted identifier stop = ⊥
+Accepted identifier (then {w} run e once) = Stores identifier w e ⊎ Accepted identifier run
 
 abbrev pub AcknowledgedWasAccepted : Type 0
 AcknowledgedWasAccepted =
-    (given : List ℕ) (keep retain : Bool) → Bytes given → (w : World) → Run (startWorld given keep retain) w →
-    (identifier : Words) (c : ClerkRecord.Record) → clerkHolds w identifier ≡ one c → Acknowledged c →
-    Accepted (startWorld given keep retain) w identifier
+    (given : List ℕ) (keep retain : Bool) → Bytes given → (w : World) (run : Run (startWorld given keep retain) w) →
+    (identifier : Words) (c : ClerkRecord.Record) → clerkHolds w identifier ≡ one c → Acknowledged c → Accepted identifier run
 
 -- ---- 2. while both hold it the data agree
 pub record Agree (c : ClerkRecord.Record) (l : LineRecord.Record) : Type 0 where
   pub numberA : c .numberA ≡ l .numberA
   pub numberB : c .numberB ≡ l .numberB
   pub service : c .service ≡ l .service
-  pub kind : c .kind ≡ l .kind
   -- once acknowledged also keep choice and connection choice
   pub keep : Acknowledged c → c .keep ≡ l .keep
   pub connection : Acknowledged c → c .connection ≡ l .connection
@@ -55,6 +83,12 @@ abbrev pub DataAgree : Type 0
 DataAgree =
     (w : World) → Reached w → (identifier : Words) (c : ClerkRecord.Record) (l : LineRecord.Record) →
     clerkHolds w identifier ≡ one c → lineHolds w identifier ≡ one l → Agree c l
+
+-- and so does the kind, which the demand does not name
+abbrev pub KindAgrees : Type 0
+KindAgrees =
+    (w : World) → Reached w → (identifier : Words) (c : ClerkRecord.Record) (l : LineRecord.Record) →
+    clerkHolds w identifier ≡ one c → lineHolds w identifier ≡ one l → c .kind ≡ l .kind
 
 -- ---- 3. quiet wires mean a listed pair (document 01, "Pairs when the wires are quiet")
 pub data Listed : Held ClerkRecord.Record → Held LineRecord.Record → Type 0 where
@@ -119,16 +153,16 @@ About w (clerkReports name timer) identifier = wordsOf name ≡ identifier
 About w (clerkHears busy) identifier = Heads (w .down) identifier
 About w lineHears identifier = Heads (w .up) identifier
 About w (lineReports digits busy) identifier = ⊥
-About w (lineLooks digits) identifier = Puts (lookPlan (w .line .words) (numberWords digits) .change) identifier
+About w (lineLooks digits) identifier = (digitsInRange 1 digits ≡ true) × Puts (lookPlan (w .line .words) (numberWords digits) .change) identifier
 About w (lineActs name act) identifier = wordsOf name ≡ identifier
 About w (guardReports name) identifier = wordsOf name ≡ identifier
 About w dropsUp identifier = ⊥
 About w dropsDown identifier = ⊥
 
--- the same, except that a line report may mark activity
+-- the same, except that a busy report of its line may mark the activity of an Invoked record
 pub data Unaltered : Event → Held LineRecord.Record → Held LineRecord.Record → Type 0 where
   same : {e : Event} {r : Held LineRecord.Record} → Unaltered e r r
-  marked : {digits : List ℕ} {busy : Bool} (r : LineRecord.Record) → Unaltered (lineReports digits busy) (one r) (one (activated r))
+  marked : {digits : List ℕ} (r : LineRecord.Record) → marks (numberWords digits) r ≡ true → Unaltered (lineReports digits true) (one r) (one (activated r))
 
 pub record Untouched (w : World) (e : Event) (identifier : Words) : Type 0 where
   pub clerk : clerkHolds (next w e) identifier ≡ clerkHolds w identifier
@@ -137,3 +171,37 @@ pub record Untouched (w : World) (e : Event) (identifier : Words) : Type 0 where
 abbrev pub NoOtherAltered : Type 0
 NoOtherAltered =
     (w : World) → Reached w → (e : Event) → Allowed w e → (identifier : Words) → (About w e identifier → ⊥) → Untouched w e identifier
+
+-- and such a step sends, takes and drops none of its messages, unless it drops the head of a wire and that is one of them
+abbrev pub Drops : World → Event → Words → Type 0
+Drops w (asks a) identifier = ⊥
+Drops w (clerkActs name act) identifier = ⊥
+Drops w (clerkReports name timer) identifier = ⊥
+Drops w (clerkHears busy) identifier = ⊥
+Drops w lineHears identifier = ⊥
+Drops w (lineReports digits busy) identifier = ⊥
+Drops w (lineLooks digits) identifier = ⊥
+Drops w (lineActs name act) identifier = ⊥
+Drops w (guardReports name) identifier = ⊥
+Drops w dropsUp identifier = Heads (w .up) identifier
+Drops w dropsDown identifier = Heads (w .down) identifier
+
+abbrev pub NoOtherMessage : Type 0
+NoOtherMessage =
+    (w : World) → Reached w → (e : Event) → Allowed w e → (identifier : Words) → (About w e identifier → ⊥) → (Drops w e identifier → ⊥) →
+    (messagesOf identifier (next w e .up) ≡ messagesOf identifier (w .up)) × (messagesOf identifier (next w e .down) ≡ messagesOf identifier (w .down))
+
+-- ---- a delivery may as well be of bytes: those that the writer makes of a message, whatever follows them
+abbrev pub ClerkHearsBytes : World → Bool → List ℕ → List Message → Type 0
+ClerkHearsBytes w busy rest [] = Unit
+ClerkHearsBytes w busy rest (m ∷ ms) =
+    Clerk.receivedBytes (w .clerk) (messageBytes m ++ rest) busy ≡ Clerk.withNext (Clerk.received (w .clerk) m busy) (length (messageBytes m))
+
+abbrev pub LineHearsBytes : World → List ℕ → List Message → Type 0
+LineHearsBytes w rest [] = Unit
+LineHearsBytes w rest (m ∷ ms) =
+    Line.receivedBytes (w .line) (messageBytes m ++ rest) ≡ Line.withNext (Line.received (w .line) m) (length (messageBytes m))
+
+abbrev pub HeardAsBytes : Type 0
+HeardAsBytes =
+    (w : World) → Reached w → (busy : Bool) (rest : List ℕ) → ClerkHearsBytes w busy rest (w .down) × LineHearsBytes w rest (w .up)

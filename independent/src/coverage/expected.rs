@@ -242,7 +242,44 @@ fn ask_rows(names: &mut Vec<String>) {
         "identifier not live, desk full: refusal 5",
     ];
     names.extend(faults.iter().map(|fault| format!("clerk: ask: {fault}")));
+    let edges = [
+        "numberA of 15 digits: taken",
+        "numberA of 16 digits: refusal 2",
+        "numberB of 15 digits: taken",
+        "numberB of 16 digits: refusal 2",
+        "service 16383: taken",
+        "service 16384: refusal 2",
+        "preference 2: taken",
+        "preference 3: refusal 2",
+        "the desk has 15: taken",
+        "the desk has 16: refusal 5",
+    ];
+    names.extend(edges.iter().map(|edge| format!("clerk: ask: {edge}")));
 }
+
+/// "Records stand compact .. a delete closes the gap" (READINGS 19).
+fn deletion_rows(names: &mut Vec<String>, desk: &str) {
+    for which in ["alone", "the oldest", "between others", "the youngest"].iter() {
+        names.push(format!("{desk}: a record is deleted: {which}"));
+    }
+}
+
+/// Edges at the line desk that are no rows of their own in document 01.
+const LINE_EDGES: [&str; 13] = [
+    "request: numberA of 15 digits: accepted",
+    "request: numberB of 15 digits: accepted",
+    "request: service 0: accepted",
+    "request: service 16383: accepted",
+    "request: the line has 4: accepted",
+    "request: the desk has 31: accepted",
+    "start: a line of 15 digits: taken",
+    "start: a line of 16 digits: refusal 2",
+    "report: the number of a line of 15 digits: taken",
+    "report: a number of 16 digits: refusal 10",
+    "Look: the number of a line of 15 digits: taken",
+    "Look: the number of a line of 15 digits: refusal 11",
+    "Look: a number of 16 digits: refusal 10",
+];
 
 /// Rows on bytes, the same at both desks.
 fn bytes_rows(names: &mut Vec<String>, desk: &str) {
@@ -478,6 +515,7 @@ pub fn rows() -> Vec<String> {
     let rows = clerk_done();
     clerk_message_rows(&mut names, &rows);
     clerk_act_rows(&mut names, &rows);
+    deletion_rows(&mut names, "clerk");
     bytes_rows(&mut names, "clerk");
     refusal_rows(&mut names, "clerk", &[1, 2, 3, 4, 5, 6, 7, 8, 9]);
     start_rows(&mut names);
@@ -486,6 +524,8 @@ pub fn rows() -> Vec<String> {
     line_message_rows(&mut names, &rows);
     line_act_rows(&mut names, &rows);
     names.extend(REPORTS_AND_LOOKS.iter().map(|name| format!("line: {name}")));
+    names.extend(LINE_EDGES.iter().map(|name| format!("line: {name}")));
+    deletion_rows(&mut names, "line");
     bytes_rows(&mut names, "line");
     refusal_rows(&mut names, "line", &[1, 2, 3, 6, 7, 8, 10, 11]);
     names

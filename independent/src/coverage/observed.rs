@@ -1,13 +1,17 @@
 //! Names the rows that one played entry reached.
 
+use super::observed_codec;
 use crate::clerk::{self, Ask, ClerkDesk, FreeChoice};
 use crate::codec::{read_message, Carrier, Content, Identifier, Message, RequestFields, REMOTE_USER_BUSY_AGAIN};
 use crate::line::{self, LineDesk};
 use crate::outcome::{Kind, Outcome, GUARD, T1, T2, T3};
 use crate::script::{Answer, Entry, Session};
 
-/// The rows of one entry; writes and prints have none.
+/// The rows of one entry; prints have none.
 pub fn names(before: &Session, entry: &Entry, answer: &Answer, after: &Session) -> Vec<String> {
+    if let (Entry::Write { bytes, place, size }, Answer::Written { refusal, .. }) = (entry, answer) {
+        return observed_codec::names(bytes, *place, *size, *refusal);
+    }
     let Answer::Step { outcome, left } = answer else {
         return Vec::new();
     };
@@ -18,6 +22,7 @@ pub fn names(before: &Session, entry: &Entry, answer: &Answer, after: &Session) 
         line_names(&before.line, entry, outcome, &after.line)
     };
     names.extend(left_names(entry, outcome, *left));
+    names.extend(deletion_name(before, entry, after));
     if let Some(refusal) = outcome.refusal {
         names.push(format!("refusal {}", refusal.number()));
     }
@@ -71,6 +76,32 @@ fn outcome_text(outcome: &Outcome, state_after: &str) -> String {
         text.push_str(", clear the call");
     }
     text
+}
+
+/// Where the record stood that is gone: a delete has to close the gap.
+fn deletion_name(before: &Session, entry: &Entry, after: &Session) -> Option<String> {
+    if matches!(entry, Entry::StartClerk | Entry::StartLine { .. }) {
+        return None;
+    }
+    let identifiers = |session: &Session| -> Vec<Identifier> {
+        if is_at_clerk(entry) {
+            session.clerk.records.iter().map(|r| r.identifier).collect()
+        } else {
+            session.line.records.iter().map(|r| r.identifier).collect()
+        }
+    };
+    let (old, new) = (identifiers(before), identifiers(after));
+    if new.len() >= old.len() {
+        return None;
+    }
+    let place = old.iter().zip(new.iter()).take_while(|(a, b)| a == b).count();
+    let which = match place {
+        0 if old.len() == 1 => "alone",
+        0 => "the oldest",
+        _ if place + 1 == old.len() => "the youngest",
+        _ => "between others",
+    };
+    Some(format!("a record is deleted: {which}"))
 }
 
 /// Bytes behind a message that was read.
@@ -141,7 +172,11 @@ fn clerk_names(before: &ClerkDesk, entry: &Entry, outcome: &Outcome, after: &Cle
     };
     match entry {
         Entry::StartClerk => vec!["start".to_string()],
-        Entry::Ask(ask) => vec![ask_name(before, ask, outcome)],
+        Entry::Ask(ask) => {
+            let mut names = vec![ask_name(before, ask, outcome)];
+            names.extend(ask_edges(before, ask, outcome));
+            names
+        }
         Entry::ToClerk { user_a_busy, bytes } => match read_message(bytes) {
             Err(_) => vec![bad_bytes_name(bytes, outcome)],
             Ok((message, _)) => {
@@ -204,6 +239,36 @@ fn ask_name(before: &ClerkDesk, ask: &Ask, outcome: &Outcome) -> String {
     format!("ask: {input}: {}", outcome_text(outcome, "Wait-Ack"))
 }
 
+/// The edges of an ask: the last value that is in range and the first that is
+/// not, the last place of the desk and the first that it doesn't have.
+fn ask_edges(before: &ClerkDesk, ask: &Ask, outcome: &Outcome) -> Vec<String> {
+    let filled = before.records.len();
+    let fault = ask_fault(ask);
+    let edges = match outcome.refusal.map_or(0, |r| r.number()) {
+        0 => vec![
+            (ask.number_a.len() == 15, "numberA of 15 digits"),
+            (ask.number_b.len() == 15, "numberB of 15 digits"),
+            (ask.service == 16383, "service 16383"),
+            (ask.preference == 2, "preference 2"),
+            (filled == 15, "the desk has 15"),
+        ],
+        2 => vec![
+            (fault.starts_with("numberA") && ask.number_a.len() == 16, "numberA of 16 digits"),
+            (fault.starts_with("numberB") && ask.number_b.len() == 16, "numberB of 16 digits"),
+            (fault.starts_with("service") && ask.service == 16384, "service 16384"),
+            (fault.starts_with("preference") && ask.preference == 3, "preference 3"),
+        ],
+        5 => vec![(filled == 16, "the desk has 16")],
+        _ => vec![],
+    };
+    let met = edges.iter().filter(|(met, _)| *met);
+    met.map(|(_, edge)| format!("ask: {edge}: {}", edge_outcome(outcome))).collect()
+}
+
+fn edge_outcome(outcome: &Outcome) -> String {
+    outcome.refusal.map_or("taken".to_string(), |r| format!("refusal {}", r.number()))
+}
+
 // The line desk.
 
 fn line_state(desk: &LineDesk, identifier: &Identifier) -> String {
@@ -242,7 +307,11 @@ fn line_names(before: &LineDesk, entry: &Entry, outcome: &Outcome, after: &LineD
         vec![format!("{}: {}: {}", line_state(before, identifier), input, outcome_text(outcome, &state_after))]
     };
     match entry {
-        Entry::StartLine { lines, .. } => vec![start_name(before, lines, outcome)],
+        Entry::StartLine { lines, .. } => {
+            let mut names = vec![start_name(before, lines, outcome)];
+            names.extend(start_edge(lines, outcome));
+            names
+        }
         Entry::ToLine { bytes } => match read_message(bytes) {
             Err(_) => vec![bad_bytes_name(bytes, outcome)],
             Ok((message, _)) => match &message.content {
@@ -251,8 +320,16 @@ fn line_names(before: &LineDesk, entry: &Entry, outcome: &Outcome, after: &LineD
                 _ => act(&message.identifier, message_text(&message) + &line_suffix(before, &message)),
             },
         },
-        Entry::Report { digits, busy } => report_names(before, digits, *busy, outcome, after),
-        Entry::Look { digits } => look_names(before, digits, outcome),
+        Entry::Report { digits, busy } => {
+            let mut names = report_names(before, digits, *busy, outcome, after);
+            names.extend(number_edge("report", digits, outcome));
+            names
+        }
+        Entry::Look { digits } => {
+            let mut names = look_names(before, digits, outcome);
+            names.extend(number_edge("Look", digits, outcome));
+            names
+        }
         Entry::Act(identifier, which) => act(identifier, format!("act {}", which.name())),
         Entry::GuardRunsOut(identifier) => act(identifier, "guard runs out".to_string()),
         _ => Vec::new(),
@@ -272,6 +349,41 @@ fn start_name(before: &LineDesk, lines: &[line::Line], outcome: &Outcome) -> Str
         _ => "1 to 15 lines".to_string(),
     };
     format!("start: {input}, {over}: {}", outcome_text(outcome, "started"))
+}
+
+/// A line's number of 15 digits against 16.
+fn start_edge(lines: &[line::Line], outcome: &Outcome) -> Option<String> {
+    let longest = lines.iter().map(|l| l.digits.len()).max()?;
+    let first_fault = lines.iter().find(|l| digits_fault(&l.digits, 1).is_some());
+    let met = match outcome.refusal {
+        None => longest == 15,
+        Some(_) => lines.len() <= 16 && first_fault.is_some_and(|l| l.digits.len() == 16),
+    };
+    met.then(|| format!("start: a line of {longest} digits: {}", edge_outcome(outcome)))
+}
+
+/// Look and report: 15 digits against 16.
+fn number_edge(input: &str, digits: &[u8], outcome: &Outcome) -> Option<String> {
+    let known = outcome.refusal.map_or(true, |r| r.number() != 10);
+    match (digits.len(), known) {
+        (15, true) => Some(format!("{input}: the number of a line of 15 digits: {}", edge_outcome(outcome))),
+        (16, false) => Some(format!("{input}: a number of 16 digits: {}", edge_outcome(outcome))),
+        _ => None,
+    }
+}
+
+/// What an accepted request has in its fields, or finds at the desk, on an edge.
+fn request_edges(before: &LineDesk, fields: &RequestFields) -> Vec<String> {
+    let on_line = before.records.iter().filter(|r| r.number_b == fields.number_b).count();
+    let edges = [
+        (fields.number_a.len() == 15, "numberA of 15 digits"),
+        (fields.number_b.len() == 15, "numberB of 15 digits"),
+        (fields.service == 0, "service 0"),
+        (fields.service == 16383, "service 16383"),
+        (on_line == 4, "the line has 4"),
+        (before.records.len() == 31, "the desk has 31"),
+    ];
+    edges.iter().filter(|(met, _)| *met).map(|(_, edge)| format!("request: {edge}: accepted")).collect()
 }
 
 /// The first reason for an error, in the order of document 01.
@@ -322,6 +434,7 @@ fn request_names(
     let case = format!("flags {}, {settings}, line {line}", fields.flags);
     let mut names = vec![format!("{name}: {case}: {}", outcome_text(outcome, "Invoked"))];
     names.extend(near_duplicates(before, fields).iter().map(|near| format!("request: {near}: accepted")));
+    names.extend(request_edges(before, fields));
     names
 }
 

@@ -1,8 +1,8 @@
 //! Directed scripts for the clerk's desk.
 
 use super::{
-    bytes_of, contents_without_requests, damaged, request_content, spread_identifier, to_clerk, with_choice,
-    with_identifier, AskEntry, Case, Scripts, ACCEPT, TIMER, USER_A_FREE, USER_CANCELS,
+    bytes_of, contents_without_requests, damaged, request_content, requests_on_edges, spread_identifier, to_clerk,
+    with_choice, with_identifier, AskEntry, Case, Scripts, ACCEPT, TIMER, USER_A_FREE, USER_CANCELS,
 };
 use crate::codec::{Carrier, Content, Identifier};
 use crate::outcome::{Connection, Kind};
@@ -138,7 +138,8 @@ fn message_inputs(identifier: Identifier) -> Vec<Vec<u8>> {
     inputs
 }
 
-/// Every act, every timer, and an ask with the same identifier.
+/// Every act, every timer, asks with the same and with another identifier, and
+/// no bytes at all.
 fn other_inputs(identifier: Identifier, choices: Choices) -> Vec<Vec<u8>> {
     vec![
         with_identifier(ACCEPT, identifier),
@@ -149,6 +150,8 @@ fn other_inputs(identifier: Identifier, choices: Choices) -> Vec<Vec<u8>> {
         with_choice(TIMER, identifier, 2),
         with_choice(TIMER, identifier, 3),
         ask(identifier, choices),
+        ask(spread_identifier(90), choices),
+        to_clerk(false, &[]),
     ]
 }
 
@@ -330,24 +333,46 @@ fn nearly_equal_identifiers(scripts: &mut Scripts) {
     scripts.add(&case.bytes);
 }
 
-/// Bytes that hold no message, and bytes behind one; the record they speak of
-/// is live, so that a fault that isn't seen would change the desk.
+/// A state in which the desk takes a message of this type, where there is one,
+/// and a carrier that it takes it in.
+fn road_and_carrier(content: &Content) -> (Road, Carrier) {
+    match content {
+        Content::RequestResult { .. } => (Road::WaitAck, Carrier::Connect),
+        Content::RequestError { .. } | Content::CcCancel => (Road::WaitAck, Carrier::ReleaseComplete),
+        Content::CcExecPossible => (Road::Invoked, Carrier::Facility),
+        Content::CallAlerts => (Road::Ringout, Carrier::Alerting),
+        Content::RingoutError { .. } | Content::CallFailed => (Road::Ringout, Carrier::ReleaseComplete),
+        Content::CcSuspend => (Road::Invoked, Carrier::Facility),
+        Content::CcbsRequest(_) | Content::CcnrRequest(_) | Content::CcRingout | Content::CcResume => {
+            (Road::Invoked, Carrier::Setup)
+        }
+    }
+}
+
+/// Bytes that hold no message, and bytes behind one, for every type; the record
+/// they speak of is live, so that a fault that isn't seen would change the desk.
 fn bad_bytes(scripts: &mut Scripts) {
     let identifier = spread_identifier(9);
     let choices = Choices { kind: Kind::Ccbs, can_keep: true, keep: 1, connection: Connection::Ret };
-    let contents = [
-        Content::RequestResult { keep: 1 },
-        Content::RequestError { error: 2 },
-        Content::CcCancel,
-        request_content(Kind::Ccbs, &NUMBER_A, &NUMBER_B, 300, 5),
-    ];
-    for content in contents.iter() {
-        for bytes in damaged(&bytes_of(Carrier::ReleaseComplete, identifier, content.clone())) {
+    let mut contents = contents_without_requests();
+    contents.push(request_content(Kind::Ccbs, &NUMBER_A, &NUMBER_B, 300, 5));
+    contents.push(request_content(Kind::Ccnr, &[], &NUMBER_B, 0, 4));
+    for content in contents {
+        let (road, carrier) = road_and_carrier(&content);
+        for bytes in damaged(&bytes_of(carrier, identifier, content)) {
             let mut case = Case::at_clerk();
-            drive(&mut case, Road::WaitAck, identifier, choices);
+            drive(&mut case, road, identifier, choices);
             case.step(&to_clerk(false, &bytes));
             scripts.add(&case.bytes);
         }
+    }
+    for type_number in [1, 2] {
+        let mut case = Case::at_clerk();
+        drive(&mut case, Road::WaitAck, identifier, choices);
+        for bytes in requests_on_edges(type_number, identifier, &[7; 15]) {
+            case.step(&to_clerk(false, &bytes));
+        }
+        scripts.add(&case.bytes);
     }
 }
 

@@ -1,8 +1,8 @@
 //! Directed scripts for the line desk.
 
 use super::{
-    bytes_of, contents_without_requests, damaged, look, report, request_content, spread_identifier, start_line,
-    to_line, with_choice, with_identifier, Case, Scripts, ACT, GUARD_RUNS_OUT,
+    bytes_of, contents_without_requests, damaged, look, report, request_content, requests_on_edges, spread_identifier,
+    start_line, to_line, with_choice, with_identifier, Case, Scripts, ACT, GUARD_RUNS_OUT,
 };
 use crate::codec::{Carrier, Content, Identifier};
 use crate::outcome::{Connection, Kind};
@@ -160,7 +160,8 @@ fn message_inputs(identifier: Identifier) -> Vec<Vec<u8>> {
     inputs
 }
 
-/// Every act, the guard, Looks, reports, and requests near to the record.
+/// Every act, the guard, Looks, reports, requests near to the record, starts
+/// taken and refused, and no bytes at all.
 fn other_inputs(identifier: Identifier) -> Vec<Vec<u8>> {
     let other = spread_identifier(90);
     vec![
@@ -173,6 +174,12 @@ fn other_inputs(identifier: Identifier) -> Vec<Vec<u8>> {
         report(&ONE, true),
         report(&ONE, false),
         report(&TWO, true),
+        report(&TWO, false),
+        look(&[2]),
+        report(&[2], true),
+        start_line(&[(&ONE, 3)], 2),
+        start_line(&[(&ONE, 3), (&ONE, 3)], 2),
+        to_line(&[]),
         request(other, Kind::Ccbs, &NUMBER_A, &ONE, 0),
         request(other, Kind::Ccnr, &NUMBER_A, &ONE, 5),
         request(other, Kind::Ccbs, &NUMBER_A, &TWO, 3),
@@ -538,25 +545,42 @@ fn before_any_start(scripts: &mut Scripts) {
     scripts.add(&case.bytes);
 }
 
-/// Bytes that hold no message, and bytes behind one.
+/// A carrier that the line desk takes this type in; any for the others.
+fn usual_carrier(content: &Content) -> Carrier {
+    match content {
+        Content::CcbsRequest(_) | Content::CcnrRequest(_) | Content::CcRingout => Carrier::Setup,
+        Content::CcSuspend | Content::CcResume => Carrier::Facility,
+        Content::RequestResult { .. } => Carrier::Connect,
+        _ => Carrier::ReleaseComplete,
+    }
+}
+
+/// Bytes that hold no message, and bytes behind one, for every type; but for
+/// the requests the record that they speak of is live and in Await.
 fn bad_bytes(scripts: &mut Scripts) {
     let identifier = spread_identifier(9);
     let choices = Choices { kind: Kind::Ccbs, keep: true, connection: Connection::Ret };
-    let contents = [
-        (Content::CcCancel, Carrier::ReleaseComplete),
-        (Content::CcRingout, Carrier::Setup),
-        (Content::RequestResult { keep: 1 }, Carrier::Connect),
-        (request_content(Kind::Ccnr, &[8, 8], &TWO, 300, 5), Carrier::Setup),
-    ];
-    for (content, carrier) in contents.iter() {
-        for bytes in damaged(&bytes_of(*carrier, identifier, content.clone())) {
+    let mut contents = contents_without_requests();
+    contents.push(request_content(Kind::Ccbs, &[], &ONE, 0, 3));
+    contents.push(request_content(Kind::Ccnr, &[8, 8], &TWO, 300, 5));
+    for content in contents {
+        let is_request = matches!(content, Content::CcbsRequest(_) | Content::CcnrRequest(_));
+        for bytes in damaged(&bytes_of(usual_carrier(&content), identifier, content)) {
             let mut case = Case::at_line(&two_lines(), 1);
-            if content.type_number() != 2 {
+            if !is_request {
                 drive(&mut case, Road::Await, identifier, choices);
             }
             case.step(&to_line(&bytes));
             scripts.add(&case.bytes);
         }
+    }
+    let long = [7; 15];
+    for type_number in [1, 2] {
+        let mut case = Case::at_line(&[(&ONE[..], 3), (&long[..], 3)], 1);
+        for bytes in requests_on_edges(type_number, identifier, &long) {
+            case.step(&to_line(&bytes));
+        }
+        scripts.add(&case.bytes);
     }
 }
 

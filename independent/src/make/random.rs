@@ -318,17 +318,18 @@ impl Player {
         self.put(&entry.bytes());
     }
 
-    /// Takes a message off a wire: mostly the first, sometimes any; a lost one
-    /// is None, and a doubled one stays on the wire.
+    /// Takes a message off a wire: in calm always the first, which is delivered
+    /// or dropped; else mostly the first and sometimes any. A lost one is None,
+    /// and a doubled one (never in calm) stays on the wire.
     fn take_off(&mut self, to_the_line: bool) -> Option<Vec<u8>> {
         let (drop, shuffle) = match self.mood {
-            Mood::Calm => (60, 30),
-            Mood::Crowd => (10, 10),
-            Mood::Storm => (6, 3),
+            Mood::Calm => (60, None),
+            Mood::Crowd => (10, Some(10)),
+            Mood::Storm => (6, Some(3)),
         };
-        let any = self.dice.once_in(shuffle);
+        let any = shuffle.is_some_and(|times| self.dice.once_in(times));
         let lost = self.dice.once_in(drop);
-        let doubled = self.dice.once_in(25);
+        let doubled = shuffle.is_some() && self.dice.once_in(25);
         let length = if to_the_line { self.wire_to_line.len() } else { self.wire_to_clerk.len() };
         let place = if any { self.dice.below(length) } else { 0 };
         let wire = if to_the_line { &mut self.wire_to_line } else { &mut self.wire_to_clerk };
@@ -684,7 +685,28 @@ mod tests {
         made.close();
         let entries: usize = made.full.iter().map(|script| crate::make::count_entries(script)).sum();
         assert_eq!(entries, 20000);
-        assert!(made.full.iter().all(|script| script.len() <= crate::make::LARGEST_SCRIPT));
+        assert!(made.full.iter().all(|script| script.len() < crate::make::LARGEST_SCRIPT));
+    }
+
+    #[test]
+    fn in_calm_a_wire_delivers_in_order_or_drops() {
+        let mut player = Player {
+            dice: Dice { state: 3 },
+            session: Session::default(),
+            scripts: Scripts::default(),
+            left: 0,
+            wire_to_line: (0..200).map(|n| vec![n]).collect(),
+            wire_to_clerk: Vec::new(),
+            known: Vec::new(),
+            mood: Mood::Calm,
+            mood_left: 0,
+        };
+        let taken: Vec<Option<Vec<u8>>> = (0..200).map(|_| player.take_off(true)).collect();
+        assert!(player.wire_to_line.is_empty());
+        assert!(taken.iter().any(Option::is_none));
+        for (n, message) in taken.iter().enumerate() {
+            assert!(message.is_none() || *message == Some(vec![n as u8]));
+        }
     }
 
     #[test]

@@ -87,6 +87,14 @@ fn add(scripts: &mut Scripts, stopping: &[u8], behind: &[u8]) {
     scripts.close();
 }
 
+/// The end of the stored script: a choice that isn't listed, and prints behind
+/// it that must not be played.
+pub fn ending() -> Vec<u8> {
+    let mut ending = with_choice(ACT, spread_identifier(1), 4);
+    ending.extend([PRINT_CLERK, PRINT_LINE]);
+    ending
+}
+
 pub fn scripts() -> Scripts {
     let mut scripts = Scripts::default();
     add(&mut scripts, &[], &[]);

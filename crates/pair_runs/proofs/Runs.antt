@@ -1,0 +1,116 @@
+-- The table holds: each row computes to what it says, and ends in a world of a run.
+use mathlib.Core.Path.{_≡_, refl, sym, _∙_, ap}
+use mathlib.Core.Bool.{Bool, true, false, true≢false, false≢true}
+use mathlib.Core.List.{List}
+use Rattle.lists.specs.Lists.{firstFrom, count}
+use Rattle.lists.specs.Words.{word, octets, wordsOf, bytesOf, sameWords}
+use Rattle.message.specs.Number.{numberAt, fieldAt, scanAt, digitsAt, digitsInRange}
+use Rattle.message.specs.Format.{inRange}
+use Rattle.store.specs.Rows.{rows, putRow, dropRow}
+use Rattle.desk.specs.Letter.{numberWords, letterOf, messageOf}
+use Rattle.desk.specs.Carriers.{carrierFits}
+use Rattle.desk.specs.Codes.{kindOf, keepOf, connectionOf}
+use Rattle.desk.specs.declared.Connection.{Connection}
+use Rattle.desk.specs.declared.Connection.the-variants.{Empty, Ret, Rls}
+use Rattle.places.specs.Places.{Held, none, one, held}
+use Rattle.clerk_table.specs.Step as ClerkStep
+use Rattle.clerk_records.specs.Codes as ClerkCodes
+use Rattle.clerk_records.specs.Records as ClerkRecords
+use Rattle.clerk_plan.specs.Plan as ClerkPlan
+use Rattle.clerk.specs.Steps as Clerk
+use Rattle.line_table.specs.Step as LineStep
+use Rattle.line_records.specs.Codes as LineCodes
+use Rattle.line_records.specs.Records as LineRecords
+use Rattle.line_records.specs.Lines as Lines
+use Rattle.line_records.specs.Change as Change
+use Rattle.line_plan.specs.Plan as LinePlan
+use Rattle.line.specs.Start as Start
+use Rattle.line.specs.Steps as Line
+use Rattle.pair.specs.World.{World, Event, clerkHolds, lineHolds, Reached, reached, stop, messagesOf, has, clerkHeard, lineHeard, upDropped, downDropped, next}
+use Rattle.pair_runs.specs.Runs.{Shown, TableReached, Premises, play, seen, table, first, oneLine, start, stored, acknowledged, over}
+use Rattle.pair_runs.proofs.Allowed.{bytes-told, runs, run-told, allRun, each-reached}
+
+-- all that a run computes with: who names this unfolds every definition on its line
+unfoldable all : Bool
+unfolding firstFrom count word octets wordsOf bytesOf sameWords numberAt fieldAt scanAt digitsAt digitsInRange inRange rows putRow dropRow numberWords letterOf messageOf carrierFits kindOf keepOf connectionOf held ClerkStep.taken ClerkCodes.stateOf ClerkRecords.recordOf ClerkRecords.records ClerkRecords.meant ClerkRecords.place ClerkRecords.applied ClerkPlan.messagePlan ClerkPlan.ownPlan ClerkPlan.askPlan Clerk.asked Clerk.received Clerk.acted Clerk.reported LineStep.taken LineCodes.stateOf LineRecords.recordOf LineRecords.records LineRecords.meant LineRecords.place LineRecords.putRecord LineRecords.removed Lines.lineOf Lines.lines Lines.lineAt Lines.overLine Lines.putLine Lines.keeps Lines.retains Lines.withSettings Change.markPlace Change.marked Change.statusStored Change.reported Change.applied LinePlan.takesCall LinePlan.inputPlan LinePlan.countedPlan LinePlan.admittedPlan LinePlan.requestPlan LinePlan.messagePlan LinePlan.ownPlan LinePlan.offerAt LinePlan.lookPlan LinePlan.reportPlan Start.goodLine Start.lineTaken Start.takeLines Start.started Line.received Line.lineReported Line.looked Line.acted Line.guardReported messagesOf has clerkHeard lineHeard upDropped downDropped next
+all = true
+
+pub shown : Shown
+unfolding table play seen all
+shown true = refl
+shown false = refl
+
+pub table-reached : TableReached
+unfolding table runs allRun all
+table-reached true = each-reached true table refl
+table-reached false = each-reached false table refl
+
+-- ---- the premises
+-- a connection choice that is not empty
+abbrev chosen : Connection → Bool
+chosen Empty = false
+chosen Ret = true
+chosen Rls = true
+
+pub not-empty : (c : Connection) → chosen c ≡ true → c ≡ Empty → ⊥
+not-empty c so e = true≢false (sym so ∙ ap chosen e)
+
+-- what is held, where something is
+abbrev heldOr : {A : Type 0} → A → Held A → A
+heldOr other none = other
+heldOr other (one r) = r
+
+abbrev someone : {A : Type 0} → Held A → Bool
+someone none = false
+someone (one r) = true
+
+pub held-one : {A : Type 0} (other : A) (h : Held A) → someone h ≡ true → h ≡ one (heldOr other h)
+held-one other none so = absurd (false≢true so)
+held-one other (one r) so = refl
+
+pub reach : (es : List Event) → runs (start false) es ≡ true → Reached (play (start false) es)
+reach es so = reached oneLine true false (bytes-told oneLine refl) (run-told (start false) es stop so)
+
+abbrev settled : World
+settled = play (start false) acknowledged
+
+abbrev unsettled : World
+unsettled = play (start false) stored
+
+abbrev left : World
+left = play (start false) over
+
+pub premises : Premises
+unfolding play runs all
+premises =
+    record {
+      acknowledged = record {
+        world = settled;
+        reached = reach acknowledged refl;
+        identifier = wordsOf first;
+        c = heldOr ClerkRecords.blank (clerkHolds settled (wordsOf first));
+        l = heldOr LineRecords.blank (lineHolds settled (wordsOf first));
+        clerk = held-one ClerkRecords.blank (clerkHolds settled (wordsOf first)) refl;
+        line = held-one LineRecords.blank (lineHolds settled (wordsOf first)) refl;
+        so = not-empty Rls refl;
+      };
+      before = record {
+        world = unsettled;
+        reached = reach stored refl;
+        identifier = wordsOf first;
+        c = heldOr ClerkRecords.blank (clerkHolds unsettled (wordsOf first));
+        l = heldOr LineRecords.blank (lineHolds unsettled (wordsOf first));
+        clerk = held-one ClerkRecords.blank (clerkHolds unsettled (wordsOf first)) refl;
+        line = held-one LineRecords.blank (lineHolds unsettled (wordsOf first)) refl;
+        so = refl;
+      };
+      over = record {
+        world = left;
+        reached = reach over refl;
+        identifier = wordsOf first;
+        dropped = refl;
+        runOut = refl;
+        guarded = refl;
+        request = tt;
+      };
+    }

@@ -1,0 +1,1 @@
+// Runs of two desks and two wires, computed: what demand 3 speaks of does happen. There is no code here: specs/Runs.antt has the table, proofs/ proves it.
