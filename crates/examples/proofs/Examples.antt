@@ -1,9 +1,65 @@
--- The examples hold: both columns of the table compute to the same numbers.
-use mathlib.Core.Path.{refl}
-use Rattle.message.specs.Number.{numberAt, fieldAt}
+-- The examples hold: both columns of the table compute to the same numbers. The rows of the desks are computed on their own: inside the cells of
+-- the table those of the line desk pass the step limit.
+use mathlib.Core.Bool.{true}
+use mathlib.Core.Path.{_≡_, refl}
+use mathlib.Core.List.{List, [], _∷_}
+use Rattle.lists.specs.Lists.{firstFrom, count}
+use Rattle.lists.specs.Words.{word, wordsOf, sameWords}
+use Rattle.message.specs.Number.{numberAt, fieldAt, scanAt, digitsAt, digitsInRange}
+use Rattle.message.specs.Format.{inRange}
 use Rattle.message.specs.Wire.{messageAt}
+use Rattle.store.specs.Rows.{rows, putRow, dropRow}
+use Rattle.desk.specs.Carriers.{carrierFits}
+use Rattle.desk.specs.Codes.{kindOf, keepOf, connectionOf}
+use Rattle.desk.specs.Letter.{numberWords, letterOf}
+use Rattle.clerk_table.specs.Step as ClerkStep
+use Rattle.clerk_records.specs.Codes as ClerkCodes
+use Rattle.clerk_records.specs.Records as ClerkRecords
+use Rattle.clerk_plan.specs.Plan as ClerkPlan
+use Rattle.clerk.specs.Steps as Clerk
+use Rattle.line_table.specs.Step as LineStep
+use Rattle.line_records.specs.Codes as LineCodes
+use Rattle.line_records.specs.Records as LineRecords
+use Rattle.line_records.specs.Lines.{lineOf, lines, lineAt, overLine, putLine, keeps, retains, withSettings}
+use Rattle.line_records.specs.Change.{markPlace, marked, statusStored, reported, applied}
+use Rattle.line_plan.specs.Plan.{countedPlan, admittedPlan, requestPlan, messagePlan, offerAt, lookPlan, reportPlan}
+use Rattle.line.specs.Start.{goodLine, lineTaken, takeLines, started}
+use Rattle.line.specs.Steps as Line
+use Rattle.examples.specs.Tells.{joined, outcomeTells, clerkTells, lineTells, held, status}
+use Rattle.examples.specs.Scenes.{identifier, oneDigit, busyLine, accepted, again, filled, unknown, noReply, lookedBefore, busyThenFree, lookedAfter, invoked, possible, ringout, busyAgain, timerThree}
 use Rattle.examples.specs.Examples.{Examples, table}
 
+-- a first row and the others
+cells : {A : Type 0} {x y : A} {xs ys : List A} → x ≡ y → xs ≡ ys → x ∷ xs ≡ y ∷ ys
+cells first others = λ i. first i ∷ others i
+
+-- examples 6 to 12
+desks :
+    joined (status busyLine (oneDigit 1) ∷ outcomeTells (accepted .outcome) ∷ lineTells (accepted .desk) (identifier 1) ∷ []) ∷
+    joined (held (accepted .desk) ∷ outcomeTells (again .outcome) ∷ lineTells (again .desk) (identifier 2) ∷ held (again .desk) ∷ []) ∷
+    joined (held (filled 32) ∷ status (filled 32) (oneDigit 9) ∷ outcomeTells (unknown .outcome) ∷ held (unknown .desk) ∷ []) ∷
+    joined (status noReply (oneDigit 1) ∷ outcomeTells (lookedBefore .outcome) ∷ lineTells (lookedBefore .desk) (identifier 1) ∷ []) ∷
+    joined (status busyThenFree (oneDigit 1) ∷ outcomeTells (lookedAfter .outcome) ∷ lineTells (lookedAfter .desk) (identifier 1) ∷ []) ∷
+    joined (clerkTells (invoked 1) (identifier 1) ∷ outcomeTells (possible 1 true .outcome) ∷ clerkTells (possible 1 true .desk) (identifier 1) ∷ []) ∷
+    joined (clerkTells (ringout 1) (identifier 1) ∷ outcomeTells (busyAgain 1 .outcome) ∷ clerkTells (busyAgain 1 .desk) (identifier 1) ∷ []) ∷
+    joined (clerkTells (ringout 0) (identifier 1) ∷ outcomeTells (busyAgain 0 .outcome) ∷ clerkTells (busyAgain 0 .desk) (identifier 1) ∷ []) ∷
+    joined (clerkTells (possible 1 true .desk) (identifier 1) ∷ outcomeTells (timerThree .outcome) ∷ clerkTells (timerThree .desk) (identifier 1) ∷ []) ∷
+    []
+    ≡
+    (1 ∷ 0 ∷ 3 ∷ 1 ∷ 4 ∷ 1 ∷ 2 ∷ 2 ∷ []) ∷
+    (1 ∷ 0 ∷ 4 ∷ 1 ∷ 4 ∷ 0 ∷ 1 ∷ []) ∷
+    (32 ∷ 2 ∷ 0 ∷ 4 ∷ 2 ∷ 4 ∷ 32 ∷ []) ∷
+    (0 ∷ 11 ∷ 0 ∷ 1 ∷ 2 ∷ 2 ∷ []) ∷
+    (0 ∷ 0 ∷ 5 ∷ 1 ∷ 2 ∷ 2 ∷ 2 ∷ []) ∷
+    (2 ∷ 2 ∷ 1 ∷ 0 ∷ 8 ∷ 3 ∷ 5 ∷ 2 ∷ 1 ∷ []) ∷
+    (4 ∷ 2 ∷ 1 ∷ 0 ∷ 0 ∷ 2 ∷ 2 ∷ 1 ∷ []) ∷
+    (4 ∷ 1 ∷ 1 ∷ 0 ∷ 0 ∷ 0 ∷ []) ∷
+    (5 ∷ 2 ∷ 1 ∷ 9 ∷ 0 ∷ 5 ∷ 2 ∷ 1 ∷ []) ∷
+    []
+unfolding joined outcomeTells clerkTells lineTells held status firstFrom count word wordsOf sameWords numberAt fieldAt scanAt digitsAt digitsInRange inRange rows putRow dropRow carrierFits kindOf keepOf connectionOf numberWords letterOf ClerkStep.taken ClerkCodes.stateOf ClerkRecords.recordOf ClerkRecords.records ClerkRecords.meant ClerkRecords.place ClerkRecords.applied ClerkPlan.messagePlan ClerkPlan.ownPlan ClerkPlan.askPlan Clerk.asked Clerk.received Clerk.acted Clerk.reported LineStep.taken LineCodes.stateOf LineRecords.recordOf LineRecords.records LineRecords.meant LineRecords.place LineRecords.putRecord LineRecords.removed lineOf lines lineAt overLine putLine keeps retains withSettings markPlace marked statusStored reported applied countedPlan admittedPlan requestPlan messagePlan offerAt lookPlan reportPlan goodLine lineTaken takeLines started Line.received Line.lineReported Line.looked
+desks = refl
+
+-- examples 1 to 5, in six rows, before those of the desks
 pub examples : Examples
 unfolding table numberAt fieldAt messageAt
-examples = refl
+examples = cells refl (cells refl (cells refl (cells refl (cells refl (cells refl desks)))))
