@@ -23,8 +23,8 @@ use Rattle.line_table.specs.declared.record.Record as LineRecord
 use Rattle.line_table.specs.declared.record.Change.{Change}
 use Rattle.line_table.specs.declared.record.Change.the-variants.{Stay, Put, Remove, Report}
 use Rattle.line_table.specs.declared.table.State.the-variants as LineState
+use Rattle.line_table.specs.Record.{moved}
 use Rattle.line_table.specs.Search.{marks}
-use Rattle.line_records.specs.Change.{activated}
 use Rattle.line_plan.specs.Plan.{lookPlan}
 use Rattle.pair.specs.World.{World, Event, asks, clerkActs, clerkReports, clerkHears, lineHears, lineReports, lineLooks, lineActs, guardReports, dropsUp, dropsDown, clerkHolds, lineHolds, nameOf, messagesOf, has, next, Allowed, Run, stop, then, startWorld, Reached}
 
@@ -162,7 +162,7 @@ About w dropsDown identifier = ⊥
 -- the same, except that a busy report of its line may mark the activity of an Invoked record
 pub data Unaltered : Event → Held LineRecord.Record → Held LineRecord.Record → Type 0 where
   same : {e : Event} {r : Held LineRecord.Record} → Unaltered e r r
-  marked : {digits : List ℕ} (r : LineRecord.Record) → marks (numberWords digits) r ≡ true → Unaltered (lineReports digits true) (one r) (one (activated r))
+  marked : {digits : List ℕ} (r : LineRecord.Record) → marks (numberWords digits) r ≡ true → Unaltered (lineReports digits true) (one r) (one (moved r (r .state) true (r .suspended)))
 
 pub record Untouched (w : World) (e : Event) (identifier : Words) : Type 0 where
   pub clerk : clerkHolds (next w e) identifier ≡ clerkHolds w identifier
