@@ -9,7 +9,7 @@ use Rattle.lists.specs.declared.words.Words.{Words}
 use Rattle.lists.proofs.WordsLaws.{length-bytesOf, bytes-bytesOf, bytes-take, bytes-words}
 use Rattle.message.specs.Number.{digitsInRange, digitsBytes, sixteen}
 use Rattle.message.specs.Reading.{Read, took}
-use Rattle.message.specs.Format.{requestBody, requestInRange, fieldsInRange, inRange, messageBytes}
+use Rattle.message.specs.Format.{requestBody, inRange, messageBytes}
 use Rattle.message.specs.Equality.{normal, withNumbers, Formed}
 use Rattle.message.specs.Wire.{messageAt}
 use Rattle.message.specs.declared.Kind.{Kind}
@@ -27,6 +27,7 @@ use Rattle.pair_request.specs.Reading as R
 use Rattle.pair.specs.World.{World}
 use Rattle.pair.specs.Claims.{ClerkHearsBytes, LineHearsBytes, HeardAsBytes}
 use Rattle.pair.proofs.Ends.{letterRead, messageRead, Clear}
+use Rattle.pair.proofs.Letters.{request-fields}
 use Rattle.pair.proofs.Wires.{Worded, quiet, word}
 use Rattle.pair.proofs.Claims.{known-world}
 
@@ -43,11 +44,6 @@ number-normal low number ok e =
 no-digits : bytesOf noNumber ≡ replicate 16 0
 unfolding bytesOf octets
 no-digits = refl
-
-request-fields :
-    (kind : Kind) (a b : List ℕ) (service flags : ℕ) → fieldsInRange a b (requestBody kind service flags) ≡ requestInRange a b service flags
-request-fields Ccbs a b service flags = refl
-request-fields Ccnr a b service flags = refl
 
 has-numbers : {A : Type 0} (kind : Kind) (service flags : ℕ) (has lacks : A) → withNumbers (requestBody kind service flags) has lacks ≡ has
 has-numbers Ccbs service flags has lacks = refl

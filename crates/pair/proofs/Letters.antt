@@ -87,7 +87,7 @@ pub ask-letter : (a : Asking) → letterOf (askMessage a) ≡ letterRead (wordsO
 unfolding letterOf
 ask-letter a = refl
 
-request-fields :
+pub request-fields :
     (kind : Kind) (a b : List ℕ) (service flags : ℕ) → fieldsInRange a b (requestBody kind service flags) ≡ requestInRange a b service flags
 request-fields Ccbs a b service flags = refl
 request-fields Ccnr a b service flags = refl

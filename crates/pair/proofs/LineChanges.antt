@@ -19,13 +19,13 @@ use Rattle.line_table.specs.declared.record.Record.{Record}
 use Rattle.line_table.specs.declared.record.Change.{Change}
 use Rattle.line_table.specs.declared.record.Change.the-variants.{Stay, Put, Remove}
 use Rattle.line_table.specs.declared.record.Plan.{Plan}
-use Rattle.line_records.specs.Records.{blank, records, recordOf, meant, place}
-use Rattle.line_records.specs.Codes.{stateOf}
+use Rattle.line_records.specs.Records.{blank, records, meant, place}
 use Rattle.line_records.specs.Change.{applied}
 use Rattle.line_records.proofs.ChangeLaws.{records-applied-put, records-applied-remove, settings-applied, retains-applied, applied-stay}
 use Rattle.line.specs.Steps.{stepped}
 use Rattle.line.specs.declared.Desk.{Desk}
 use Rattle.line_sound.specs.Sound.{lineView}
+use Rattle.line_sound.proofs.Starting.{blank-unused}
 use Rattle.pair_request.specs.Reading as R
 use Rattle.pair.specs.World.{sentBy}
 use Rattle.pair.proofs.Ends.{lineRecord, lineRead, messageRead, policyOf, LineStep}
@@ -43,10 +43,6 @@ pub data Fair (rs : List Record) (identifier : Words) : Change → Type 0 where
 
 pub policy-kept : (ws : List ℕ) (change : Change) → length ws ≡ 498 → policyOf (applied ws change) ≡ policyOf ws
 policy-kept ws change full = rw (settings-applied ws change full, retains-applied ws change full)
-
-blank-unused : used blank ≡ false
-unfolding recordOf stateOf
-blank-unused = refl
 
 module _ (ws : List ℕ) (placed : P.Placed lineView (records ws)) (full : length ws ≡ 498) where
   -- ---- what is held under it afterwards

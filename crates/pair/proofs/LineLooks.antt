@@ -21,7 +21,7 @@ use Rattle.places.specs.Places as P
 use Rattle.places.proofs.Holding.{meant-own, held-change}
 use Rattle.line_table.specs.Line.{canTake}
 use Rattle.line_table.specs.Record.{refusedPlan}
-use Rattle.line_table.specs.Search.{inUse, used, invoked, marks, fitsKind, fits, passes}
+use Rattle.line_table.specs.Search.{inUse, invoked, marks, fitsKind, fits, passes}
 use Rattle.line_table.specs.Step.{taken}
 use Rattle.line_table.specs.declared.table.State.{State}
 use Rattle.line_table.specs.declared.table.State.the-variants.{Free, Invoked, Await, Alert}
@@ -40,6 +40,7 @@ use Rattle.line.specs.Steps.{stepped, refusedStep, looked, lineReported}
 use Rattle.line.specs.declared.Desk.{Desk}
 use Rattle.line.specs.declared.steps.Stepped.{Stepped}
 use Rattle.line_sound.specs.Sound.{lineView}
+use Rattle.line_sound.proofs.Changes.{marking, marking-used, marking-name}
 use Rattle.pair_request.specs.Reading as R
 use Rattle.pair.specs.World.{lineReports}
 use Rattle.pair.specs.Claims.{Puts, Unaltered, same, marked}
@@ -149,20 +150,11 @@ unaltered-read (marked r t) identifier (R.holds d k n s) b e =
     let q : r ≡ lineRecord identifier b d k n s = cc in
     (true, ap (λ (x : Record). P.one (activated x)) q)
 
-abbrev marking : Words → Record → Record
-marking number r = pick (marks number r) (activated r) r
-
 marking-held : (digits : List ℕ) (h : P.Held Record) → Unaltered (lineReports digits true) h (P.mapHeld (marking (numberWords digits)) h)
 unfolding P.mapHeld
 marking-held digits P.none = same
 marking-held digits (P.one r) =
     pick-elim (λ (x : Record). Unaltered (lineReports digits true) (P.one r) (P.one x)) (marks (numberWords digits) r) (λ t. marked r t) (λ t. same)
-
-marking-used : (number : Words) (r : Record) → used (marking number r) ≡ used r
-marking-used number r = pick-elim (λ (x : Record). used x ≡ used r) (marks number r) (λ t. refl) (λ t. refl)
-
-marking-named : (number : Words) (r : Record) → marking number r .identifier ≡ r .identifier
-marking-named number r = pick-elim (λ (x : Record). x .identifier ≡ r .identifier) (marks number r) (λ t. refl) (λ t. refl)
 
 module _ (d : Desk) (full : length (d .words) ≡ 498) (digits : List ℕ) (busy : Bool) where
   report-unaltered :
@@ -177,7 +169,7 @@ module _ (d : Desk) (full : length (d .words) ≡ 498) (digits : List ℕ) (busy
           (P.held lineView identifier (pick b (map (marking (numberWords digits)) (records (d .words))) (records (d .words))))
       by true =
           let number = numberWords digits in
-          rw (held-change lineView (records (d .words)) (marking number) identifier (marking-used number) (marking-named number))
+          rw (held-change lineView (records (d .words)) (marking number) identifier (marking-used number) (marking-name number))
           (marking-held digits (P.held lineView identifier (records (d .words))))
       by false = same
 
