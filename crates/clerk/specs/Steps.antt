@@ -13,6 +13,8 @@ use Rattle.message.specs.declared.Carrier.the-variants.{Setup}
 use Rattle.message.specs.declared.Message.{Message}
 use Rattle.desk.specs.Letter.{letterOf}
 use Rattle.desk.specs.Outcome.{refusedWith}
+use Rattle.desk.specs.declared.outcome.Outcome.{Outcome}
+use Rattle.desk.specs.declared.outcome.BytesOutcome.{BytesOutcome}
 use Rattle.desk.specs.declared.outcome.Sending.the-variants as Sending
 use Rattle.clerk_table.specs.declared.table.Timer.{Timer}
 use Rattle.clerk_table.specs.declared.record.Plan.{Plan}
@@ -27,6 +29,17 @@ use Rattle.clerk.specs.declared.steps.Asking.{Asking}
 -- no record at all
 abbrev pub startedDesk : Desk
 startedDesk = record { words = replicate 192 0 }
+
+-- the desk of these words
+abbrev pub deskOf : List ℕ → Desk
+deskOf words = record { words = words }
+
+-- a desk that was lent, as it was left, and the outcome, as one step
+abbrev pub answered : Desk → Outcome → Stepped
+answered d outcome = record { desk = d; outcome = outcome }
+
+abbrev pub answeredBytes : Desk → BytesOutcome → SteppedBytes
+answeredBytes d answer = record { desk = d; outcome = answer .outcome; next = answer .next }
 
 -- a plan made on a desk: the words that it changes, and the outcome
 abbrev pub stepped : Desk → Plan → Stepped

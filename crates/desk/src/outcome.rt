@@ -38,6 +38,12 @@ pub struct Outcome {
     pub clear: bool,
 }
 
+// The same for bytes, with the first unread place; on a refusal of the bytes, 0.
+pub struct BytesOutcome {
+    pub outcome: Outcome,
+    pub next: usize,
+}
+
 // No timer at all.
 pub fn no_timers() -> Timers
     ensures { λ r. ⌜ r ≡ noTimers ⌝ }

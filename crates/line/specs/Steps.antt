@@ -11,6 +11,8 @@ use Rattle.message.specs.Wire.{messageAt}
 use Rattle.message.specs.declared.Message.{Message}
 use Rattle.desk.specs.Letter.{letterOf, numberWords}
 use Rattle.desk.specs.Outcome.{refusedWith}
+use Rattle.desk.specs.declared.outcome.Outcome.{Outcome}
+use Rattle.desk.specs.declared.outcome.BytesOutcome.{BytesOutcome}
 use Rattle.desk.specs.declared.outcome.Sending.the-variants as Sending
 use Rattle.line_table.specs.declared.record.Plan.{Plan}
 use Rattle.line_table.specs.declared.inputs.Act.{Act}
@@ -19,6 +21,17 @@ use Rattle.line_plan.specs.Plan.{messagePlan, actPlan, guardPlan, lookPlan, rep
 use Rattle.line.specs.declared.Desk.{Desk}
 use Rattle.line.specs.declared.steps.Stepped.{Stepped}
 use Rattle.line.specs.declared.steps.SteppedBytes.{SteppedBytes}
+
+-- the desk of these words
+abbrev pub deskOf : List ℕ → Desk
+deskOf words = record { words = words }
+
+-- a desk that was lent, as it was left, and the outcome, as one step
+abbrev pub answered : Desk → Outcome → Stepped
+answered d outcome = record { desk = d; outcome = outcome }
+
+abbrev pub answeredBytes : Desk → BytesOutcome → SteppedBytes
+answeredBytes d answer = record { desk = d; outcome = answer .outcome; next = answer .next }
 
 -- a plan made on a desk: the words that it changes, and the outcome
 abbrev pub stepped : Desk → Plan → Stepped

@@ -1,5 +1,7 @@
-// The line desk, User B's endpoint: sixteen lines, thirty-two records in the order of acceptance, and every input's step. A step takes the
-// desk by value and hands it back with the outcome; it plans on the words that are lent, and then applies the plan.
+// The line desk, User B's endpoint: sixteen lines, thirty-two records in the order of acceptance, and every input's step. A step plans on
+// words that are lent and then applies the plan to them; by value the desk goes in and comes back with the outcome.
+pub mod lent;
+pub mod plans;
 pub mod start;
 pub mod steps;
 

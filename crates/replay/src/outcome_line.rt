@@ -11,6 +11,8 @@ use desk::outcome::Outcome;
 use desk::outcome::Sending;
 use desk::outcome::Timers;
 use message::Message;
+use told::notice_number;
+use told::timers_number;
 use writer::Written;
 
 // A number behind a space.
@@ -63,34 +65,14 @@ pub fn plus(a: usize, b: usize) -> usize {
     0
 }
 
-fn timer_sum(timers: Timers) -> usize {
-    let low = plus(bit(timers.t1, 1), bit(timers.t2, 2));
-    plus(low, plus(bit(timers.t3, 4), bit(timers.guard, 8)))
-}
-
-fn notice_number(notice: Notice) -> usize {
-    match notice {
-        Notice::Silent => 0,
-        Notice::Accepted => 1,
-        Notice::DeniedShort => 2,
-        Notice::DeniedLong => 3,
-        Notice::Recall => 4,
-        Notice::Completed => 5,
-        Notice::Failed => 6,
-        Notice::BusyAgainKept => 7,
-        Notice::BusyAgainEnded => 8,
-        Notice::Cancelled => 9,
-    }
-}
-
 // The two sums of timers.
 fn put_timers(line: &mut [u8], at: usize, starts: Timers, stops: Timers) -> usize {
-    let next = put_field(line, at, timer_sum(starts));
-    put_field(line, next, timer_sum(stops))
+    let next = put_field(line, at, timers_number(starts) as usize);
+    put_field(line, next, timers_number(stops) as usize)
 }
 
 fn put_told(line: &mut [u8], at: usize, notice: Notice, clear: bool) -> usize {
-    let next = put_field(line, at, notice_number(notice));
+    let next = put_field(line, at, notice_number(notice) as usize);
     put_field(line, next, flag(clear))
 }
 

@@ -1,7 +1,10 @@
 // The writer: a message as bytes at a place that the caller names. Range (2) and room (12) are tested once, on top; the part
 // of the caller's buffer from that place is then lent on from field writer to field writer.
+pub mod numbers;
+
+use crate::numbers::carrier_number;
+use crate::numbers::type_number;
 use message::Body;
-use message::Carrier;
 use message::Message;
 use message::range::in_range;
 ghost use mathlib.Core.Path.{_≡_};
@@ -11,7 +14,7 @@ ghost use Prim.Native.Nat.{_+_, _<_, _≤_};
 ghost use lib.ListN.{length, getD, take, drop};
 ghost use Rattle.lists.specs.Parts.{over};
 ghost use Rattle.message.specs.Number.{numberBytes, digitsBytes};
-ghost use Rattle.message.specs.Format.{typeNumber, carrierNumber, requestInRange, fieldsInRange, inRange, requestBytes, fieldBytes, messageBytes};
+ghost use Rattle.message.specs.Format.{requestInRange, fieldsInRange, inRange, requestBytes, fieldBytes, messageBytes};
 ghost use Rattle.writer.specs.Write.{numberWritten, numberBuffer, messageWritten, messageBuffer};
 
 // How many bytes were written, or a refusal by its number in document 01.
@@ -119,43 +122,6 @@ fn put_fields(d: &mut [u8], a: [u8; 16], b: [u8; 16], body: Body)
         Body::CcCancel => {}
         Body::CallAlerts => {}
         Body::CallFailed => {}
-    }
-}
-
-fn type_number(body: Body) -> u8
-    ensures { λ r. ⌜ r ≡ typeNumber body ⌝ }
-{
-    match body {
-        Body::CcbsRequest {
-            service: _,
-            flags: _,
-        } => 1,
-        Body::CcnrRequest {
-            service: _,
-            flags: _,
-        } => 2,
-        Body::RequestResult { keep: _ } => 3,
-        Body::RequestError { error: _ } => 4,
-        Body::CcExecPossible => 5,
-        Body::CcRingout => 6,
-        Body::RingoutError { error: _ } => 7,
-        Body::CcSuspend => 8,
-        Body::CcResume => 9,
-        Body::CcCancel => 10,
-        Body::CallAlerts => 11,
-        Body::CallFailed => 12,
-    }
-}
-
-fn carrier_number(carrier: Carrier) -> u8
-    ensures { λ r. ⌜ r ≡ carrierNumber carrier ⌝ }
-{
-    match carrier {
-        Carrier::Setup => 1,
-        Carrier::Connect => 2,
-        Carrier::Facility => 3,
-        Carrier::ReleaseComplete => 4,
-        Carrier::Alerting => 5,
     }
 }
 

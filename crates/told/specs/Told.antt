@@ -1,0 +1,49 @@
+-- An outcome as a host is told it: its message as bytes at the front of a buffer, and the rest as plain numbers.
+use Prim.Native.Nat.{ℕ, _+_}
+use mathlib.Core.List.{List, [], _∷_}
+use Rattle.lists.specs.Choice.{pick}
+use Rattle.desk.specs.Codes.{flagCode}
+use Rattle.desk.specs.Letter.{messageOf}
+use Rattle.desk.specs.declared.outcome.Timers.{Timers}
+use Rattle.desk.specs.declared.outcome.Notice.{Notice}
+use Rattle.desk.specs.declared.outcome.Notice.the-variants.{Silent, Accepted, DeniedShort, DeniedLong, Recall, Completed, Failed, BusyAgainKept, BusyAgainEnded, Cancelled}
+use Rattle.desk.specs.declared.outcome.Sending.{Sending}
+use Rattle.desk.specs.declared.outcome.Sending.the-variants.{Nothing, Send}
+use Rattle.desk.specs.declared.outcome.Outcome.{Outcome}
+use Rattle.writer.specs.Write.{messageWritten, messageBuffer}
+use Rattle.writer.specs.declared.Written.{Written}
+use Rattle.writer.specs.declared.Written.the-variants.{Wrote}
+
+-- T1 1, T2 2, T3 4, guard 8
+abbrev pub timersNumber : Timers → ℕ
+timersNumber timers = pick (timers .t1) 1 0 + pick (timers .t2) 2 0 + pick (timers .t3) 4 0 + pick (timers .guard) 8 0
+
+abbrev pub noticeNumber : Notice → ℕ
+noticeNumber Silent = 0
+noticeNumber Accepted = 1
+noticeNumber DeniedShort = 2
+noticeNumber DeniedLong = 3
+noticeNumber Recall = 4
+noticeNumber Completed = 5
+noticeNumber Failed = 6
+noticeNumber BusyAgainKept = 7
+noticeNumber BusyAgainEnded = 8
+noticeNumber Cancelled = 9
+
+-- ---- the message sent, written at the front: the writer's answer, and no bytes where nothing is sent
+unfoldable pub sentWritten : List ℕ → Sending → Written
+sentWritten out Nothing = Wrote 0
+sentWritten out (Send l) = messageWritten out 0 (messageOf l)
+
+unfoldable pub sentBuffer : List ℕ → Sending → List ℕ
+sentBuffer out Nothing = out
+sentBuffer out (Send l) = messageBuffer out 0 (messageOf l)
+
+-- ---- the seven numbers: refusal, bytes written, first unread place, timers started, timers stopped, notice, clear the call
+abbrev pub toldOf : Outcome → ℕ → ℕ → List ℕ
+toldOf outcome length next =
+    outcome .refusal ∷ length ∷ next ∷ timersNumber (outcome .starts) ∷ timersNumber (outcome .stops) ∷ noticeNumber (outcome .notice) ∷ flagCode (outcome .clear) ∷ []
+
+-- a refusal of the face itself: nothing was done, nothing is sent and nothing is read
+abbrev pub toldRefused : ℕ → List ℕ
+toldRefused number = number ∷ 0 ∷ 0 ∷ 0 ∷ 0 ∷ 0 ∷ 0 ∷ []

@@ -1,0 +1,30 @@
+-- What stands in the host's memory after a call, and the number that the call answers.
+use Prim.Native.Nat.{ℕ}
+use mathlib.Core.List.{List}
+use Rattle.desk.specs.declared.outcome.Outcome.{Outcome}
+use Rattle.writer.specs.declared.Written.{Written}
+use Rattle.writer.specs.declared.Written.the-variants.{Wrote, Refused}
+use Rattle.told.specs.Told.{sentWritten, sentBuffer, toldOf, toldRefused}
+
+-- the desk's words, the buffer for the message that is sent, the outcome's seven numbers, and the answer: the refusal's number or 0
+pub record Face : Type 0 where
+  pub words : List ℕ
+  pub out : List ℕ
+  pub told : List ℕ
+  pub answer : ℕ
+
+abbrev pub face : List ℕ → List ℕ → List ℕ → ℕ → Face
+face words out told answer = record { words = words; out = out; told = told; answer = answer }
+
+-- refused by the face itself: the desk and the buffer stay as they were
+abbrev pub refusedFace : List ℕ → List ℕ → ℕ → Face
+refusedFace words out number = face words out (toldRefused number) number
+
+-- a step whose message was written is done; where the writer refused it (12: no room), nothing is
+abbrev pub written : Written → List ℕ → List ℕ → List ℕ → Outcome → ℕ → Face
+written (Wrote length) words after out outcome next = face after out (toldOf outcome length next) (outcome .refusal)
+written (Refused number) words after out outcome next = refusedFace words out number
+
+-- a step that makes of `words` the words `after`
+unfoldable pub faced : List ℕ → List ℕ → List ℕ → Outcome → ℕ → Face
+faced words after out outcome next = written (sentWritten out (outcome .sending)) words after (sentBuffer out (outcome .sending)) outcome next

@@ -1,0 +1,6 @@
+pub mod Given
+pub mod Face
+pub mod Clerk
+pub mod Line
+pub mod Shown
+pub mod Messages

@@ -1,0 +1,234 @@
+/* Tollherring: ring-back (ITU-T H.450.9, call completion) for telephone proxies. C99, and C++.
+ *
+ * Two desks. The clerk's desk is User A's end: it asks to be rung back. The line desk is User B's end: it keeps the requests until the
+ * line is free. A host allocates a desk once, starts it, and lends it to each call for the whole working day. It does not look into it.
+ * docs/HOST.md tells, step by step, what a host has to do; link with libtollherring.a.
+ *
+ * Every call but the two starts has the same tail: `out`, `room` and `outcome`. What the step sends, the reply that goes with a refusal too, is
+ * written at the front of `out` (TOLLHERRING_MESSAGE_MOST bytes are always enough), and `outcome` is written whole. The call answers the refusal's
+ * number, or 0. After a refusal the desk is as it was. With no room for the message the answer is 12, and nothing at all was done.
+ *
+ * Whatever numbers and bytes are passed, there is an answer. What the caller owes is only what C itself asks for: every pointer points to as many bytes as its
+ * type or its length says, is not NULL (with length 0 neither), and no two of the things that one call is given overlap; one desk is not used by two
+ * threads at a time. No call keeps a pointer, allocates, or does input or output.
+ */
+#ifndef TOLLHERRING_H
+#define TOLLHERRING_H
+
+#include <stddef.h>
+#include <stdint.h>
+
+#ifdef __cplusplus
+extern "C" {
+#endif
+
+/* ---- the desks: allocated by the host, and not looked into. Words of 64 bits, so that a desk may be copied, or kept in memory, as it is. */
+
+#define TOLLHERRING_CLERK_WORDS 192
+#define TOLLHERRING_LINE_WORDS 498
+
+typedef struct tollherring_clerk {
+    uint64_t words[TOLLHERRING_CLERK_WORDS];
+} tollherring_clerk;
+
+typedef struct tollherring_line {
+    uint64_t words[TOLLHERRING_LINE_WORDS];
+} tollherring_line;
+
+/* ---- what a step does */
+
+typedef struct tollherring_outcome {
+    uint64_t refusal; /* 0, or why nothing changed: TOLLHERRING_... below */
+    uint64_t length;  /* how many bytes of `out` are the message to be sent; 0: nothing is sent */
+    uint64_t next;    /* after receive: how many bytes were read; 0 where the bytes themselves were refused (1, 2). Else 0 */
+    uint64_t starts;  /* timers to start: a sum of TOLLHERRING_T1, T2, T3, GUARD */
+    uint64_t stops;   /* timers to stop: the same. All are those of the one record that the step was about */
+    uint64_t notice;  /* what to tell User A: TOLLHERRING_ACCEPTED and so on, 0 for nothing */
+    uint64_t clear;   /* 1: clear the call */
+} tollherring_outcome;
+
+/* timers, in `starts` and `stops` */
+#define TOLLHERRING_T1 1
+#define TOLLHERRING_T2 2
+#define TOLLHERRING_T3 4
+#define TOLLHERRING_GUARD 8
+
+/* notices */
+#define TOLLHERRING_ACCEPTED 1
+#define TOLLHERRING_DENIED_SHORT 2
+#define TOLLHERRING_DENIED_LONG 3
+#define TOLLHERRING_RECALL 4
+#define TOLLHERRING_COMPLETED 5
+#define TOLLHERRING_FAILED 6
+#define TOLLHERRING_BUSY_AGAIN_KEPT 7
+#define TOLLHERRING_BUSY_AGAIN_ENDED 8
+#define TOLLHERRING_CANCELLED 9
+
+/* refusals */
+#define TOLLHERRING_BYTES_END 1       /* bytes end inside a message, or a number is over two bytes or not shortest */
+#define TOLLHERRING_OUT_OF_RANGE 2    /* a field or a number given is out of range */
+#define TOLLHERRING_OTHER_END 3       /* the message type isn't for this end */
+#define TOLLHERRING_LIVE 4            /* an ask uses an identifier that is live at this desk */
+#define TOLLHERRING_FULL 5            /* the clerk's desk is full: 16 records */
+#define TOLLHERRING_NO_RECORD 6       /* no record with that identifier */
+#define TOLLHERRING_NO_ROW 7          /* the record's state has no row for this input */
+#define TOLLHERRING_CARRIER 8         /* carrier not allowed for this type and record */
+#define TOLLHERRING_NOT_RUNNING 9     /* that timer isn't running */
+#define TOLLHERRING_NO_LINE 10        /* no such line */
+#define TOLLHERRING_NOTHING_TO_OFFER 11 /* a Look has nothing to offer: the usual answer, and no fault */
+#define TOLLHERRING_NO_ROOM 12        /* no room in `out` */
+
+/* ---- messages are bytes: type, carrier, the identifier's 16 bytes, then the fields of the type (document 01, "Messages and carriers").
+ * What a host needs of a message that it sends are the first two bytes: its type, and the carrier that it goes in. */
+
+#define TOLLHERRING_MESSAGE_LEAST 18
+#define TOLLHERRING_MESSAGE_MOST 53
+
+/* the first byte */
+#define TOLLHERRING_CCBS_REQUEST 1
+#define TOLLHERRING_CCNR_REQUEST 2
+#define TOLLHERRING_RESULT 3
+#define TOLLHERRING_REQUEST_ERROR 4
+#define TOLLHERRING_CC_EXEC_POSSIBLE 5
+#define TOLLHERRING_CC_RINGOUT 6
+#define TOLLHERRING_RINGOUT_ERROR 7
+#define TOLLHERRING_CC_SUSPEND 8
+#define TOLLHERRING_CC_RESUME 9
+#define TOLLHERRING_CC_CANCEL 10
+#define TOLLHERRING_CALL_ALERTS 11
+#define TOLLHERRING_CALL_FAILED 12
+
+/* the second byte */
+#define TOLLHERRING_SETUP 1
+#define TOLLHERRING_CONNECT 2
+#define TOLLHERRING_FACILITY 3
+#define TOLLHERRING_RELEASE_COMPLETE 4
+#define TOLLHERRING_ALERTING 5
+
+/* ---- an identifier is 16 bytes, the CallIdentifier of the failed call. A number of digits is 16 bytes too: how many digits (1 to 15; 0 for a numberA
+ * that is withheld), then one byte 0 to 9 for each digit; what stands behind the last digit doesn't count. */
+
+/* ---- the clerk's desk (User A's end) */
+
+/* kinds and preferences of an ask */
+#define TOLLHERRING_CCBS 1
+#define TOLLHERRING_CCNR 2
+#define TOLLHERRING_PREFER_NONE 0
+#define TOLLHERRING_PREFER_RETAIN 1
+#define TOLLHERRING_PREFER_RELEASE 2
+
+/* User A's acts */
+#define TOLLHERRING_ACCEPT 1
+#define TOLLHERRING_RESUME 2 /* User A is free again: back to waiting */
+#define TOLLHERRING_GO_ON 3  /* User A is free again: on to recall */
+#define TOLLHERRING_CANCEL 4
+
+/* timers that run out at this end: 1 T1, 2 T2, 3 T3 */
+#define TOLLHERRING_T1_RAN_OUT 1
+#define TOLLHERRING_T2_RAN_OUT 2
+#define TOLLHERRING_T3_RAN_OUT 3
+
+/* An empty desk. */
+void tollherring_clerk_start(tollherring_clerk *desk);
+
+/* User A asks to be rung back. service 0 to 16383, can_keep 0 or 1. Refusals 2, 4, 5, 12. */
+uint64_t tollherring_clerk_ask(tollherring_clerk *desk, const uint8_t identifier[16], uint64_t kind, const uint8_t number_a[16],
+                               const uint8_t number_b[16], uint64_t service, uint64_t can_keep, uint64_t preference, uint8_t *out, size_t room,
+                               tollherring_outcome *outcome);
+
+/* Bytes reach this end; user_a_busy 0 or 1. One message is read, from the front. Refusals 1, 2, 3, 6, 7, 8, 12. */
+uint64_t tollherring_clerk_receive(tollherring_clerk *desk, const uint8_t *bytes, size_t length, uint64_t user_a_busy, uint8_t *out, size_t room,
+                                   tollherring_outcome *outcome);
+
+/* User A acts. Refusals 2, 6, 7, 12. */
+uint64_t tollherring_clerk_act(tollherring_clerk *desk, const uint8_t identifier[16], uint64_t act, uint8_t *out, size_t room,
+                               tollherring_outcome *outcome);
+
+/* A timer ran out. Refusals 2, 6, 9, 12. */
+uint64_t tollherring_clerk_report(tollherring_clerk *desk, const uint8_t identifier[16], uint64_t timer, uint8_t *out, size_t room,
+                                  tollherring_outcome *outcome);
+
+/* ---- the line desk (User B's end) */
+
+/* a line as it is given to start: its number, and the kinds that it allows, 1 CCBS + 2 CCNR */
+typedef struct tollherring_line_given {
+    uint8_t number[16];
+    uint8_t kinds;
+} tollherring_line_given;
+
+/* acts at this end */
+#define TOLLHERRING_ALERTED 1
+#define TOLLHERRING_LINE_CALL_FAILED 2
+#define TOLLHERRING_LINE_CANCEL 3
+
+/* A desk with its lines, all free; whether it keeps requests, and whether it retains connections by default, 0 or 1 each. `lines` are `bytes` bytes: 17 for a
+ * line, at most 16 lines, none at all is allowed. Refusal 2, and then there is no desk: what stood there stays. */
+uint64_t tollherring_line_start(tollherring_line *desk, const tollherring_line_given *lines, size_t bytes, uint64_t keep, uint64_t retain);
+
+/* Bytes reach this end. One message is read, from the front. Refusals 1, 2, 3, 6, 7, 8, 12. */
+uint64_t tollherring_line_receive(tollherring_line *desk, const uint8_t *bytes, size_t length, uint8_t *out, size_t room,
+                                  tollherring_outcome *outcome);
+
+/* A line is busy (1) or free (0). Refusals 2, 10. */
+uint64_t tollherring_line_report(tollherring_line *desk, const uint8_t number[16], uint64_t busy, uint8_t *out, size_t room,
+                                 tollherring_outcome *outcome);
+
+/* A Look at a line. Refusals 10, 11, 12. */
+uint64_t tollherring_line_look(tollherring_line *desk, const uint8_t number[16], uint8_t *out, size_t room, tollherring_outcome *outcome);
+
+/* An act at this end. Refusals 2, 6, 7, 12. */
+uint64_t tollherring_line_act(tollherring_line *desk, const uint8_t identifier[16], uint64_t act, uint8_t *out, size_t room,
+                              tollherring_outcome *outcome);
+
+/* The guard of a record ran out. Refusals 6, 12. */
+uint64_t tollherring_line_guard(tollherring_line *desk, const uint8_t identifier[16], uint8_t *out, size_t room, tollherring_outcome *outcome);
+
+/* ---- looking at a desk: the records of the clerk's desk in the order of storing, those of the line desk in the order of acceptance, from place 0 on */
+
+typedef struct tollherring_record {
+    uint64_t kind;       /* TOLLHERRING_CCBS or TOLLHERRING_CCNR */
+    uint64_t service;
+    uint64_t can_keep;   /* what the clerk's end sent, 0 or 1; at the line desk 0 */
+    uint64_t keep;       /* 0 not chosen yet, 1 no, 2 yes */
+    uint64_t connection; /* 0 not chosen yet, 1 retained (RET), 2 released (RLS) */
+    uint64_t state;      /* clerk: 1 Wait-Ack, 2 Invoked, 3 Wait-Answer, 4 Ringout, 5 Suspended; line: 1 Invoked, 2 Await, 3 Alert */
+    uint64_t active;     /* the line desk's activity mark, 0 or 1; at the clerk's desk 0 */
+    uint64_t suspended;  /* the line desk's suspended mark, 0 or 1; at the clerk's desk 0 */
+} tollherring_record;
+
+typedef struct tollherring_line_status {
+    uint64_t kinds; /* 1 CCBS + 2 CCNR */
+    uint64_t busy;  /* 0 or 1 */
+} tollherring_line_status;
+
+/* The record at a place: 0; or 6 for a place that has none, and then nothing is written. */
+uint64_t tollherring_clerk_record(const tollherring_clerk *desk, uint64_t place, uint8_t identifier[16], uint8_t number_a[16], uint8_t number_b[16],
+                                  tollherring_record *record);
+uint64_t tollherring_line_record(const tollherring_line *desk, uint64_t place, uint8_t identifier[16], uint8_t number_a[16], uint8_t number_b[16],
+                                 tollherring_record *record);
+
+/* The line at a place, in the order in which they were given to start: 0; or 10 for a place that has none, and then nothing is written. */
+uint64_t tollherring_line_at(const tollherring_line *desk, uint64_t place, uint8_t number[16], tollherring_line_status *status);
+
+/* ---- messages as such, for logs and tests: the desks take and give bytes */
+
+typedef struct tollherring_message {
+    uint64_t type;
+    uint64_t carrier;
+    uint64_t service; /* types 1 and 2; else 0 */
+    uint64_t field;   /* types 1 and 2: flags, can-keep + 2 * preference; 3: keep; 4 and 7: the error; else 0 */
+} tollherring_message;
+
+/* One message from the front of some bytes; how many bytes it takes. Refusals 1, 2, and then nothing is written. */
+uint64_t tollherring_message_read(const uint8_t *bytes, size_t length, uint8_t identifier[16], uint8_t number_a[16], uint8_t number_b[16],
+                                  tollherring_message *message, uint64_t *taken);
+
+/* A message at a place of a buffer of `room` bytes; how many bytes it takes. Refusals 2, 12, and then nothing is written. */
+uint64_t tollherring_message_write(const uint8_t identifier[16], const uint8_t number_a[16], const uint8_t number_b[16],
+                                   const tollherring_message *message, uint8_t *out, size_t room, size_t place, uint64_t *written);
+
+#ifdef __cplusplus
+}
+#endif
+
+#endif
