@@ -1,5 +1,5 @@
 //! An independent reference program for the desks of document 01, written from
-//! the papers alone: 01-scope.md, READINGS.md, REPLAY.md and H.450.9.
+//! the papers alone: 01-scope.md, READINGS.md, REPLAY.md, STORY.md and H.450.9.
 
 mod clerk;
 mod codec;
@@ -8,6 +8,7 @@ mod line;
 mod make;
 mod outcome;
 mod script;
+mod story;
 
 use std::io::{self, BufWriter, Read, Write};
 use std::path::Path;
@@ -20,7 +21,8 @@ independent make line DIR
 independent make stop DIR
 independent make random SEED ENTRIES DIR
 independent make stored FILE
-independent coverage [--require-all] SCRIPT..";
+independent coverage [--require-all] SCRIPT..
+independent story                         the four scenes of STORY.md on standard output";
 
 /// Writes to standard output; a closed one is an error and no panic.
 fn print(text: &str) -> io::Result<()> {
@@ -89,6 +91,7 @@ fn run(words: &[&str]) -> io::Result<bool> {
             let (report, complete) = cover(paths)?;
             print(&report).map(|()| complete)
         }
+        Some((&"story", [])) => print(&story::text()).map(|()| true),
         _ => Err(usage()),
     }
 }
@@ -118,5 +121,6 @@ mod tests {
         assert_eq!(cover(&[]).map(listed).ok(), Some((false, false)));
         assert!(run(&["coverage", "--require-all", "no such file"]).is_err());
         assert!(run(&["make", "stored"]).is_err());
+        assert!(run(&["story", "4"]).is_err());
     }
 }

@@ -1,0 +1,296 @@
+//! The story of STORY.md: four scenes, each on two desks of its own with two
+//! wires between them, printed as ladders.
+
+mod ladder;
+mod scenes;
+mod words;
+
+use self::ladder::End;
+use self::scenes::{Event, House, Scene, Tag};
+use crate::clerk::{Ask, Timer};
+use crate::codec::{message_bytes, read_message, Carrier, Content, Identifier, Message};
+use crate::line::{Act, Line, LineDesk};
+use crate::outcome::{message, Kind, Outcome};
+use crate::script::Session;
+use std::collections::VecDeque;
+
+/// "sixteen bytes, each of the tag's value".
+fn identifier(tag: Tag) -> Identifier {
+    [tag; 16]
+}
+
+fn digits(text: &str) -> Vec<u8> {
+    text.bytes().map(|b| b.wrapping_sub(b'0')).collect()
+}
+
+/// The data of a tag; None for a tag that is never asked for.
+fn ask_of(tag: Tag, preference: u32) -> Option<Ask> {
+    let request = scenes::REQUESTS.iter().find(|r| r.tag == tag)?;
+    Some(Ask {
+        identifier: identifier(tag),
+        kind: Kind::Ccbs,
+        number_a: digits(request.number_a),
+        number_b: digits(request.number_b),
+        service: request.service,
+        can_keep: true,
+        preference,
+    })
+}
+
+/// "both kinds allowed on both; it keeps requests or not as the scene says, and
+/// does not retain connections by default". The wrong end "is started with
+/// "does not keep requests"".
+fn line_desk(house: House) -> LineDesk {
+    let line = |text: &&str| Line { digits: digits(text), allows_ccbs: true, allows_ccnr: true, busy: false };
+    let lines = scenes::LINES.iter().map(line).collect();
+    LineDesk::start(lines, house == House::Keeps, false).unwrap_or_default()
+}
+
+/// What a scene is played on. The wires hold bytes.
+struct Stage {
+    desks: Session,
+    to_clerk: VecDeque<Vec<u8>>,
+    to_line: VecDeque<Vec<u8>>,
+    preference: u32,
+    house: House,
+}
+
+impl Stage {
+    fn of(scene: &Scene) -> Stage {
+        Stage {
+            desks: Session { line: line_desk(scene.house), ..Session::default() },
+            to_clerk: VecDeque::new(),
+            to_line: VecDeque::new(),
+            preference: scene.preference,
+            house: scene.house,
+        }
+    }
+
+    fn wire_to(&mut self, end: End) -> &mut VecDeque<Vec<u8>> {
+        match end {
+            End::Clerk => &mut self.to_clerk,
+            End::Line => &mut self.to_line,
+        }
+    }
+
+    /// Plays an event and gives the lines that it prints.
+    fn play(&mut self, event: Event) -> Vec<String> {
+        match event {
+            Event::Say(number) => scenes::narration(number).into_iter().map(str::to_string).collect(),
+            Event::Records => self.records(),
+            Event::Stray(tag) => self.stray(event, tag),
+            Event::ClerkHears | Event::LineHears => match self.wire_to(event.end()).pop_front() {
+                Some(bytes) => self.hear(event, &bytes),
+                // "no desk steps; one row, whose middle is a name row with
+                // `nothing is under way` in place of the name (no tag)".
+                None => ladder::block(event.end(), &[], &[ladder::name_row(event.end(), "nothing is under way")]),
+            },
+            _ => self.step(event),
+        }
+    }
+
+    fn records(&self) -> Vec<String> {
+        let clerk = self.desks.clerk.records.iter().map(words::clerk_record).collect();
+        let line = self.desks.line.records.iter().map(words::line_record).collect();
+        ladder::records(clerk, line)
+    }
+
+    /// "no desk steps: a result (type 3) with keep 1 in Connect and the
+    /// identifier of tag T goes behind the last message of the wire to the clerk".
+    fn stray(&mut self, event: Event, tag: Tag) -> Vec<String> {
+        let stray = message(Carrier::Connect, identifier(tag), Content::RequestResult { keep: 1 });
+        self.to_clerk.push_back(message_bytes(&stray));
+        ladder::block(event.end(), &words::of_step(event, &Outcome::done(), None), &ladder::stray(&stray))
+    }
+
+    /// The bytes go to the desk: read, and stepped with. Bytes that are refused
+    /// hold no message, so that none is shown and no request is named.
+    fn hear(&mut self, event: Event, bytes: &[u8]) -> Vec<String> {
+        let before = self.desks.clone();
+        match read_message(bytes) {
+            Ok((heard, _)) => {
+                let outcome = self.take(event.end(), &heard);
+                self.tell(event, &before, Some(&heard), outcome)
+            }
+            Err(refusal) => self.tell(event, &before, None, Outcome::refused(refusal)),
+        }
+    }
+
+    /// "The host's word on User A is always "not busy"."
+    fn take(&mut self, end: End, heard: &Message) -> Outcome {
+        match end {
+            End::Clerk => self.desks.clerk.take(heard, false),
+            End::Line => self.desks.line.take(heard),
+        }
+    }
+
+    fn step(&mut self, event: Event) -> Vec<String> {
+        let before = self.desks.clone();
+        match self.input(event) {
+            Some(outcome) => self.tell(event, &before, None, outcome),
+            None => Vec::new(),
+        }
+    }
+
+    /// STORY, "Events", the column "Input"; None where the event is no input
+    /// of this kind.
+    fn input(&mut self, event: Event) -> Option<Outcome> {
+        let Session { clerk, line } = &mut self.desks;
+        Some(match event {
+            Event::Ask(tag) => clerk.ask(&ask_of(tag, self.preference)?),
+            Event::Accept(tag) => clerk.accept(&identifier(tag)),
+            Event::Cancel(tag) => clerk.user_cancels(&identifier(tag)),
+            Event::T2(tag) => clerk.timer_runs_out(&identifier(tag), Timer::T2),
+            Event::Busy(number) => line.report(&digits(number), true),
+            Event::Free(number) => line.report(&digits(number), false),
+            Event::Look(number) => line.look(&digits(number)),
+            Event::Alerted(tag) => line.act(&identifier(tag), Act::Alerted),
+            Event::Withdraw(tag) => line.act(&identifier(tag), Act::Cancel),
+            Event::ClerkHears | Event::LineHears => return None,
+            Event::Stray(_) | Event::Records | Event::Say(_) => return None,
+        })
+    }
+
+    /// The wrong end: "in each result (type 3) that it sends the field keep is
+    /// made 1 before the message goes onto the wire. Nothing else is altered".
+    fn as_put_on_wire(&self, end: End, sent: Message) -> Message {
+        match sent.content {
+            Content::RequestResult { .. } if end == End::Line && self.house == House::WrongEnd => {
+                Message { content: Content::RequestResult { keep: 1 }, ..sent }
+            }
+            _ => sent,
+        }
+    }
+
+    /// Puts what the step sends onto the wire to the other end, and gives the
+    /// step's block.
+    fn tell(&mut self, event: Event, before: &Session, heard: Option<&Message>, outcome: Outcome) -> Vec<String> {
+        let end = event.end();
+        let sent = outcome.message.clone().map(|sent| self.as_put_on_wire(end, sent));
+        if let Some(sent) = &sent {
+            self.wire_to(end.other()).push_back(message_bytes(sent));
+        }
+        let request = request_of(event, heard, sent.as_ref());
+        let states = request.map(|r| (words::state(before, end, &r), words::state(&self.desks, end, &r)));
+        let mut middle = Vec::new();
+        middle.extend(heard.into_iter().flat_map(|m| ladder::arrived(end, m)));
+        middle.extend(sent.iter().flat_map(|m| ladder::sent(end, m)));
+        ladder::block(end, &words::of_step(event, &outcome, states), &middle)
+    }
+}
+
+/// "The step's request is the event's tag; for `clerk hears` and `line hears`
+/// the identifier of the message that arrived; for `look` the identifier of the
+/// message that is sent, and no row 7 if none is sent. `busy`, `free` and
+/// `stray` have no row 7."
+fn request_of(event: Event, heard: Option<&Message>, sent: Option<&Message>) -> Option<Identifier> {
+    match event {
+        Event::ClerkHears | Event::LineHears => heard.map(|m| m.identifier),
+        Event::Look(_) => sent.map(|m| m.identifier),
+        _ => event.tag().map(identifier),
+    }
+}
+
+/// STORY, "A scene", 1 to 6.
+fn opening_lines(number: usize, scene: &Scene) -> Vec<String> {
+    let rule = "=".repeat(100);
+    let title = format!("Scene {number}. {}", scene.title);
+    vec![rule.clone(), title, rule, scene.opening.to_string(), String::new(), ladder::head(), ladder::dashes()]
+}
+
+/// STORY, "A scene", 7 to 11 behind the opening.
+fn scene_lines(number: usize, scene: &Scene) -> Vec<String> {
+    let mut stage = Stage::of(scene);
+    let mut lines = opening_lines(number, scene);
+    for event in scene.prelude {
+        stage.play(*event);
+    }
+    for event in scene.events() {
+        lines.extend(stage.play(event));
+    }
+    lines.push(ladder::dashes());
+    lines.extend(scene.lesson.iter().map(|line| line.to_string()));
+    lines.push(String::new());
+    lines
+}
+
+/// The whole story; "each line ends with one newline character".
+pub fn text() -> String {
+    let mut lines: Vec<String> = scenes::BEFORE.iter().map(|line| line.to_string()).collect();
+    for (place, scene) in scenes::SCENES.iter().enumerate() {
+        lines.extend(scene_lines(place + 1, scene));
+    }
+    lines.iter().map(|line| format!("{line}\n")).collect()
+}
+
+#[cfg(test)]
+mod tests {
+    use super::*;
+
+    #[test]
+    fn plain_ascii_in_lines_of_at_most_100_without_a_blank_at_the_end() {
+        let text = text();
+        assert!(text.bytes().all(|b| b == b'\n' || (b' '..=b'~').contains(&b)));
+        assert!(text.ends_with("\n\n") && !text.ends_with("\n\n\n"));
+        for line in text.lines() {
+            assert!(line.len() <= 100 && !line.ends_with(' '), "{line}");
+        }
+    }
+
+    /// "No text of a cell is longer than 29 characters, so nothing is ever cut."
+    #[test]
+    fn every_row_has_its_bars_in_their_places() {
+        for scene in &scenes::SCENES {
+            let mut stage = Stage::of(scene);
+            for event in scene.prelude.iter().copied().chain(scene.events()) {
+                let rows = stage.play(event);
+                assert!(!rows.is_empty(), "{event:?}");
+                let is_row = |row: &String| row.get(30..31) == Some("|") && row.get(69..70) == Some("|");
+                assert_eq!(rows.iter().all(is_row), !matches!(event, Event::Say(_)), "{event:?}");
+            }
+        }
+    }
+
+    /// "Looks that have nothing to offer are left out of the scenes", so those
+    /// that are left out have nothing to offer; "No scene has more than four
+    /// messages on one wire."
+    #[test]
+    fn no_look_is_left_out_that_has_something_to_offer() {
+        for scene in &scenes::SCENES {
+            let mut stage = Stage::of(scene);
+            let events: Vec<Event> = scene.prelude.iter().copied().chain(scene.events()).collect();
+            for (place, event) in events.iter().enumerate() {
+                stage.play(*event);
+                assert!(stage.to_clerk.len() <= 4 && stage.to_line.len() <= 4);
+                let next = events.get(place + 1).copied();
+                for line in scenes::LINES.into_iter().filter(|l| next != Some(Event::Look(l))) {
+                    let offered = stage.desks.line.clone().look(&digits(line));
+                    assert_eq!(offered.refusal.map(|r| r.number()), Some(11), "{event:?} {line}");
+                }
+            }
+        }
+    }
+
+    #[test]
+    fn the_wrong_end_tells_keep_1_and_stores_keep_0() {
+        let [wrong, right, ..] = scenes::SCENES;
+        let first_records = |scene: &Scene| {
+            let lines = scene_lines(1, scene);
+            lines.into_iter().find(|line| line.contains("(records)"))
+        };
+        let middle = "              (records)";
+        let expected = ladder::row("#34 Invoked, keep 1", middle, "#34 Invoked, keep 0");
+        assert_eq!(first_records(&wrong), Some(expected));
+        let expected = ladder::row("#34 Invoked, keep 1", middle, "#34 Invoked, keep 1");
+        assert_eq!(first_records(&right), Some(expected));
+    }
+
+    #[test]
+    fn a_wire_with_nothing_on_it() {
+        let mut stage = Stage::of(&scenes::SCENES[0]);
+        let left = ladder::row("", " nothing is under way", "");
+        assert_eq!(stage.play(Event::ClerkHears), [left]);
+        let right = ladder::row("", "                 nothing is under way ", "");
+        assert_eq!(stage.play(Event::LineHears), [right]);
+    }
+}

@@ -1,0 +1,252 @@
+//! What STORY.md fixes of the scenes: the requests, the events, the texts.
+
+use self::Event::*;
+use super::ladder::End;
+
+/// A request's tag, "a number of two decimal digits".
+pub type Tag = u8;
+
+/// A line's digits, as they are printed.
+pub type Digits = &'static str;
+
+/// STORY, "Events".
+#[derive(Clone, Copy, PartialEq, Eq, Debug)]
+pub enum Event {
+    Ask(Tag),
+    Accept(Tag),
+    Cancel(Tag),
+    T2(Tag),
+    ClerkHears,
+    Busy(Digits),
+    Free(Digits),
+    Look(Digits),
+    Alerted(Tag),
+    Withdraw(Tag),
+    LineHears,
+    Stray(Tag),
+    Records,
+    Say(usize),
+}
+
+impl Event {
+    /// "The event's end is the clerk's for `ask`, `accept`, `cancel`, `T2` and
+    /// `clerk hears`, the line's for the others (`stray` too)."
+    pub fn end(self) -> End {
+        match self {
+            Ask(_) | Accept(_) | Cancel(_) | T2(_) | ClerkHears => End::Clerk,
+            _ => End::Line,
+        }
+    }
+
+    /// The tag of an input that has one; `stray` is no input.
+    pub fn tag(self) -> Option<Tag> {
+        match self {
+            Ask(tag) | Accept(tag) | Cancel(tag) | T2(tag) | Alerted(tag) | Withdraw(tag) => Some(tag),
+            _ => None,
+        }
+    }
+}
+
+/// What is asked for; the kind is CCBS and can-keep 1 in all of them, the
+/// preference is the scene's.
+pub struct Request {
+    pub tag: Tag,
+    pub number_a: Digits,
+    pub number_b: Digits,
+    pub service: u32,
+}
+
+pub const REQUESTS: [Request; 2] = [
+    Request { tag: 34, number_a: "5550134", number_b: "41180", service: 34 },
+    Request { tag: 12, number_a: "5550112", number_b: "52290", service: 12 },
+];
+
+/// "The line desk starts with the lines 41180 and 52290, in this order".
+pub const LINES: [Digits; 2] = ["41180", "52290"];
+
+/// "Flags are .. 2 x preference (0 none, 1 retain, 2 release)".
+pub const RETAIN: u32 = 1;
+pub const RELEASE: u32 = 2;
+
+/// The house's end of a scene: a line desk that keeps requests, or the wrong
+/// end of scene 1.
+#[derive(Clone, Copy, PartialEq, Eq, Debug)]
+pub enum House {
+    Keeps,
+    WrongEnd,
+}
+
+pub struct Scene {
+    pub title: &'static str,
+    pub preference: u32,
+    pub house: House,
+    pub opening: &'static str,
+    pub prelude: &'static [Event],
+    /// The events in parts, as scenes 1 and 2 share the evening.
+    pub events: [&'static [Event]; 2],
+    pub lesson: [&'static str; 2],
+}
+
+impl Scene {
+    pub fn events(&self) -> impl Iterator<Item = Event> + '_ {
+        self.events.iter().flat_map(|part| part.iter().copied())
+    }
+}
+
+/// "Before the first scene, four lines and an empty line".
+pub const BEFORE: [&str; 5] = [
+    "TOLLHERRING: THREE LESSONS IN FOUR SCENES",
+    "A clerk finds a house's line busy and asks to be rung back. #34 is the request for a group of 34.",
+    "A message is sent: o---...   It is under way, and then it arrives: ...--->   Its carrier is in [ ].",
+    "States, timers, notices and refusals are the desks' own. A scene says which messages it forges.",
+    "",
+];
+
+const NARRATION: [&str; 13] = [
+    "* The house's line is busy. The clerk asks to be rung back, and says that it can keep the request.",
+    "* The line clears, and the house rings back. But another caller is faster than the clerk.",
+    "* Busy again. What has each end kept?",
+    "* The line clears once more.",
+    "* The clerk waits for a ring-back that nobody will make, until T2 runs out.",
+    "* The house rings back once more, and this time the call gets through.",
+    "* The request is accepted at both ends. The line clears and the house rings back.",
+    "* At the same moment User A cancels: the two messages pass each other.",
+    "* Each end now hears what the other had sent. The ring-back that came too late gets a reply.",
+    "* Two requests, #34 and #12, both rung back. User A accepts both, and the second house withdraws.",
+    "* A late reply for #12. Request #34 stands in Ringout, the very state that such a reply is for.",
+    "* Two forged replies: one for a request that nobody made, and a second result for #34.",
+    "* Nothing has touched #34: its call goes through.",
+];
+
+/// Line N of the narration, from 1.
+pub fn narration(number: usize) -> Option<&'static str> {
+    NARRATION.get(number.checked_sub(1)?).copied()
+}
+
+/// "The evening is a list of events that scenes 1 and 2 share".
+const EVENING: &[Event] = &[
+    Say(1),
+    Busy("41180"),
+    Ask(34),
+    LineHears,
+    ClerkHears,
+    Records,
+    Say(2),
+    Free("41180"),
+    Look("41180"),
+    ClerkHears,
+    Busy("41180"),
+    Accept(34),
+    LineHears,
+    ClerkHears,
+    Say(3),
+    Records,
+    Say(4),
+    Free("41180"),
+    Look("41180"),
+    ClerkHears,
+];
+
+const WENT_WRONG: Scene = Scene {
+    title: "The evening as it went wrong",
+    preference: RETAIN,
+    house: House::WrongEnd,
+    opening: "The house's end stores no keep; its answer \"keep 1\" is forged here. Each end alone looks well.",
+    prelude: &[],
+    events: [EVENING, &[Say(5), T2(34), LineHears, Records]],
+    lesson: [
+        "LESSON 1. Two good ends are not yet a good pair: one end believed in a request that the other had",
+        "dropped. No ring-back came, and that night 34 guests slept in two houses.",
+    ],
+};
+
+const GOES_NOW: Scene = Scene {
+    title: "The evening as it goes now",
+    preference: RETAIN,
+    house: House::Keeps,
+    opening: "The same evening and the same inputs; the house's end now stores what it answers.",
+    prelude: &[],
+    events: [EVENING, &[Say(6), Accept(34), LineHears, Alerted(34), ClerkHears, Records]],
+    lesson: [
+        "LESSON 1, LEARNED. What one end holds as kept, the other has stored. The ring-back came, and the 34",
+        "slept in one house.",
+    ],
+};
+
+const CANCEL_MEETS_RING_BACK: Scene = Scene {
+    title: "A cancel meets a ring-back",
+    preference: RELEASE,
+    house: House::Keeps,
+    opening: "User A no longer wants the call, just when the house rings back.",
+    prelude: &[Busy("41180"), Ask(34), LineHears, ClerkHears],
+    events: [
+        &[Records, Say(7), Free("41180"), Look("41180"), Say(8), Cancel(34)],
+        &[Say(9), ClerkHears, LineHears, LineHears, Records],
+    ],
+    lesson: [
+        "LESSON 2. A cancel does meet a ring-back on the wire. A late message finds no record, is refused",
+        "and changes nothing; and both ends have let the request go.",
+    ],
+};
+
+const STRAY_PRELUDE: &[Event] = &[
+    Busy("41180"),
+    Busy("52290"),
+    Ask(34),
+    LineHears,
+    ClerkHears,
+    Ask(12),
+    LineHears,
+    ClerkHears,
+    Free("41180"),
+    Look("41180"),
+    ClerkHears,
+    Free("52290"),
+    Look("52290"),
+    ClerkHears,
+];
+
+/// The events of scene 4 up to the late reply.
+const STRAY_UP_TO_LATE: &[Event] = &[
+    Records,
+    Say(10),
+    Accept(34),
+    LineHears,
+    Accept(12),
+    Withdraw(12),
+    LineHears,
+    ClerkHears,
+    Records,
+    Say(11),
+    ClerkHears,
+    Records,
+];
+
+const STRAY_TO_THE_END: &[Event] = &[
+    Say(12),
+    Stray(20),
+    ClerkHears,
+    LineHears,
+    Stray(34),
+    ClerkHears,
+    Records,
+    Say(13),
+    Alerted(34),
+    ClerkHears,
+    Records,
+];
+
+const STRAY_REPLY: Scene = Scene {
+    title: "A stray reply",
+    preference: RETAIN,
+    house: House::Keeps,
+    opening: "Replies arrive that belong to no request in their state, at a desk that holds a live one.",
+    prelude: STRAY_PRELUDE,
+    events: [STRAY_UP_TO_LATE, STRAY_TO_THE_END],
+    lesson: [
+        "LESSON 3. A stray reply must never touch the nearest request. A record is found by its identifier",
+        "and by nothing else.",
+    ],
+};
+
+pub const SCENES: [Scene; 4] = [WENT_WRONG, GOES_NOW, CANCEL_MEETS_RING_BACK, STRAY_REPLY];
