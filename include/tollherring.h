@@ -1,15 +1,18 @@
 /* Tollherring: ring-back (ITU-T H.450.9, call completion) for telephone proxies. C99, and C++.
  *
- * Two desks. The clerk's desk is User A's end: it asks to be rung back. The line desk is User B's end: it keeps the requests until the
- * line is free. A host allocates a desk once, starts it, and lends it to each call for the whole working day. It does not look into it.
- * docs/HOST.md tells, step by step, what a host has to do; link with libtollherring.a.
+ * Two desks. The clerk's desk is User A's end: it asks to be rung back, and holds at most 16 records. The line desk is User B's end: it keeps the
+ * requests until the line is free, for at most 16 lines, at most 32 records in all and 5 for one line (one more is denied, which is no refusal). A host
+ * allocates a desk once, starts it, and lends it to each call for the whole working day. It does not look into it. docs/HOST.md tells, step by step, what
+ * a host has to do; link with libtollherring.a, for x86-64.
  *
- * Every call but the two starts has the same tail: `out`, `room` and `outcome`. What the step sends, the reply that goes with a refusal too, is
- * written at the front of `out` (TOLLHERRING_MESSAGE_MOST bytes are always enough), and `outcome` is written whole. The call answers the refusal's
- * number, or 0. After a refusal the desk is as it was. With no room for the message the answer is 12, and nothing at all was done.
+ * A step has the same tail everywhere: `out`, `room` and `outcome`. What the step sends, the reply that goes with a refusal too, is written at the front
+ * of `out` (TOLLHERRING_MESSAGE_MOST bytes are always enough); the bytes behind it stay as they were. `outcome` is written whole. The call answers the
+ * refusal's number, or 0. After a refusal the desk is as it was. Two refusals are the call's own and leave `out` as it was too, and `outcome` then has the
+ * number and zeros: 2 for a number out of range, before anything else is looked at; and 12 where the message has no room, in place of what would have
+ * been answered, so that the same input can be handed in again.
  *
- * Whatever numbers and bytes are passed, there is an answer. What the caller owes is only what C itself asks for: every pointer points to as many bytes as its
- * type or its length says, is not NULL (with length 0 neither), and no two of the things that one call is given overlap; one desk is not used by two
+ * Whatever numbers and bytes are passed, there is an answer. What the caller owes is only what C itself asks for: every pointer points to as many bytes as
+ * its type or its length says, is not NULL (with length 0 neither), and no two of the things that one call is given overlap; one desk is not used by two
  * threads at a time. No call keeps a pointer, allocates, or does input or output.
  */
 #ifndef TOLLHERRING_H
@@ -40,9 +43,10 @@ typedef struct tollherring_line {
 typedef struct tollherring_outcome {
     uint64_t refusal; /* 0, or why nothing changed: TOLLHERRING_... below */
     uint64_t length;  /* how many bytes of `out` are the message to be sent; 0: nothing is sent */
-    uint64_t next;    /* after receive: how many bytes were read; 0 where the bytes themselves were refused (1, 2). Else 0 */
+    uint64_t next;    /* after receive: how many bytes were read; 0 where the bytes themselves were refused (1, 2), and on 12. Else 0 */
     uint64_t starts;  /* timers to start: a sum of TOLLHERRING_T1, T2, T3, GUARD */
-    uint64_t stops;   /* timers to stop: the same. All are those of the one record that the step was about */
+    uint64_t stops;   /* timers to stop: the same. All are those of the one record that the step was about: the one whose identifier was given, was in
+                         the bytes received, or, after a Look, is in `out` */
     uint64_t notice;  /* what to tell User A: TOLLHERRING_ACCEPTED and so on, 0 for nothing */
     uint64_t clear;   /* 1: clear the call */
 } tollherring_outcome;
@@ -78,8 +82,17 @@ typedef struct tollherring_outcome {
 #define TOLLHERRING_NOTHING_TO_OFFER 11 /* a Look has nothing to offer: the usual answer, and no fault */
 #define TOLLHERRING_NO_ROOM 12        /* no room in `out` */
 
-/* ---- messages are bytes: type, carrier, the identifier's 16 bytes, then the fields of the type (document 01, "Messages and carriers").
- * What a host needs of a message that it sends are the first two bytes: its type, and the carrier that it goes in. */
+/* ---- messages are bytes, in a form of Tollherring's own (a host that talks to other makers' ends translates from and to H.450.9's APDUs):
+ *
+ *     type, carrier, the identifier's 16 bytes, and then the fields of the type:
+ *     1, 2     numberA, numberB, service, flags         flags are can-keep (0, 1) + 2 * preference (0, 1, 2)
+ *     3        keep (0, 1)
+ *     4        TOLLHERRING_SHORT or TOLLHERRING_LONG
+ *     7        TOLLHERRING_REMOTE_USER_BUSY_AGAIN or TOLLHERRING_FAILURE_TO_MATCH
+ *
+ * A number is one byte up to 127, and else two: the lowest seven bits with the top bit set, then the rest (300 is AC 02). A number of digits is how many
+ * there are, then a byte 0 to 9 for each. What a host needs of a message that it sends: out[0] is its type, out[1] the carrier that it goes in, and the 16
+ * bytes from out + 2 on are the identifier of the request, which tells where it goes. */
 
 #define TOLLHERRING_MESSAGE_LEAST 18
 #define TOLLHERRING_MESSAGE_MOST 53
@@ -105,6 +118,12 @@ typedef struct tollherring_outcome {
 #define TOLLHERRING_RELEASE_COMPLETE 4
 #define TOLLHERRING_ALERTING 5
 
+/* errors: the field of type 4, and that of type 7 */
+#define TOLLHERRING_SHORT 1
+#define TOLLHERRING_LONG 2
+#define TOLLHERRING_REMOTE_USER_BUSY_AGAIN 1
+#define TOLLHERRING_FAILURE_TO_MATCH 2
+
 /* ---- an identifier is 16 bytes, the CallIdentifier of the failed call. A number of digits is 16 bytes too: how many digits (1 to 15; 0 for a numberA
  * that is withheld), then one byte 0 to 9 for each digit; what stands behind the last digit doesn't count. */
 
@@ -117,13 +136,13 @@ typedef struct tollherring_outcome {
 #define TOLLHERRING_PREFER_RETAIN 1
 #define TOLLHERRING_PREFER_RELEASE 2
 
-/* User A's acts */
-#define TOLLHERRING_ACCEPT 1
-#define TOLLHERRING_RESUME 2 /* User A is free again: back to waiting */
-#define TOLLHERRING_GO_ON 3  /* User A is free again: on to recall */
-#define TOLLHERRING_CANCEL 4
+/* User A's acts, for tollherring_clerk_act alone */
+#define TOLLHERRING_CLERK_ACCEPT 1
+#define TOLLHERRING_CLERK_RESUME 2 /* User A is free again: back to waiting */
+#define TOLLHERRING_CLERK_GO_ON 3  /* User A is free again: on to recall */
+#define TOLLHERRING_CLERK_CANCEL 4
 
-/* timers that run out at this end: 1 T1, 2 T2, 3 T3 */
+/* the timer that ran out, for tollherring_clerk_report alone: not the bits of `starts` and `stops` */
 #define TOLLHERRING_T1_RAN_OUT 1
 #define TOLLHERRING_T2_RAN_OUT 2
 #define TOLLHERRING_T3_RAN_OUT 3
@@ -156,14 +175,15 @@ typedef struct tollherring_line_given {
     uint8_t kinds;
 } tollherring_line_given;
 
-/* acts at this end */
-#define TOLLHERRING_ALERTED 1
+/* acts at this end, for tollherring_line_act alone */
+#define TOLLHERRING_LINE_ALERTED 1
 #define TOLLHERRING_LINE_CALL_FAILED 2
 #define TOLLHERRING_LINE_CANCEL 3
 
-/* A desk with its lines, all free; whether it keeps requests, and whether it retains connections by default, 0 or 1 each. `lines` are `bytes` bytes: 17 for a
- * line, at most 16 lines, none at all is allowed. Refusal 2, and then there is no desk: what stood there stays. */
-uint64_t tollherring_line_start(tollherring_line *desk, const tollherring_line_given *lines, size_t bytes, uint64_t keep, uint64_t retain);
+/* A desk with its lines, all free; whether it keeps requests, and whether it retains connections by default, 0 or 1 each. `size` is the size of `lines` in
+ * bytes (sizeof, not how many): 17 for a line, at most 16 lines; none at all is allowed, and so is a line that allows no kind. Refusal 2 for more lines, a
+ * size that ends inside a line, bad digits or kinds, and one number twice: then no desk is made, and the memory is as it was. */
+uint64_t tollherring_line_start(tollherring_line *desk, const tollherring_line_given *lines, size_t size, uint64_t keep, uint64_t retain);
 
 /* Bytes reach this end. One message is read, from the front. Refusals 1, 2, 3, 6, 7, 8, 12. */
 uint64_t tollherring_line_receive(tollherring_line *desk, const uint8_t *bytes, size_t length, uint8_t *out, size_t room,
@@ -183,15 +203,33 @@ uint64_t tollherring_line_act(tollherring_line *desk, const uint8_t identifier[1
 /* The guard of a record ran out. Refusals 6, 12. */
 uint64_t tollherring_line_guard(tollherring_line *desk, const uint8_t identifier[16], uint8_t *out, size_t room, tollherring_outcome *outcome);
 
-/* ---- looking at a desk: the records of the clerk's desk in the order of storing, those of the line desk in the order of acceptance, from place 0 on */
+/* ---- looking at a desk: the records of the clerk's desk in the order of storing, those of the line desk in the order of acceptance, from place 0 on without
+ * gaps, so that the first place without one ends the list. A record that goes moves those behind it one place forward. */
+
+/* keep and connection of a record */
+#define TOLLHERRING_NOT_CHOSEN 0
+#define TOLLHERRING_NOT_KEPT 1
+#define TOLLHERRING_KEPT 2
+#define TOLLHERRING_RETAINED 1 /* RET: the signalling connection stays */
+#define TOLLHERRING_RELEASED 2 /* RLS: a new one for each invoke */
+
+/* states of a record at the clerk's desk, and at the line desk */
+#define TOLLHERRING_CLERK_WAIT_ACK 1
+#define TOLLHERRING_CLERK_INVOKED 2
+#define TOLLHERRING_CLERK_WAIT_ANSWER 3
+#define TOLLHERRING_CLERK_RINGOUT 4
+#define TOLLHERRING_CLERK_SUSPENDED 5
+#define TOLLHERRING_LINE_INVOKED 1
+#define TOLLHERRING_LINE_AWAIT 2
+#define TOLLHERRING_LINE_ALERT 3
 
 typedef struct tollherring_record {
     uint64_t kind;       /* TOLLHERRING_CCBS or TOLLHERRING_CCNR */
     uint64_t service;
     uint64_t can_keep;   /* what the clerk's end sent, 0 or 1; at the line desk 0 */
-    uint64_t keep;       /* 0 not chosen yet, 1 no, 2 yes */
-    uint64_t connection; /* 0 not chosen yet, 1 retained (RET), 2 released (RLS) */
-    uint64_t state;      /* clerk: 1 Wait-Ack, 2 Invoked, 3 Wait-Answer, 4 Ringout, 5 Suspended; line: 1 Invoked, 2 Await, 3 Alert */
+    uint64_t keep;       /* TOLLHERRING_NOT_CHOSEN, TOLLHERRING_NOT_KEPT or TOLLHERRING_KEPT: here 1 is no */
+    uint64_t connection; /* TOLLHERRING_NOT_CHOSEN, TOLLHERRING_RETAINED or TOLLHERRING_RELEASED */
+    uint64_t state;      /* TOLLHERRING_CLERK_WAIT_ACK and so on; TOLLHERRING_LINE_INVOKED and so on */
     uint64_t active;     /* the line desk's activity mark, 0 or 1; at the clerk's desk 0 */
     uint64_t suspended;  /* the line desk's suspended mark, 0 or 1; at the clerk's desk 0 */
 } tollherring_record;
@@ -210,7 +248,7 @@ uint64_t tollherring_line_record(const tollherring_line *desk, uint64_t place, u
 /* The line at a place, in the order in which they were given to start: 0; or 10 for a place that has none, and then nothing is written. */
 uint64_t tollherring_line_at(const tollherring_line *desk, uint64_t place, uint8_t number[16], tollherring_line_status *status);
 
-/* ---- messages as such, for logs and tests: the desks take and give bytes */
+/* ---- messages as such, for logs and for those that a host hands in by itself: the desks take and give bytes */
 
 typedef struct tollherring_message {
     uint64_t type;
@@ -219,11 +257,13 @@ typedef struct tollherring_message {
     uint64_t field;   /* types 1 and 2: flags, can-keep + 2 * preference; 3: keep; 4 and 7: the error; else 0 */
 } tollherring_message;
 
-/* One message from the front of some bytes; how many bytes it takes. Refusals 1, 2, and then nothing is written. */
+/* One message from the front of some bytes; how many bytes it takes. Types 3 to 12 have no numbers of digits: sixteen zeros are written. Refusals 1, 2, and
+ * then nothing is written. */
 uint64_t tollherring_message_read(const uint8_t *bytes, size_t length, uint8_t identifier[16], uint8_t number_a[16], uint8_t number_b[16],
                                   tollherring_message *message, uint64_t *taken);
 
-/* A message at a place of a buffer of `room` bytes; how many bytes it takes. Refusals 2, 12, and then nothing is written. */
+/* A message at a place of a buffer of `room` bytes; how many bytes it takes. What its type has no field for is not looked at. Refusals 2, 12, and then nothing
+ * is written. */
 uint64_t tollherring_message_write(const uint8_t identifier[16], const uint8_t number_a[16], const uint8_t number_b[16],
                                    const tollherring_message *message, uint8_t *out, size_t room, size_t place, uint64_t *written);
 

@@ -1,6 +1,7 @@
 // What each input plans at the line desk, on words that are lent for reading: the refusals in document 01's order, then the row of the table.
 // For the faces of this desk; no public operations.
 use desk::Connection;
+use desk::Keep;
 use desk::carriers::carrier_fits;
 use desk::letter::Letter;
 use desk::outcome::Sending;
@@ -48,6 +49,7 @@ use lists::Found;
 use lists::words::Words;
 use message::Body;
 ghost use mathlib.Core.Path.{_≡_};
+ghost use Rattle.line_table.specs.Inputs.{rowFor};
 ghost use Rattle.line_plan.specs.Plan.{holdsFor, takesCall, rowPlan, inputPlan, deniedPlan, newRecord, storedPlan, countedPlan, admittedPlan, requestPlan, messagePlan, ownPlan, actPlan, guardPlan, offerAt, lookPlan, reportPlan};
 
 // Whether a row is taken for a record.
@@ -70,6 +72,21 @@ fn takes_call(words: &[u64; 498], number: Words) -> bool
             let line = load_line(words, k);
             can_take(line)
         }
+    }
+}
+
+// The row of a message about a record of the line with that number. The line is looked for only for a ccRingout: no other row hangs on it.
+fn row_meant(words: &[u64; 498], input: Input, number: Words, keep: Keep) -> Row
+    ensures { λ r. ⌜ r ≡ rowFor input (takesCall (now (words .entry)) number) keep ⌝ }
+{
+    match input {
+        Input::Suspend => row_for(Input::Suspend, true, keep),
+        Input::Resume => row_for(Input::Resume, true, keep),
+        Input::Ringout => {
+            let takes = takes_call(words, number);
+            row_for(Input::Ringout, takes, keep)
+        }
+        Input::Cancel => row_for(Input::Cancel, true, keep),
     }
 }
 
@@ -101,8 +118,7 @@ fn plan_input(words: &[u64; 498], l: Letter, input: Input) -> Plan
     let r = load(words, place);
     let number = r.numberB;
     let keep = r.keep;
-    let takes = takes_call(words, number);
-    let row = row_for(input, takes, keep);
+    let row = row_meant(words, input, number, keep);
     plan_row(place, r, l, input, row)
 }
 

@@ -65,7 +65,7 @@ abbrev pub given : Words → Bool
 given number = not (sameWords number noNumber)
 
 abbrev pub sameNumbers : Words → Words → Record → Bool
-sameNumbers numberA numberB r = both (given numberA) (both (sameWords (r .numberA) numberA) (sameWords (r .numberB) numberB))
+sameNumbers numberA numberB r = both (given (r .numberA)) (both (sameWords (r .numberA) numberA) (sameWords (r .numberB) numberB))
 
 abbrev pub duplicates : Words → Words → Words → Record → Bool
 duplicates identifier numberA numberB r =

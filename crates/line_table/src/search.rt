@@ -120,13 +120,14 @@ fn is_given(number: Words) -> bool
     !same_words(number, none)
 }
 
-// Both numberA given and equal, and numberB equal.
+// Both numberA given and equal, and numberB equal. Whether they are given is asked of the record's, which is there whatever a search is for: of a value that is
+// there in one case alone, the compiler may ask too early, and a memory checker then complains.
 fn same_numbers(numberA: Words, numberB: Words, r: Record) -> bool
     ensures { λ q. ⌜ q ≡ sameNumbers numberA numberB r ⌝ }
 {
     let a = r.numberA;
     let b = r.numberB;
-    if is_given(numberA) {
+    if is_given(a) {
         if same_words(a, numberA) {
             return same_words(b, numberB);
         }

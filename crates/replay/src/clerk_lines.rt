@@ -1,40 +1,29 @@
 // Code 64: the clerk's desk, a line with the number of its records, and then a line for each.
-use crate::outcome_line::flag;
 use crate::outcome_line::put_field;
 use crate::output::end_line;
 use crate::output::put_number;
 use crate::output::put_text;
-use crate::record_fields::kind_number;
 use crate::record_fields::put_connection;
 use crate::record_fields::put_identifier;
 use crate::record_fields::put_keep;
 use crate::record_fields::put_words_digits;
 use clerk::Desk;
+use clerk_records::codes::state_code;
 use clerk_records::places::load;
 use clerk_table::record::Record;
-use clerk_table::table::State;
-
-// 0 for a place that is free.
-fn state_number(state: State) -> usize {
-    match state {
-        State::Free => 0,
-        State::WaitAck => 1,
-        State::Invoked => 2,
-        State::WaitAnswer => 3,
-        State::Ringout => 4,
-        State::Suspended => 5,
-    }
-}
+use desk::codes::flag_code;
+use desk::codes::kind_code;
+use host_numbers::shown::kinds_number;
 
 // What steps change in a record.
 fn put_phase(line: &mut [u8], at: usize, r: Record) -> usize {
     let keep = r.keep;
     let connection = r.connection;
     let state = r.state;
-    let mut next = put_field(line, at, flag(r.canKeep));
+    let mut next = put_field(line, at, flag_code(r.canKeep) as usize);
     next = put_keep(line, next, keep);
     next = put_connection(line, next, connection);
-    put_field(line, next, state_number(state))
+    put_field(line, next, state_code(state) as usize)
 }
 
 fn print_record(line: &mut [u8], r: Record) {
@@ -44,7 +33,7 @@ fn print_record(line: &mut [u8], r: Record) {
     let numberB = r.numberB;
     let mut at = put_text(line, 0, b"c ");
     at = put_identifier(line, at, identifier);
-    at = put_field(line, at, kind_number(kind));
+    at = put_field(line, at, kind_code(kind) as usize);
     at = put_words_digits(line, at, numberA);
     at = put_words_digits(line, at, numberB);
     at = put_field(line, at, r.service as usize);
@@ -55,7 +44,7 @@ fn print_record(line: &mut [u8], r: Record) {
 // Whether a place has a record.
 fn used(r: Record) -> bool {
     let state = r.state;
-    0 < state_number(state)
+    0 < state_code(state)
 }
 
 fn print_place(line: &mut [u8], r: Record) {

@@ -1,32 +1,21 @@
 // Code 65: the line desk, a line with the numbers of its lines and records, and then a line for each.
-use crate::outcome_line::bit;
-use crate::outcome_line::flag;
-use crate::outcome_line::plus;
 use crate::outcome_line::put_field;
 use crate::output::end_line;
 use crate::output::put_number;
 use crate::output::put_text;
-use crate::record_fields::kind_number;
 use crate::record_fields::put_connection;
 use crate::record_fields::put_identifier;
 use crate::record_fields::put_keep;
 use crate::record_fields::put_words_digits;
+use desk::codes::flag_code;
+use desk::codes::kind_code;
+use host_numbers::shown::kinds_number;
+use line_records::codes::state_code;
 use line_records::lines::load_line;
 use line_records::places::load;
 use line_table::line::Line;
 use line_table::record::Record;
-use line_table::table::State;
 use lists::words::Words;
-
-// 0 for a place that is free.
-fn state_number(state: State) -> usize {
-    match state {
-        State::Free => 0,
-        State::Invoked => 1,
-        State::Await => 2,
-        State::Alert => 3,
-    }
-}
 
 // What steps change in a record.
 fn put_phase(line: &mut [u8], at: usize, r: Record) -> usize {
@@ -35,9 +24,9 @@ fn put_phase(line: &mut [u8], at: usize, r: Record) -> usize {
     let state = r.state;
     let mut next = put_keep(line, at, keep);
     next = put_connection(line, next, connection);
-    next = put_field(line, next, state_number(state));
-    next = put_field(line, next, flag(r.active));
-    put_field(line, next, flag(r.suspended))
+    next = put_field(line, next, state_code(state) as usize);
+    next = put_field(line, next, flag_code(r.active) as usize);
+    put_field(line, next, flag_code(r.suspended) as usize)
 }
 
 fn print_record(line: &mut [u8], r: Record) {
@@ -47,7 +36,7 @@ fn print_record(line: &mut [u8], r: Record) {
     let numberB = r.numberB;
     let mut at = put_text(line, 0, b"r ");
     at = put_identifier(line, at, identifier);
-    at = put_field(line, at, kind_number(kind));
+    at = put_field(line, at, kind_code(kind) as usize);
     at = put_words_digits(line, at, numberA);
     at = put_words_digits(line, at, numberB);
     at = put_field(line, at, r.service as usize);
@@ -58,7 +47,7 @@ fn print_record(line: &mut [u8], r: Record) {
 // Whether a place has a record.
 fn used(r: Record) -> bool {
     let state = r.state;
-    0 < state_number(state)
+    0 < state_code(state)
 }
 
 fn print_place(line: &mut [u8], r: Record) {
@@ -113,8 +102,8 @@ fn print_line(line: &mut [u8], l: Line) {
     let number = l.number;
     let mut at = put_text(line, 0, b"l");
     at = put_words_digits(line, at, number);
-    at = put_field(line, at, plus(bit(l.ccbs, 1), bit(l.ccnr, 2)));
-    at = put_field(line, at, flag(l.busy));
+    at = put_field(line, at, kinds_number(l) as usize);
+    at = put_field(line, at, flag_code(l.busy) as usize);
     end_line(line, at);
 }
 

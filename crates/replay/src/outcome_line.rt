@@ -5,13 +5,13 @@ use crate::output::put_number;
 use crate::output::put_space;
 use crate::output::put_text;
 use crate::script::run;
-use desk::letter::message_of;
+use desk::codes::flag_code;
 use desk::outcome::Notice;
 use desk::outcome::Outcome;
 use desk::outcome::Sending;
 use desk::outcome::Timers;
-use message::Message;
 use told::notice_number;
+use told::send;
 use told::timers_number;
 use writer::Written;
 
@@ -21,48 +21,23 @@ pub fn put_field(line: &mut [u8], at: usize, number: usize) -> usize {
     put_number(line, next, number)
 }
 
-// A choice as a number.
-pub fn flag(choice: bool) -> usize {
-    if choice {
-        return 1;
-    }
-    0
-}
-
-// What is sent, in the byte form. No message is longer than 53 bytes. A desk sends nothing that the writer refuses: if it
+// What is sent, in the byte form, or `-`. No message is longer than 53 bytes. A desk sends nothing that the writer refuses: if it
 // did, the line would say so.
-fn put_message(line: &mut [u8], at: usize, m: Message) -> usize {
-    let mut bytes = [0u8; 64];
-    match writer::write(&mut bytes, 0, m) {
-        Written::Refused(_) => put_text(line, at, b"unwritten"),
-        Written::Wrote(length) => put_hex(line, at, run(&bytes, 0, length)),
-    }
-}
-
 fn put_sending(line: &mut [u8], at: usize, sending: Sending) -> usize {
     let next = put_space(line, at);
-    match sending {
-        Sending::Nothing => put_text(line, next, b"-"),
-        Sending::Send(letter) => put_message(line, next, message_of(letter)),
+    let mut bytes = [0u8; 64];
+    match send(&mut bytes, sending) {
+        Written::Refused(_) => put_text(line, next, b"unwritten"),
+        Written::Wrote(length) => put_bytes(line, next, run(&bytes, 0, length)),
     }
 }
 
-// A bit of a sum.
-pub fn bit(choice: bool, value: usize) -> usize {
-    if choice {
-        return value;
+// Bytes in hexadecimal, `-` for none.
+fn put_bytes(line: &mut [u8], at: usize, bytes: &[u8]) -> usize {
+    if bytes.len() == 0 {
+        return put_text(line, at, b"-");
     }
-    0
-}
-
-// A sum that stays below 16, as every sum of the four bits does.
-pub fn plus(a: usize, b: usize) -> usize {
-    if a < 16 {
-        if b < 16 {
-            return a + b;
-        }
-    }
-    0
+    put_hex(line, at, bytes)
 }
 
 // The two sums of timers.
@@ -73,7 +48,7 @@ fn put_timers(line: &mut [u8], at: usize, starts: Timers, stops: Timers) -> usiz
 
 fn put_told(line: &mut [u8], at: usize, notice: Notice, clear: bool) -> usize {
     let next = put_field(line, at, notice_number(notice) as usize);
-    put_field(line, next, flag(clear))
+    put_field(line, next, flag_code(clear) as usize)
 }
 
 pub fn print_outcome(line: &mut [u8], number: usize, outcome: Outcome, left: usize) {

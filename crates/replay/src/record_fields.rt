@@ -8,14 +8,6 @@ use desk::Connection;
 use desk::Keep;
 use lists::words::Words;
 use lists::words::bytes_of;
-use message::Kind;
-
-pub fn kind_number(kind: Kind) -> usize {
-    match kind {
-        Kind::Ccbs => 1,
-        Kind::Ccnr => 2,
-    }
-}
 
 pub fn put_keep(line: &mut [u8], at: usize, keep: Keep) -> usize {
     match keep {

@@ -135,7 +135,7 @@ line 41180 is free
 line 52290 is free
 Look at line 41180
 Look at line 52290
-a stray message
+(no desk sent this)
 ",
         cause_entry(event),
     );

@@ -16,7 +16,7 @@ pub fn say(number: usize) {
 * Busy again. What has each end kept?
 * The line clears once more.
 * The clerk waits for a ring-back that nobody will make, until T2 runs out.
-* The house rings back once more, and this time the call gets through.
+* The house has rung back once more. User A accepts, and this time the call gets through.
 * The request is accepted at both ends. The line clears and the house rings back.
 * At the same moment User A cancels: the two messages pass each other.
 * Each end now hears what the other had sent. The ring-back that came too late gets a reply.
@@ -36,7 +36,7 @@ pub fn open_story() {
         STDOUT_FILENO,
         b"TOLLHERRING: THREE LESSONS IN FOUR SCENES
 A clerk finds a house's line busy and asks to be rung back. #34 is the request for a group of 34.
-A message is sent: o---...   It is under way, and then it arrives: ...--->   Its carrier is in [ ].
+A message is sent: o---...   It arrives: ...--->   No desk sent it: ...---?   Its carrier is in [ ].
 States, timers, notices and refusals are the desks' own. A scene says which messages it forges.
 
 ",

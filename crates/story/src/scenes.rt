@@ -54,8 +54,8 @@ pub fn scene_1() {
 ",
     );
     close_scene(
-        b"LESSON 1. Two good ends are not yet a good pair: one end believed in a request that the other had
-dropped. No ring-back came, and that night 34 guests slept in two houses.
+        b"LESSON 1. Two good ends are not yet a good pair: one believed in a request that the other had
+deleted. No ring-back came, the clerk split the group, and 34 guests slept in two houses.
 ",
     );
 }
@@ -179,7 +179,7 @@ fn stray_replies(w: World) {
 pub fn scene_4() {
     open_scene(
         b"Scene 4. A stray reply\n",
-        b"Replies arrive that belong to no request in their state, at a desk that holds a live one.\n",
+        b"Replies arrive that no request is waiting for, at a desk that holds a live request.\n",
     );
     stray_replies(rung_back(start_world(false, RETAIN)));
     close_scene(

@@ -1,4 +1,3 @@
-pub mod Given
 pub mod Face
 pub mod Clerk
 pub mod Line

@@ -8,9 +8,9 @@ use Rattle.line.specs.declared.steps.Stepped.{Stepped}
 use Rattle.line.specs.declared.steps.SteppedBytes.{SteppedBytes}
 use Rattle.line.specs.Start.{started}
 use Rattle.line.specs.Steps.{deskOf, receivedBytes, lineReported, looked, acted, guardReported}
-use Rattle.tollherring.specs.declared.given.LineActGiven.{LineActGiven}
-use Rattle.tollherring.specs.declared.given.LineActGiven.the-variants as LineActGiven
-use Rattle.tollherring.specs.Given.{lineAct, isWord, yes}
+use Rattle.host_numbers.specs.declared.given.LineActGiven.{LineActGiven}
+use Rattle.host_numbers.specs.declared.given.LineActGiven.the-variants as LineActGiven
+use Rattle.host_numbers.specs.Given.{lineAct, isWord, yes}
 use Rattle.tollherring.specs.Face.{Face, refusedFace, faced}
 
 -- a step on the desk of these words
@@ -35,8 +35,8 @@ unfoldable pub lineReceived : List ℕ → List ℕ → List ℕ → Face
 lineReceived words out bytes = bytesFace words out (receivedBytes (deskOf words) bytes)
 
 -- a report: 0 free, 1 busy
-unfoldable pub lineTold : List ℕ → List ℕ → List ℕ → ℕ → Face
-lineTold words out digits busy = pick (isWord busy) (stepFace words out (lineReported (deskOf words) digits (yes busy))) (refusedFace words out 2)
+unfoldable pub lineStatusReported : List ℕ → List ℕ → List ℕ → ℕ → Face
+lineStatusReported words out digits busy = pick (isWord busy) (stepFace words out (lineReported (deskOf words) digits (yes busy))) (refusedFace words out 2)
 
 unfoldable pub lineLooked : List ℕ → List ℕ → List ℕ → Face
 lineLooked words out digits = stepFace words out (looked (deskOf words) digits)

@@ -1,56 +1,16 @@
 -- Messages as a host reads and writes them: an identifier and two numbers of digits, sixteen bytes each, and four plain numbers.
 use Prim.Native.Nat.{ℕ}
-use mathlib.Core.List.{List, [], _∷_}
+use mathlib.Core.List.{List}
 use lib.ListN.{getD}
-use lib.Dec.{eqb, ltb}
-use Rattle.lists.specs.Choice.{pick}
 use Rattle.message.specs.Reading.{Read, took, refused}
-use Rattle.message.specs.Format.{typeNumber, carrierNumber}
 use Rattle.message.specs.Wire.{messageAt}
 use Rattle.message.specs.declared.Body.{Body}
-use Rattle.message.specs.declared.Body.the-variants.{CcbsRequest, CcnrRequest, RequestResult, RequestError, CcExecPossible, CcRingout, RingoutError, CcSuspend, CcResume, CcCancel, CallAlerts, CallFailed}
-use Rattle.message.specs.declared.Carrier.{Carrier}
-use Rattle.message.specs.declared.Carrier.the-variants.{Setup, Connect, Facility, ReleaseComplete, Alerting}
 use Rattle.message.specs.declared.Message.{Message}
-use Rattle.writer.specs.Write.{messageWritten, messageBuffer}
-use Rattle.writer.specs.declared.Written.{Written}
-use Rattle.writer.specs.declared.Written.the-variants.{Wrote, Refused}
-use Rattle.tollherring.specs.declared.message_face.BodyGiven.{BodyGiven}
-use Rattle.tollherring.specs.declared.message_face.BodyGiven.the-variants as BodyGiven
-use Rattle.tollherring.specs.declared.message_face.CarrierGiven.{CarrierGiven}
-use Rattle.tollherring.specs.declared.message_face.CarrierGiven.the-variants as CarrierGiven
-
--- ---- the four numbers: type, carrier, service (types 1 and 2), and the one other field (flags, keep or error); 0 where a type has none
-abbrev pub serviceOf : Body → ℕ
-serviceOf (CcbsRequest service flags) = service
-serviceOf (CcnrRequest service flags) = service
-serviceOf (RequestResult keep) = 0
-serviceOf (RequestError error) = 0
-serviceOf CcExecPossible = 0
-serviceOf CcRingout = 0
-serviceOf (RingoutError error) = 0
-serviceOf CcSuspend = 0
-serviceOf CcResume = 0
-serviceOf CcCancel = 0
-serviceOf CallAlerts = 0
-serviceOf CallFailed = 0
-
-abbrev pub fieldOf : Body → ℕ
-fieldOf (CcbsRequest service flags) = flags
-fieldOf (CcnrRequest service flags) = flags
-fieldOf (RequestResult keep) = keep
-fieldOf (RequestError error) = error
-fieldOf CcExecPossible = 0
-fieldOf CcRingout = 0
-fieldOf (RingoutError error) = error
-fieldOf CcSuspend = 0
-fieldOf CcResume = 0
-fieldOf CcCancel = 0
-fieldOf CallAlerts = 0
-fieldOf CallFailed = 0
-
-abbrev pub messageNumbers : Carrier → Body → List ℕ
-messageNumbers carrier body = typeNumber body ∷ carrierNumber carrier ∷ serviceOf body ∷ fieldOf body ∷ []
+use Rattle.host_numbers.specs.declared.messages.BodyGiven.{BodyGiven}
+use Rattle.host_numbers.specs.declared.messages.BodyGiven.the-variants as BodyGiven
+use Rattle.host_numbers.specs.declared.messages.CarrierGiven.{CarrierGiven}
+use Rattle.host_numbers.specs.declared.messages.CarrierGiven.the-variants as CarrierGiven
+use Rattle.host_numbers.specs.Messages.{messageNumbers, least, bodyGiven, carrierGiven, WriteFace, writeFace, messageFace}
 
 -- ---- reading: what stands in the host's memory, and the answer
 pub record ReadFace : Type 0 where
@@ -73,44 +33,7 @@ readTold (refused number) asItWas = asItWas number
 unfoldable pub messageRead : List ℕ → (ℕ → ReadFace) → ReadFace
 messageRead bytes asItWas = readTold (messageAt bytes) asItWas
 
--- ---- writing: what the numbers stand for; a service of 16384 or more, another field of 256 or more, and a type or carrier that is none are 2
-unfoldable pub bodyGiven : ℕ → ℕ → ℕ → BodyGiven
-bodyGiven type service field =
-    pick (eqb type 1) (BodyGiven.Body (CcbsRequest service field))
-    (pick (eqb type 2) (BodyGiven.Body (CcnrRequest service field))
-    (pick (eqb type 3) (BodyGiven.Body (RequestResult field))
-    (pick (eqb type 4) (BodyGiven.Body (RequestError field))
-    (pick (eqb type 5) (BodyGiven.Body CcExecPossible)
-    (pick (eqb type 6) (BodyGiven.Body CcRingout)
-    (pick (eqb type 7) (BodyGiven.Body (RingoutError field))
-    (pick (eqb type 8) (BodyGiven.Body CcSuspend)
-    (pick (eqb type 9) (BodyGiven.Body CcResume)
-    (pick (eqb type 10) (BodyGiven.Body CcCancel)
-    (pick (eqb type 11) (BodyGiven.Body CallAlerts) (pick (eqb type 12) (BodyGiven.Body CallFailed) BodyGiven.Unknown)))))))))))
-
-unfoldable pub carrierGiven : ℕ → CarrierGiven
-carrierGiven number =
-    pick (eqb number 1) (CarrierGiven.Carrier Setup)
-    (pick (eqb number 2) (CarrierGiven.Carrier Connect)
-    (pick (eqb number 3) (CarrierGiven.Carrier Facility)
-    (pick (eqb number 4) (CarrierGiven.Carrier ReleaseComplete) (pick (eqb number 5) (CarrierGiven.Carrier Alerting) CarrierGiven.Unknown))))
-
-pub record WriteFace : Type 0 where
-  pub out : List ℕ
-  pub written : ℕ
-  pub answer : ℕ
-
-abbrev pub writeFace : List ℕ → ℕ → ℕ → WriteFace
-writeFace out written answer = record { out = out; written = written; answer = answer }
-
--- the writer's answer: on a refusal the length stays as it was, and so does the buffer
-abbrev pub wroteFace : Written → List ℕ → ℕ → WriteFace
-wroteFace (Wrote length) buffer was = writeFace buffer length 0
-wroteFace (Refused number) buffer was = writeFace buffer was number
-
-unfoldable pub messageFace : List ℕ → ℕ → Message → ℕ → WriteFace
-messageFace out place m was = wroteFace (messageWritten out place m) (messageBuffer out place m) was
-
+-- ---- writing: 2 for a type or a carrier that is none, and then what the writer says; a number that the type has no field for does not count
 abbrev pub onCarrier : CarrierGiven → Body → List ℕ → List ℕ → List ℕ → List ℕ → ℕ → ℕ → WriteFace
 onCarrier (CarrierGiven.Carrier carrier) body identifier numberA numberB out place was =
     messageFace out place (record { carrier = carrier; identifier = identifier; numberA = numberA; numberB = numberB; body = body }) was
@@ -120,12 +43,6 @@ abbrev pub onBody : BodyGiven → CarrierGiven → List ℕ → List ℕ → Lis
 onBody (BodyGiven.Body body) carrier identifier numberA numberB out place was = onCarrier carrier body identifier numberA numberB out place was
 onBody BodyGiven.Unknown carrier identifier numberA numberB out place was = writeFace out was 2
 
-abbrev pub numbersFaced : ℕ → ℕ → ℕ → ℕ → List ℕ → List ℕ → List ℕ → List ℕ → ℕ → ℕ → WriteFace
-numbersFaced type carrier service field identifier numberA numberB out place was =
-    pick (ltb service 16384)
-    (pick (ltb field 256) (onBody (bodyGiven type service field) (carrierGiven carrier) identifier numberA numberB out place was) (writeFace out was 2))
-    (writeFace out was 2)
-
 unfoldable pub messageFaced : List ℕ → List ℕ → List ℕ → List ℕ → List ℕ → ℕ → ℕ → WriteFace
 messageFaced identifier numberA numberB numbers out place was =
-    numbersFaced (getD numbers 0 0) (getD numbers 1 0) (getD numbers 2 0) (getD numbers 3 0) identifier numberA numberB out place was
+    onBody (bodyGiven (getD numbers 0 0) (least 16384 (getD numbers 2 0)) (least 255 (getD numbers 3 0))) (carrierGiven (getD numbers 1 0)) identifier numberA numberB out place was

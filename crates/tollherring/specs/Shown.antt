@@ -1,11 +1,11 @@
 -- What a desk holds, as a host is shown it. A place without a record, or without a line, leaves the host's memory as it was.
-use Prim.Native.Nat.{ℕ, _+_}
+use Prim.Native.Nat.{ℕ}
 use mathlib.Core.List.{List, [], _∷_}
 use lib.ListN.{getD}
 use lib.Dec.{eqb}
 use Rattle.lists.specs.Choice.{pick}
 use Rattle.lists.specs.Words.{bytesOf, sameWords}
-use Rattle.desk.specs.Codes.{kindCode, keepCode, connectionCode, flagCode}
+use Rattle.desk.specs.Codes.{flagCode}
 use Rattle.clerk_table.specs.declared.record.Record as ClerkRecord
 use Rattle.clerk_records.specs.Codes as ClerkCodes
 use Rattle.clerk_records.specs.Records as ClerkRecords
@@ -15,6 +15,7 @@ use Rattle.line_records.specs.Codes as LineCodes
 use Rattle.line_records.specs.Records as LineRecords
 use Rattle.line_records.specs.Lines.{lines, noLine}
 use Rattle.desk.specs.Sends.{noNumber}
+use Rattle.host_numbers.specs.Shown.{clerkNumbers, lineNumbers, kindsNumber}
 
 -- identifier, numberA, numberB, the eight numbers, and the answer
 pub record Shown : Type 0 where
@@ -26,14 +27,6 @@ pub record Shown : Type 0 where
 
 abbrev pub shown : List ℕ → List ℕ → List ℕ → List ℕ → ℕ → Shown
 shown identifier numberA numberB numbers answer = record { identifier = identifier; numberA = numberA; numberB = numberB; numbers = numbers; answer = answer }
-
--- ---- kind, service, can-keep, keep, connection, state, activity mark, suspended mark
-abbrev pub clerkNumbers : ClerkRecord.Record → List ℕ
-clerkNumbers r = kindCode (r .kind) ∷ r .service ∷ flagCode (r .canKeep) ∷ keepCode (r .keep) ∷ connectionCode (r .connection) ∷ ClerkCodes.stateCode (r .state) ∷ 0 ∷ 0 ∷ []
-
-abbrev pub lineNumbers : LineRecord.Record → List ℕ
-lineNumbers r =
-    kindCode (r .kind) ∷ r .service ∷ 0 ∷ keepCode (r .keep) ∷ connectionCode (r .connection) ∷ LineCodes.stateCode (r .state) ∷ flagCode (r .active) ∷ flagCode (r .suspended) ∷ []
 
 -- ---- the record at a place; a place whose record has no state has none
 abbrev pub clerkRecordShown : ClerkRecord.Record → Shown → Shown
@@ -58,9 +51,6 @@ pub record ShownLine : Type 0 where
 
 abbrev pub shownLine : List ℕ → List ℕ → ℕ → ShownLine
 shownLine number status answer = record { number = number; status = status; answer = answer }
-
-abbrev pub kindsNumber : Line → ℕ
-kindsNumber line = pick (line .ccbs) 1 0 + pick (line .ccnr) 2 0
 
 abbrev pub lineOrNone : Line → ShownLine → ShownLine
 lineOrNone line none = pick (sameWords (line .number) noNumber) none (shownLine (bytesOf (line .number)) (kindsNumber line ∷ flagCode (line .busy) ∷ []) 0)

@@ -1,17 +1,18 @@
 // The clerk's desk for hosts: each call lends the desk's words, gives an input and is answered with the refusal's number or 0.
-use crate::given::ClerkActGiven;
-use crate::given::TimerGiven;
-use crate::given::ask_words;
-use crate::given::asking;
-use crate::given::clerk_act;
-use crate::given::timer;
 use clerk::plans::acted_plan;
 use clerk::plans::asked_plan;
-use clerk::plans::read_plan;
+use clerk::plans::received_plan;
 use clerk::plans::reported_plan;
 use clerk::steps::start;
 use clerk_records::places::apply;
 use clerk_table::record::Plan;
+use host_numbers::given::ClerkActGiven;
+use host_numbers::given::TimerGiven;
+use host_numbers::given::ask_words;
+use host_numbers::given::asking;
+use host_numbers::given::clerk_act;
+use host_numbers::given::timer;
+use message::digits::PlaceRead;
 use told::refuse;
 use told::send;
 use told::tell;
@@ -19,7 +20,7 @@ use writer::Written;
 ghost use mathlib.Core.Path.{_≡_};
 ghost use Rattle.clerk.specs.Steps.{deskOf, stepped, startedDesk};
 ghost use Rattle.tollherring.specs.Face.{face, faced};
-ghost use Rattle.tollherring.specs.Clerk.{clerkAsked, clerkReceived, clerkActed, clerkReported};
+ghost use Rattle.tollherring.specs.Clerk.{clerkAsked, clerkRead, clerkReceived, clerkActed, clerkReported};
 
 // The plan is made once its message has been written: with no room for it, nothing is done.
 fn finish(
@@ -31,11 +32,11 @@ fn finish(
 ) -> u64
     ensures { λ r. ⌜ face (now (words .exit)) (now (out .exit)) (now (told .exit)) r ≡ faced (now (words .entry)) (stepped (deskOf (now (words .entry))) plan .desk .words) (now (out .entry)) (plan .outcome) next ⌝ }
 {
-    let change = plan.change;
     let outcome = plan.outcome;
     let sending = outcome.sending;
     match send(out, sending) {
         Written::Wrote(length) => {
+            let change = plan.change;
             apply(words, change);
             tell(told, outcome, length, next);
             outcome.refusal as u64
@@ -92,6 +93,28 @@ pub extern "C" fn tollherring_clerk_ask(
     refuse(told, 2)
 }
 
+// Bytes refused are told at once; the plan of a message goes straight on to be finished, since each hand that a plan passes through copies it.
+fn read_in(
+    words: &mut [u64; 192],
+    bytes: &[u8],
+    busy: bool,
+    out: &mut [u8],
+    told: &mut [u64; 7],
+) -> u64
+    ensures { λ r. ⌜ face (now (words .exit)) (now (out .exit)) (now (told .exit)) r ≡ clerkRead (now (words .entry)) (now (out .entry)) (now (bytes .entry)) busy ⌝ }
+{
+    let answer = reader::read(bytes);
+    let verdict = answer.verdict;
+    match verdict {
+        PlaceRead::Refused(refusal) => refuse(told, refusal),
+        PlaceRead::Taken(next) => {
+            let m = answer.message;
+            let plan = received_plan(words, m, busy);
+            finish(words, plan, next, out, told)
+        }
+    }
+}
+
 // Bytes reach the clerk's end: 1, 2, 3, 6, 7, 8, 12.
 #[no_mangle]
 pub extern "C" fn tollherring_clerk_receive(
@@ -104,9 +127,7 @@ pub extern "C" fn tollherring_clerk_receive(
     ensures { λ r. ⌜ face (now (words .exit)) (now (out .exit)) (now (told .exit)) r ≡ clerkReceived (now (words .entry)) (now (out .entry)) (now (bytes .entry)) busy ⌝ }
 {
     if busy <= 1 {
-        let read = read_plan(words, bytes, busy == 1);
-        let plan = read.plan;
-        return finish(words, plan, read.next, out, told);
+        return read_in(words, bytes, busy == 1, out, told);
     }
     refuse(told, 2)
 }

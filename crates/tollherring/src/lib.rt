@@ -2,7 +2,6 @@
 // lent buffers and plain numbers. Whatever is passed has an answer: a number out of its range is refused with 2, a message that has no room in the host's
 // buffer with 12, and a refusal changes nothing.
 pub mod clerk_face;
-pub mod given;
 pub mod line_face;
 pub mod message_face;
 pub mod shown;

@@ -1,14 +1,15 @@
 // The line desk for hosts: each call lends the desk's words, gives an input and is answered with the refusal's number or 0.
-use crate::given::LineActGiven;
-use crate::given::line_act;
+use host_numbers::given::LineActGiven;
+use host_numbers::given::line_act;
 use line::plans::acted_plan;
 use line::plans::guard_reported_plan;
 use line::plans::line_reported_plan;
 use line::plans::looked_plan;
-use line::plans::read_plan;
+use line::plans::received_plan;
 use line::start::start;
 use line_records::change::apply;
 use line_table::record::Plan;
+use message::digits::PlaceRead;
 use told::refuse;
 use told::send;
 use told::tell;
@@ -17,7 +18,7 @@ ghost use mathlib.Core.Path.{_≡_};
 ghost use Rattle.line.specs.Steps.{deskOf, stepped};
 ghost use Rattle.line.specs.Start.{started};
 ghost use Rattle.tollherring.specs.Face.{face, faced};
-ghost use Rattle.tollherring.specs.Line.{startWords, lineStartedWords, lineStartedAnswer, lineReceived, lineTold, lineLooked, lineActed, lineGuarded};
+ghost use Rattle.tollherring.specs.Line.{startWords, lineStartedWords, lineStartedAnswer, lineReceived, lineStatusReported, lineLooked, lineActed, lineGuarded};
 
 // The plan is made once its message has been written: with no room for it, nothing is done.
 fn finish(
@@ -29,11 +30,11 @@ fn finish(
 ) -> u64
     ensures { λ r. ⌜ face (now (words .exit)) (now (out .exit)) (now (told .exit)) r ≡ faced (now (words .entry)) (stepped (deskOf (now (words .entry))) plan .desk .words) (now (out .entry)) (plan .outcome) next ⌝ }
 {
-    let change = plan.change;
     let outcome = plan.outcome;
     let sending = outcome.sending;
     match send(out, sending) {
         Written::Wrote(length) => {
+            let change = plan.change;
             apply(words, change);
             tell(told, outcome, length, next);
             outcome.refusal as u64
@@ -75,7 +76,7 @@ pub extern "C" fn tollherring_line_start(
     2
 }
 
-// Bytes reach the line's end: 1, 2, 3, 6, 7, 8, 12.
+// Bytes reach the line's end: 1, 2, 3, 6, 7, 8, 12. The plan of a message goes straight on to be finished, since each hand that a plan passes through copies it.
 #[no_mangle]
 pub extern "C" fn tollherring_line_receive(
     words: &mut [u64; 498],
@@ -85,9 +86,16 @@ pub extern "C" fn tollherring_line_receive(
 ) -> u64
     ensures { λ r. ⌜ face (now (words .exit)) (now (out .exit)) (now (told .exit)) r ≡ lineReceived (now (words .entry)) (now (out .entry)) (now (bytes .entry)) ⌝ }
 {
-    let read = read_plan(words, bytes);
-    let plan = read.plan;
-    finish(words, plan, read.next, out, told)
+    let answer = reader::read(bytes);
+    let verdict = answer.verdict;
+    match verdict {
+        PlaceRead::Refused(refusal) => refuse(told, refusal),
+        PlaceRead::Taken(next) => {
+            let m = answer.message;
+            let plan = received_plan(words, m);
+            finish(words, plan, next, out, told)
+        }
+    }
 }
 
 // A line is busy or free: 2, 10.
@@ -99,7 +107,7 @@ pub extern "C" fn tollherring_line_report(
     out: &mut [u8],
     told: &mut [u64; 7],
 ) -> u64
-    ensures { λ r. ⌜ face (now (words .exit)) (now (out .exit)) (now (told .exit)) r ≡ lineTold (now (words .entry)) (now (out .entry)) (now (digits .entry)) busy ⌝ }
+    ensures { λ r. ⌜ face (now (words .exit)) (now (out .exit)) (now (told .exit)) r ≡ lineStatusReported (now (words .entry)) (now (out .entry)) (now (digits .entry)) busy ⌝ }
 {
     if busy <= 1 {
         let plan = line_reported_plan(words, *digits, busy == 1);

@@ -1,71 +1,19 @@
 // What a desk holds, for hosts that show it: the record or line of a place, as bytes and plain numbers.
 use clerk_records::codes::state_code as clerk_state_code;
 use clerk_records::places::load as load_clerk;
-use clerk_table::record::Record as ClerkRecord;
-use desk::codes::connection_code;
 use desk::codes::flag_code;
-use desk::codes::keep_code;
-use desk::codes::kind_code;
+use host_numbers::shown::clerk_numbers;
+use host_numbers::shown::kinds_number;
+use host_numbers::shown::line_numbers;
+use host_numbers::shown::show_bytes;
 use line_records::codes::state_code as line_state_code;
 use line_records::lines::load_line;
 use line_records::places::load as load_record;
-use line_table::line::Line;
-use line_table::record::Record as LineRecord;
 use lists::words::Words;
 use lists::words::bytes_of;
 use lists::words::same_words;
 ghost use mathlib.Core.Path.{_≡_};
-ghost use Rattle.lists.specs.Words.{bytesOf};
-ghost use Rattle.tollherring.specs.Shown.{shown, clerkNumbers, lineNumbers, clerkShown, lineShown, kindsNumber, lineAtShown, shownLine};
-
-// The identifier and the two numbers of digits.
-fn show_bytes(
-    identifier: &mut [u8; 16],
-    numberA: &mut [u8; 16],
-    numberB: &mut [u8; 16],
-    i: Words,
-    a: Words,
-    b: Words,
-)
-    ensures { λ r. ⌜ (now (identifier .exit) ≡ bytesOf i) × (now (numberA .exit) ≡ bytesOf a) × (now (numberB .exit) ≡ bytesOf b) ⌝ }
-{
-    *identifier = bytes_of(i);
-    *numberA = bytes_of(a);
-    *numberB = bytes_of(b);
-}
-
-// Kind, service, can-keep, keep, connection, state; a clerk's record has no marks.
-fn clerk_numbers(r: ClerkRecord) -> [u64; 8]
-    ensures { λ q. ⌜ q ≡ clerkNumbers r ⌝ }
-{
-    let kind = r.kind;
-    let keep = r.keep;
-    let connection = r.connection;
-    let state = r.state;
-    let k = kind_code(kind);
-    let can = flag_code(r.canKeep);
-    let kept = keep_code(keep);
-    let c = connection_code(connection);
-    let s = clerk_state_code(state);
-    [k, r.service, can, kept, c, s, 0, 0]
-}
-
-// The same of a line's record, which has the marks and no can-keep.
-fn line_numbers(r: LineRecord) -> [u64; 8]
-    ensures { λ q. ⌜ q ≡ lineNumbers r ⌝ }
-{
-    let kind = r.kind;
-    let keep = r.keep;
-    let connection = r.connection;
-    let state = r.state;
-    let k = kind_code(kind);
-    let kept = keep_code(keep);
-    let c = connection_code(connection);
-    let s = line_state_code(state);
-    let active = flag_code(r.active);
-    let suspended = flag_code(r.suspended);
-    [k, r.service, 0, kept, c, s, active, suspended]
-}
+ghost use Rattle.tollherring.specs.Shown.{shown, clerkShown, lineShown, lineAtShown, shownLine};
 
 // The record at a place of the clerk's desk: 6 if there is none.
 #[no_mangle]
@@ -114,22 +62,6 @@ pub extern "C" fn tollherring_line_record(
     let b = r.numberB;
     show_bytes(identifier, numberA, numberB, i, a, b);
     *numbers = line_numbers(r);
-    0
-}
-
-// 1 CCBS + 2 CCNR.
-fn kinds_number(line: Line) -> u64
-    ensures { λ r. ⌜ r ≡ kindsNumber line ⌝ }
-{
-    if line.ccbs {
-        if line.ccnr {
-            return 3;
-        }
-        return 1;
-    }
-    if line.ccnr {
-        return 2;
-    }
     0
 }
 

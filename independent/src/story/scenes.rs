@@ -97,7 +97,7 @@ impl Scene {
 pub const BEFORE: [&str; 5] = [
     "TOLLHERRING: THREE LESSONS IN FOUR SCENES",
     "A clerk finds a house's line busy and asks to be rung back. #34 is the request for a group of 34.",
-    "A message is sent: o---...   It is under way, and then it arrives: ...--->   Its carrier is in [ ].",
+    "A message is sent: o---...   It arrives: ...--->   No desk sent it: ...---?   Its carrier is in [ ].",
     "States, timers, notices and refusals are the desks' own. A scene says which messages it forges.",
     "",
 ];
@@ -108,7 +108,7 @@ const NARRATION: [&str; 13] = [
     "* Busy again. What has each end kept?",
     "* The line clears once more.",
     "* The clerk waits for a ring-back that nobody will make, until T2 runs out.",
-    "* The house rings back once more, and this time the call gets through.",
+    "* The house has rung back once more. User A accepts, and this time the call gets through.",
     "* The request is accepted at both ends. The line clears and the house rings back.",
     "* At the same moment User A cancels: the two messages pass each other.",
     "* Each end now hears what the other had sent. The ring-back that came too late gets a reply.",
@@ -155,8 +155,8 @@ const WENT_WRONG: Scene = Scene {
     prelude: &[],
     events: [EVENING, &[Say(5), T2(34), LineHears, Records]],
     lesson: [
-        "LESSON 1. Two good ends are not yet a good pair: one end believed in a request that the other had",
-        "dropped. No ring-back came, and that night 34 guests slept in two houses.",
+        "LESSON 1. Two good ends are not yet a good pair: one believed in a request that the other had",
+        "deleted. No ring-back came, the clerk split the group, and 34 guests slept in two houses.",
     ],
 };
 
@@ -240,7 +240,7 @@ const STRAY_REPLY: Scene = Scene {
     title: "A stray reply",
     preference: RETAIN,
     house: House::Keeps,
-    opening: "Replies arrive that belong to no request in their state, at a desk that holds a live one.",
+    opening: "Replies arrive that no request is waiting for, at a desk that holds a live request.",
     prelude: STRAY_PRELUDE,
     events: [STRAY_UP_TO_LATE, STRAY_TO_THE_END],
     lesson: [

@@ -26,7 +26,7 @@ pub fn cause(event: Event) -> Option<String> {
         Event::Look(line) => format!("Look at line {line}"),
         Event::Alerted(_) => format!("{tag} the phone rings"),
         Event::Withdraw(_) => format!("{tag} the house withdraws"),
-        Event::Stray(_) => "a stray message".to_string(),
+        Event::Stray(_) => "(no desk sent this)".to_string(),
         Event::ClerkHears | Event::LineHears | Event::Records | Event::Say(_) => return None,
     })
 }

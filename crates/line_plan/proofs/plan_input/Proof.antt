@@ -27,18 +27,15 @@ returns c = rw (c .refused-plan .ensures, c .before .reply-missed .ensures, sym 
 load-requires : tie.Need-load-requires
 load-requires c κs = search needs
 
-takes-call-requires : tie.Need-takes-call-requires
-takes-call-requires c κs = search needs
-
-row-for-requires : tie.Need-row-for-requires
-row-for-requires c κs = search needs
+row-meant-requires : tie.Need-row-meant-requires
+row-meant-requires c κs = search needs
 
 plan-row-requires : tie.Need-plan-row-requires
 plan-row-requires c κs = search needs
 
 returns-2 : tie.Need-returns-2
 unfolding inputPlan
-returns-2 c = rw (c .plan-row .ensures, c .before .row-for .ensures, c .before .before .takes-call .ensures, sym (c .before .before .before .before .before .before .before .before .find-meant .ensures) ∙ c .before .before .before .before .before .before .place .given .1, ← c .before .before .before .before .load .ensures)
+returns-2 c = rw (c .plan-row .ensures, c .before .row-meant .ensures, sym (c .before .before .before .before .before .before .before .find-meant .ensures) ∙ c .before .before .before .before .before .place .given .1, ← c .before .before .before .load .ensures)
 
 pub plan-input-spec : {M : Type 1} → statement M
 plan-input-spec =
@@ -51,7 +48,6 @@ plan-input-spec =
     refused-plan-requires
     returns
     load-requires
-    takes-call-requires
-    row-for-requires
+    row-meant-requires
     plan-row-requires
     returns-2)

@@ -1,6 +1,6 @@
 -- 2 for a word that is none, then the plan.
 use borrow.Author.Tests.{le-leb, lt-leb}
-use Rattle.tollherring.specs.Line.{lineTold}
+use Rattle.tollherring.specs.Line.{lineStatusReported}
 use borrow.Author.Needs.{needs}
 use Rattle.tollherring.proofs.line_face.tollherring_line_report.Statement.{statement}
 use Rattle.tollherring.proofs.line_face.tollherring_line_report.Tie as tie
@@ -15,14 +15,14 @@ same-length : tie.Need-same-length
 same-length c = search needs
 
 returns : tie.Need-returns
-unfolding lineTold
+unfolding lineStatusReported
 returns c = rw (le-leb _ _ (c .before .before .before .before .before .before .before .before .before .if1 .taken), ← c .before .before .before .before .before .before .line-reported-plan .ensures) (c .before .before .finish .ensures)
 
 refuse-requires : tie.Need-refuse-requires
 refuse-requires c κs = search needs
 
 returns-2 : tie.Need-returns-2
-unfolding lineTold
+unfolding lineStatusReported
 returns-2 c = rw (lt-leb _ _ (c .before .before .if1 .left), c .refuse .ensures .0, c .refuse .ensures .1)
 
 pub tollherring-line-report-spec : {M : Type 1} → statement M

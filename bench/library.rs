@@ -1,0 +1,122 @@
+//! The library's side: the exports of include/tollherring.h, and desks that are the host's own words.
+
+use crate::side::{Ask, ClerkInput, CodecInput, Desk, Identifier, LineInput, Number, Told};
+
+type ClerkWords = [u64; 192];
+type LineWords = [u64; 498];
+
+#[rustfmt::skip]
+extern "C" {
+    fn tollherring_clerk_start(desk: &mut ClerkWords);
+    fn tollherring_clerk_ask(desk: &mut ClerkWords, identifier: &Identifier, kind: u64, number_a: &[u8; 16], number_b: &[u8; 16],
+        service: u64, can_keep: u64, preference: u64, out: *mut u8, room: usize, told: &mut Told) -> u64;
+    fn tollherring_clerk_receive(desk: &mut ClerkWords, bytes: *const u8, length: usize, busy: u64, out: *mut u8, room: usize, told: &mut Told) -> u64;
+    fn tollherring_clerk_act(desk: &mut ClerkWords, identifier: &Identifier, act: u64, out: *mut u8, room: usize, told: &mut Told) -> u64;
+    fn tollherring_clerk_report(desk: &mut ClerkWords, identifier: &Identifier, timer: u64, out: *mut u8, room: usize, told: &mut Told) -> u64;
+    fn tollherring_line_start(desk: &mut LineWords, lines: *const u8, bytes: usize, keep: u64, retain: u64) -> u64;
+    fn tollherring_line_receive(desk: &mut LineWords, bytes: *const u8, length: usize, out: *mut u8, room: usize, told: &mut Told) -> u64;
+    fn tollherring_line_report(desk: &mut LineWords, number: &[u8; 16], busy: u64, out: *mut u8, room: usize, told: &mut Told) -> u64;
+    fn tollherring_line_look(desk: &mut LineWords, number: &[u8; 16], out: *mut u8, room: usize, told: &mut Told) -> u64;
+    fn tollherring_line_act(desk: &mut LineWords, identifier: &Identifier, act: u64, out: *mut u8, room: usize, told: &mut Told) -> u64;
+    fn tollherring_line_guard(desk: &mut LineWords, identifier: &Identifier, out: *mut u8, room: usize, told: &mut Told) -> u64;
+    fn tollherring_message_read(bytes: *const u8, length: usize, identifier: &mut Identifier, number_a: &mut [u8; 16], number_b: &mut [u8; 16],
+        message: &mut [u64; 4], taken: &mut u64) -> u64;
+    fn tollherring_message_write(identifier: &Identifier, number_a: &[u8; 16], number_b: &[u8; 16], message: &[u64; 4],
+        out: *mut u8, room: usize, place: usize, written: &mut u64) -> u64;
+}
+
+#[derive(Clone)]
+pub struct Clerk(ClerkWords);
+
+#[derive(Clone)]
+pub struct Line(LineWords);
+
+/// A message in the header's form.
+#[derive(Clone, Default)]
+pub struct Held {
+    identifier: Identifier,
+    number_a: [u8; 16],
+    number_b: [u8; 16],
+    message: [u64; 4],
+}
+
+impl Clerk {
+    pub fn start() -> Clerk {
+        let mut words = [0; 192];
+        unsafe { tollherring_clerk_start(&mut words) };
+        Clerk(words)
+    }
+}
+
+impl Line {
+    /// Each line allows both kinds.
+    pub fn start(lines: &[Number], keep: bool, retain: bool) -> Line {
+        let mut words = [0; 498];
+        let given: Vec<u8> = lines.iter().flat_map(|l| l.sixteen.iter().copied().chain([3])).collect();
+        let refusal =
+            unsafe { tollherring_line_start(&mut words, given.as_ptr(), given.len(), u64::from(keep), u64::from(retain)) };
+        assert_eq!(refusal, 0);
+        Line(words)
+    }
+}
+
+#[rustfmt::skip]
+fn ask(desk: &mut ClerkWords, a: &Ask, out: &mut [u8], told: &mut Told) -> u64 {
+    let (to, room) = (out.as_mut_ptr(), out.len());
+    unsafe {
+        tollherring_clerk_ask(desk, &a.identifier, a.kind, &a.number_a, &a.number_b, a.service, a.can_keep, a.preference, to, room, told)
+    }
+}
+
+// Why every call here is safe: the pointers are of Rust references and slices, which are as long as they say and do not overlap.
+impl Desk for Clerk {
+    type Input = ClerkInput;
+
+    #[inline(always)]
+    fn step(&mut self, input: &ClerkInput, out: &mut [u8], told: &mut Told) -> u64 {
+        let (desk, to, room) = (&mut self.0, out.as_mut_ptr(), out.len());
+        unsafe {
+            match input {
+                ClerkInput::Ask(a) => ask(desk, a, out, told),
+                ClerkInput::Bytes(b, busy) => tollherring_clerk_receive(desk, b.as_ptr(), b.len(), *busy, to, room, told),
+                ClerkInput::Act(id, act) => tollherring_clerk_act(desk, id, *act, to, room, told),
+                ClerkInput::Timer(id, timer) => tollherring_clerk_report(desk, id, *timer, to, room, told),
+            }
+        }
+    }
+}
+
+impl Desk for Line {
+    type Input = LineInput;
+
+    #[inline(always)]
+    fn step(&mut self, input: &LineInput, out: &mut [u8], told: &mut Told) -> u64 {
+        let (desk, to, room) = (&mut self.0, out.as_mut_ptr(), out.len());
+        unsafe {
+            match input {
+                LineInput::Bytes(b) => tollherring_line_receive(desk, b.as_ptr(), b.len(), to, room, told),
+                LineInput::Report(n, busy) => tollherring_line_report(desk, &n.sixteen, *busy, to, room, told),
+                LineInput::Look(n) => tollherring_line_look(desk, &n.sixteen, to, room, told),
+                LineInput::Act(id, act) => tollherring_line_act(desk, id, *act, to, room, told),
+                LineInput::Guard(id) => tollherring_line_guard(desk, id, to, room, told),
+            }
+        }
+    }
+}
+
+impl Desk for Held {
+    type Input = CodecInput;
+
+    #[inline(always)]
+    fn step(&mut self, input: &CodecInput, out: &mut [u8], told: &mut Told) -> u64 {
+        let Held { identifier, number_a, number_b, message } = self;
+        unsafe {
+            match input {
+                CodecInput::Read(b) => tollherring_message_read(b.as_ptr(), b.len(), identifier, number_a, number_b, message, &mut told[2]),
+                CodecInput::Write(place) => {
+                    tollherring_message_write(identifier, number_a, number_b, message, out.as_mut_ptr(), out.len(), *place, &mut told[1])
+                }
+            }
+        }
+    }
+}

@@ -1,0 +1,188 @@
+//! The independent program's side: its own reader, desks and writer, unchanged. Around each step stands only what makes the two comparable: a
+//! message is read from bytes, the message sent is written into the caller's buffer, and the outcome is told as the same seven numbers.
+//! Each is a function of its own that is not inlined, as the library's exports are, with a name that callgrind can be given.
+
+use crate::clerk::{ClerkDesk, FreeChoice, Timer};
+use crate::codec::{read_message, write_message, Message, Refusal};
+use crate::line::{Act, Line, LineDesk};
+use crate::outcome::{Notice, Outcome};
+use crate::side::{Ask, ClerkInput, CodecInput, Desk, Identifier, LineInput, Number, Told};
+
+fn tell(outcome: &Outcome, next: usize, out: &mut [u8], told: &mut Told) -> u64 {
+    let length = match &outcome.message {
+        Some(message) => match write_message(message, out, 0) {
+            Ok(length) => length,
+            Err(refusal) => return refuse(refusal, told),
+        },
+        None => 0,
+    };
+    let refusal = outcome.refusal.map_or(0, |r| u64::from(r.number()));
+    let notice = outcome.notice.map_or(0, |n: Notice| u64::from(n.number()));
+    let (starts, stops) = (u64::from(outcome.starts), u64::from(outcome.stops));
+    *told = [refusal, length as u64, next as u64, starts, stops, notice, u64::from(outcome.clear)];
+    refusal
+}
+
+fn refuse(refusal: Refusal, told: &mut Told) -> u64 {
+    *told = [u64::from(refusal.number()), 0, 0, 0, 0, 0, 0];
+    told[0]
+}
+
+#[inline(never)]
+#[no_mangle]
+pub fn independent_clerk_ask(desk: &mut ClerkDesk, ask: &Ask, out: &mut [u8], told: &mut Told) -> u64 {
+    tell(&desk.ask(&ask.own), 0, out, told)
+}
+
+#[inline(never)]
+#[no_mangle]
+pub fn independent_clerk_receive(desk: &mut ClerkDesk, bytes: &[u8], busy: u64, out: &mut [u8], told: &mut Told) -> u64 {
+    match read_message(bytes) {
+        Ok((message, rest)) => tell(&desk.take(&message, busy == 1), bytes.len() - rest.len(), out, told),
+        Err(refusal) => refuse(refusal, told),
+    }
+}
+
+#[inline(never)]
+#[no_mangle]
+pub fn independent_clerk_act(desk: &mut ClerkDesk, id: &Identifier, act: u64, out: &mut [u8], told: &mut Told) -> u64 {
+    let outcome = match act {
+        1 => desk.accept(id),
+        2 => desk.user_a_free(id, FreeChoice::Resume),
+        3 => desk.user_a_free(id, FreeChoice::Recall),
+        4 => desk.user_cancels(id),
+        _ => return refuse(Refusal::OutOfRange, told),
+    };
+    tell(&outcome, 0, out, told)
+}
+
+#[inline(never)]
+#[no_mangle]
+pub fn independent_clerk_report(desk: &mut ClerkDesk, id: &Identifier, timer: u64, out: &mut [u8], told: &mut Told) -> u64 {
+    let which = match timer {
+        1 => Timer::T1,
+        2 => Timer::T2,
+        3 => Timer::T3,
+        _ => return refuse(Refusal::OutOfRange, told),
+    };
+    tell(&desk.timer_runs_out(id, which), 0, out, told)
+}
+
+#[inline(never)]
+#[no_mangle]
+pub fn independent_line_receive(desk: &mut LineDesk, bytes: &[u8], out: &mut [u8], told: &mut Told) -> u64 {
+    match read_message(bytes) {
+        Ok((message, rest)) => tell(&desk.take(&message), bytes.len() - rest.len(), out, told),
+        Err(refusal) => refuse(refusal, told),
+    }
+}
+
+#[inline(never)]
+#[no_mangle]
+pub fn independent_line_report(desk: &mut LineDesk, digits: &[u8], busy: u64, out: &mut [u8], told: &mut Told) -> u64 {
+    if busy > 1 {
+        return refuse(Refusal::OutOfRange, told);
+    }
+    tell(&desk.report(digits, busy == 1), 0, out, told)
+}
+
+#[inline(never)]
+#[no_mangle]
+pub fn independent_line_look(desk: &mut LineDesk, digits: &[u8], out: &mut [u8], told: &mut Told) -> u64 {
+    tell(&desk.look(digits), 0, out, told)
+}
+
+#[inline(never)]
+#[no_mangle]
+pub fn independent_line_act(desk: &mut LineDesk, id: &Identifier, act: u64, out: &mut [u8], told: &mut Told) -> u64 {
+    let what = match act {
+        1 => Act::Alerted,
+        2 => Act::CallFailed,
+        3 => Act::Cancel,
+        _ => return refuse(Refusal::OutOfRange, told),
+    };
+    tell(&desk.act(id, what), 0, out, told)
+}
+
+#[inline(never)]
+#[no_mangle]
+pub fn independent_line_guard(desk: &mut LineDesk, id: &Identifier, out: &mut [u8], told: &mut Told) -> u64 {
+    tell(&desk.guard_runs_out(id), 0, out, told)
+}
+
+/// The reader alone: the message, with its own heap, stays in the caller's place until the next one is read there.
+#[inline(never)]
+#[no_mangle]
+pub fn independent_message_read(bytes: &[u8], message: &mut Option<Message>, taken: &mut u64) -> u64 {
+    match read_message(bytes) {
+        Ok((read, rest)) => {
+            *message = Some(read);
+            *taken = (bytes.len() - rest.len()) as u64;
+            0
+        }
+        Err(refusal) => u64::from(refusal.number()),
+    }
+}
+
+#[inline(never)]
+#[no_mangle]
+pub fn independent_message_write(message: &Message, out: &mut [u8], place: usize, written: &mut u64) -> u64 {
+    match write_message(message, out, place) {
+        Ok(length) => {
+            *written = length as u64;
+            0
+        }
+        Err(refusal) => u64::from(refusal.number()),
+    }
+}
+
+/// Each line allows both kinds.
+pub fn line_desk(lines: &[Number], keep: bool, retain: bool) -> LineDesk {
+    let line = |n: &Number| Line { digits: n.digits.clone(), allows_ccbs: true, allows_ccnr: true, busy: false };
+    LineDesk::start(lines.iter().map(line).collect(), keep, retain).unwrap()
+}
+
+impl Desk for ClerkDesk {
+    type Input = ClerkInput;
+
+    #[inline(always)]
+    fn step(&mut self, input: &ClerkInput, out: &mut [u8], told: &mut Told) -> u64 {
+        match input {
+            ClerkInput::Ask(a) => independent_clerk_ask(self, a, out, told),
+            ClerkInput::Bytes(b, busy) => independent_clerk_receive(self, b, *busy, out, told),
+            ClerkInput::Act(id, act) => independent_clerk_act(self, id, *act, out, told),
+            ClerkInput::Timer(id, timer) => independent_clerk_report(self, id, *timer, out, told),
+        }
+    }
+}
+
+impl Desk for LineDesk {
+    type Input = LineInput;
+
+    #[inline(always)]
+    fn step(&mut self, input: &LineInput, out: &mut [u8], told: &mut Told) -> u64 {
+        match input {
+            LineInput::Bytes(b) => independent_line_receive(self, b, out, told),
+            LineInput::Report(n, busy) => independent_line_report(self, &n.digits, *busy, out, told),
+            LineInput::Look(n) => independent_line_look(self, &n.digits, out, told),
+            LineInput::Act(id, act) => independent_line_act(self, id, *act, out, told),
+            LineInput::Guard(id) => independent_line_guard(self, id, out, told),
+        }
+    }
+}
+
+/// A message as the independent program holds it.
+pub type Held = Option<Message>;
+
+impl Desk for Held {
+    type Input = CodecInput;
+
+    #[inline(always)]
+    fn step(&mut self, input: &CodecInput, out: &mut [u8], told: &mut Told) -> u64 {
+        match (input, self) {
+            (CodecInput::Read(b), held) => independent_message_read(b, held, &mut told[2]),
+            (CodecInput::Write(place), Some(message)) => independent_message_write(message, out, *place, &mut told[1]),
+            (CodecInput::Write(_), None) => unreachable!("a message is read before it is written"),
+        }
+    }
+}

@@ -1,0 +1,23 @@
+/* The parts of the edges: edges.c has the steps, looks.c the calls that look at a desk or a message, full.c the desks that are filled. */
+#ifndef EDGES_H
+#define EDGES_H
+
+#include "entries.h"
+#include "fence.h"
+
+struct desks {
+    tollherring_clerk clerk;
+    tollherring_line line;
+};
+
+/* Every place of both desks, and places that they don't have. Where the desks are sound the records stand without a gap. */
+void try_looks(struct desks *desks, int sound);
+
+/* The message of a write entry, read and written at every kind of place, and with fields out of range. */
+void try_message(const struct entry *entry);
+
+void fill_clerk(void);
+void start_line(void);
+void fill_line(void);
+
+#endif

@@ -1,0 +1,311 @@
+//! What a script's lines cannot show of the Rust module: each step of an evening at both desks in every room, refusals that have a reply, full desks, the
+//! numbers that are lists, and messages at every place. What Rust's types exclude (a busy of 2, an act that is not listed) cannot be written here.
+
+#[path = "../../rust/tollherring.rs"]
+mod tollherring;
+
+use std::fmt::Debug;
+use tollherring::*;
+
+/// A step on copies of the desk in every room from none to more than enough: too little is NoRoom, and nothing is done; else it is all the same step, and behind
+/// the message nothing is written. Then the step for good: what it sends.
+fn step<D: Clone + PartialEq>(desk: &mut D, call: impl for<'o> Fn(&mut D, &'o mut [u8]) -> Outcome<'o>) -> Told {
+    let mut after = desk.clone();
+    let mut whole = [0xEE; 64];
+    let told = Told::of(call(&mut after, &mut whole));
+    for room in 0..=whole.len() {
+        let mut tried = desk.clone();
+        let mut out = vec![0xEE; room].into_boxed_slice();
+        let here = Told::of(call(&mut tried, &mut out));
+        if room < told.message.len() {
+            assert!(here == Told { refusal: Some(Refusal::NoRoom), ..Told::default() });
+            assert!(tried == *desk && out.iter().all(|byte| *byte == 0xEE));
+        } else {
+            assert!(here == told && tried == after && out[..] == whole[..room]);
+        }
+    }
+    assert!(whole[told.message.len()..].iter().all(|byte| *byte == 0xEE));
+    assert!(told.refusal.is_none() || *desk == after);
+    *desk = after;
+    told
+}
+
+/// An outcome that has let go of its buffer.
+#[derive(Clone, PartialEq, Debug, Default)]
+struct Told {
+    refusal: Option<Refusal>,
+    message: Vec<u8>,
+    kind: Option<(MessageType, Carrier)>,
+    next: usize,
+    starts: u64,
+    stops: u64,
+    notice: Option<Notice>,
+    clear: bool,
+}
+
+impl Told {
+    fn of(outcome: Outcome) -> Told {
+        assert_eq!(outcome.result().err(), outcome.refusal);
+        Told {
+            refusal: outcome.refusal,
+            message: outcome.message.unwrap_or(&[]).to_vec(),
+            kind: outcome.message_type().zip(outcome.carrier()),
+            next: outcome.next,
+            starts: outcome.starts.number(),
+            stops: outcome.stops.number(),
+            notice: outcome.notice,
+            clear: outcome.clear,
+        }
+    }
+
+    fn sends(&self, message_type: MessageType, carrier: Carrier) -> bool {
+        self.refusal.is_none() && self.kind == Some((message_type, carrier))
+    }
+
+    fn refuses(&self, refusal: Refusal) -> bool {
+        *self == Told { refusal: Some(refusal), next: self.next, ..Told::default() }
+    }
+}
+
+fn number(text: &str) -> Number {
+    Number::of_text(text).expect("digits")
+}
+
+fn identifier(n: u8) -> Identifier {
+    let mut identifier = [7; 16];
+    identifier[15] = n;
+    identifier
+}
+
+const KEPT: Ask = Ask { kind: Kind::Ccbs, service: 16383, can_keep: true, preference: Preference::Retain };
+
+/// Request n, from a number of its own, about a line: what a clerk's desk sends.
+fn request(n: u8, line: &str) -> Vec<u8> {
+    let caller = number(&format!("{:015}", n));
+    step(&mut ClerkDesk::start(), |desk, out| desk.ask(&identifier(n), &caller, &number(line), &KEPT, out)).message
+}
+
+fn desk_of(lines: &[&str]) -> Result<LineDesk, Refusal> {
+    let given: Vec<LineGiven> = lines.iter().map(|line| LineGiven { number: number(line), kinds: 3 }).collect();
+    LineDesk::start(&given, true, false)
+}
+
+/// Both ends, with the longest message that there is: asked, acknowledged, offered, suspended, resumed, offered again, busy again, offered, rung, alerted.
+fn evening() {
+    let (mut clerk, mut line) = (ClerkDesk::start(), desk_of(&["801234567890123"]).expect("one line"));
+    let (id, b) = (identifier(1), number("801234567890123"));
+    assert!(line.report(&b, true).result().is_ok() && line.report(&number("1"), true).refusal == Some(Refusal::NoLine));
+    let asked = step(&mut clerk, |desk, out| desk.ask(&id, &number("499999999999999"), &b, &KEPT, out));
+    assert!(
+        asked.sends(MessageType::CcbsRequest, Carrier::Setup)
+            && asked.message.len() == MESSAGE_MOST
+            && asked.starts == 1
+    );
+    let accepted = step(&mut line, |desk, out| desk.receive(&asked.message, out));
+    assert!(
+        accepted.sends(MessageType::Result, Carrier::Connect) && accepted.starts == 8 && accepted.next == MESSAGE_MOST
+    );
+    assert!(step(&mut clerk, |desk, out| desk.receive(&accepted.message, false, out)).notice == Some(Notice::Accepted));
+    assert!(step(&mut line, |desk, out| desk.look(&b, out)).refuses(Refusal::NothingToOffer));
+    assert!(line.report(&b, false).result().is_ok());
+    let offered = step(&mut line, |desk, out| desk.look(&b, out));
+    let suspended = step(&mut clerk, |desk, out| desk.receive(&offered.message, true, out));
+    assert!(suspended.sends(MessageType::CcSuspend, Carrier::Facility));
+    assert!(step(&mut clerk, |desk, out| desk.report(&id, Timer::T3, out)).refuses(Refusal::NotRunning));
+    assert!(step(&mut line, |desk, out| desk.receive(&suspended.message, out)).refusal.is_none());
+    let resumed = step(&mut clerk, |desk, out| desk.act(&id, Act::Resume, out));
+    assert!(step(&mut line, |desk, out| desk.receive(&resumed.message, out)).refusal.is_none());
+    ring(&mut clerk, &mut line, &id, &b, true);
+    ring(&mut clerk, &mut line, &id, &b, false);
+    assert!(clerk.records().count() == 0 && line.records().count() == 0 && clerk == ClerkDesk::start());
+}
+
+/// Offered and rung: the line is busy again and the request is kept, or the call alerts.
+fn ring(clerk: &mut ClerkDesk, line: &mut LineDesk, id: &Identifier, b: &Number, busy: bool) {
+    assert!(line.report(b, false).result().is_ok());
+    let offered = step(line, |desk, out| desk.look(b, out));
+    assert!(offered.sends(MessageType::CcExecPossible, Carrier::Facility));
+    let recall = step(clerk, |desk, out| desk.receive(&offered.message, false, out));
+    assert!(recall.notice == Some(Notice::Recall) && recall.starts == 4);
+    let ringing = step(clerk, |desk, out| desk.act(id, Act::Accept, out));
+    assert!(ringing.sends(MessageType::CcRingout, Carrier::Setup) && ringing.stops == 4);
+    assert!(step(clerk, |desk, out| desk.act(id, Act::GoOn, out)).refuses(Refusal::NoRow));
+    assert!(line.report(b, busy).result().is_ok());
+    let rung = step(line, |desk, out| desk.receive(&ringing.message, out));
+    let answer = if busy { rung } else { step(line, |desk, out| desk.act(id, LineAct::Alerted, out)) };
+    let end = step(clerk, |desk, out| desk.receive(&answer.message, false, out));
+    assert!(end.notice == Some(if busy { Notice::BusyAgainKept } else { Notice::Completed }) && !end.clear);
+}
+
+/// A refusal that has a reply: it stands in the outcome beside the refusal, and needs its room too.
+fn replies() {
+    let (mut clerk, mut line) = (ClerkDesk::start(), desk_of(&[]).expect("no lines"));
+    let stray = Message {
+        message_type: MessageType::CcRingout,
+        carrier: Carrier::Setup,
+        identifier: identifier(9),
+        number_a: Number::WITHHELD,
+        number_b: Number::WITHHELD,
+        service: 0,
+        field: 0,
+    };
+    let mut bytes = [0; 20];
+    assert_eq!(stray.write(&mut bytes, 0), Ok(18));
+    let told = step(&mut line, |desk, out| desk.receive(&bytes, out));
+    assert!(
+        told.refusal == Some(Refusal::NoRecord)
+            && told.kind == Some((MessageType::RingoutError, Carrier::ReleaseComplete))
+            && told.next == 18
+    );
+    assert!(step(&mut clerk, |desk, out| desk.receive(&bytes, false, out)).refuses(Refusal::OtherEnd));
+    assert!(step(&mut clerk, |desk, out| desk.receive(&bytes[..17], false, out)).refuses(Refusal::BytesEnd));
+    assert!(step(&mut clerk, |desk, out| desk.receive(&[], true, out)).refuses(Refusal::BytesEnd));
+    assert!(step(&mut line, |desk, out| desk.guard(&identifier(9), out)).refuses(Refusal::NoRecord));
+    let execute = Message { message_type: MessageType::CcExecPossible, ..stray };
+    assert_eq!(execute.write(&mut bytes, 2), Ok(18));
+    let told = step(&mut clerk, |desk, out| desk.receive(&bytes[2..], false, out));
+    assert!(
+        told.refusal == Some(Refusal::NoRecord) && told.kind == Some((MessageType::CcCancel, Carrier::ReleaseComplete))
+    );
+}
+
+/// 16 asks and not 17; 16 lines and not 17; 5 requests of a line and not 6; 32 in all and not 33.
+fn full_desks() {
+    let mut clerk = ClerkDesk::start();
+    let ask = |n| {
+        move |desk: &mut ClerkDesk| {
+            Told::of(desk.ask(&identifier(n), &Number::WITHHELD, &number("8"), &KEPT, &mut [0; MESSAGE_MOST]))
+        }
+    };
+    (0..16).for_each(|n| assert!(ask(n)(&mut clerk).starts == 1));
+    assert!(ask(16)(&mut clerk).refuses(Refusal::Full) && ask(15)(&mut clerk).refuses(Refusal::Live));
+    assert!(clerk.records().map(|record| record.identifier).eq((0..16).map(identifier)) && clerk.record(16).is_none());
+
+    let names: Vec<String> = (10..27).map(|n| n.to_string()).collect();
+    let names: Vec<&str> = names.iter().map(String::as_str).collect();
+    assert!(
+        desk_of(&names).err() == Some(Refusal::OutOfRange) && desk_of(&["1", "1"]).err() == Some(Refusal::OutOfRange)
+    );
+    let mut line = desk_of(&names[..16]).expect("16 lines");
+    assert!(
+        line.lines().map(|status| status.number.to_string()).eq(names[..16].iter().copied()) && line.line(16).is_none()
+    );
+    let mut result = |n: u8, name: &str| {
+        step(&mut line, |desk, out| desk.receive(&request(n, name), out)).kind.expect("an answer").0
+    };
+    (0..5).for_each(|n| assert_eq!(result(n, "10"), MessageType::Result));
+    assert_eq!(result(5, "10"), MessageType::RequestError);
+    (5..32).for_each(|n| assert_eq!(result(n, names[usize::from(n / 5)]), MessageType::Result));
+    assert_eq!(result(32, "25"), MessageType::RequestError);
+    assert!(
+        line.records().map(|record| record.identifier).eq((0..32).map(identifier)) && line.record(usize::MAX).is_none()
+    );
+}
+
+/// Plain numbers of an ask out of range are 2, and nothing changes.
+fn numbers_out_of_range() {
+    let good = [1, 16383, 1, 2];
+    for (place, wrong) in [
+        (0, 0),
+        (0, 3),
+        (1, 16384),
+        (1, 65536),
+        (2, 2),
+        (3, 3),
+        (3, 256),
+        (0, u64::MAX),
+        (1, u64::MAX),
+        (2, u64::MAX),
+        (3, u64::MAX),
+    ] {
+        let mut given = good;
+        given[place] = wrong;
+        let ask = |desk: &mut ClerkDesk, [kind, service, can_keep, preference]: [u64; 4]| {
+            let mut out = [0; MESSAGE_MOST];
+            Told::of(desk.ask_numbers(
+                &identifier(0),
+                kind,
+                &Number::WITHHELD,
+                &number("8"),
+                service,
+                can_keep,
+                preference,
+                &mut out,
+            ))
+        };
+        let mut desk = ClerkDesk::start();
+        assert!(ask(&mut desk, given).refuses(Refusal::OutOfRange) && desk == ClerkDesk::start());
+        assert!(ask(&mut desk, good).starts == 1 && desk != ClerkDesk::start());
+    }
+    let bad = [Number([16; 16]), Number([0; 16]), Number([1, 10, 0, 0, 0, 0, 0, 0, 0, 0, 0, 0, 0, 0, 0, 0])];
+    for number_b in bad {
+        assert!(step(&mut ClerkDesk::start(), |desk, out| desk.ask(
+            &identifier(0),
+            &number("1"),
+            &number_b,
+            &KEPT,
+            out
+        ))
+        .refuses(Refusal::OutOfRange));
+    }
+}
+
+/// What is listed has its number, and no other number has a name.
+fn lists() {
+    fn list<T: Debug>(from: fn(u64) -> Option<T>, number: fn(T) -> u64, least: u64, most: u64) {
+        for n in (0..300).chain([u64::MAX]) {
+            assert_eq!(from(n).map(number), Some(n).filter(|n| (least..=most).contains(n)));
+        }
+    }
+    list(Refusal::from_number, Refusal::number, 1, 12);
+    list(Notice::from_number, Notice::number, 1, 9);
+    list(Kind::from_number, Kind::number, 1, 2);
+    list(Preference::from_number, Preference::number, 0, 2);
+    list(Act::from_number, Act::number, 1, 4);
+    list(Timer::from_number, Timer::number, 1, 3);
+    list(LineAct::from_number, LineAct::number, 1, 3);
+    list(MessageType::from_number, MessageType::number, 1, 12);
+    list(Carrier::from_number, Carrier::number, 1, 5);
+    list(Connection::from_number, Connection::number, 1, 2);
+    list(ClerkState::from_number, ClerkState::number, 1, 5);
+    list(LineState::from_number, LineState::number, 1, 3);
+    assert!(
+        Number::of_text("").is_none()
+            && Number::of_text("1234567890123456").is_none()
+            && Number::of_text("12a").is_none()
+    );
+    assert!(
+        number("041180").to_string() == "041180"
+            && Number::WITHHELD.to_string() == "-"
+            && Number([255; 16]).digits().len() == 15
+    );
+    assert!(Number([1, 2, 3, 0, 0, 0, 0, 0, 0, 0, 0, 0, 0, 0, 0, 0]) == number("2") && number("2") != number("20"));
+}
+
+/// A message at every place of a buffer, also past its end.
+fn messages() {
+    let bytes = request(1, "80");
+    let (message, rest) = Message::read(&bytes).expect("a message");
+    assert!(rest.is_empty() && message.service == 16383 && message.field == 3 && message.number_b == number("80"));
+    for place in (0..80).chain([usize::MAX, usize::MAX - bytes.len() + 1]) {
+        let mut buffer = vec![0xEE; 70].into_boxed_slice();
+        let written = message.write(&mut buffer, place);
+        let fits = place <= 70 - bytes.len();
+        assert_eq!(written, if fits { Ok(bytes.len()) } else { Err(Refusal::NoRoom) });
+        assert!(!fits || buffer[place..place + bytes.len()] == bytes[..]);
+        assert!((0..70).all(|k| buffer[k] == 0xEE || fits && (place..place + bytes.len()).contains(&k)));
+    }
+    assert!((0..bytes.len()).all(|length| Message::read(&bytes[..length]) == Err(Refusal::BytesEnd)));
+    assert_eq!(Message { service: 16384, ..message }.write(&mut [0; 64], 0), Err(Refusal::OutOfRange));
+    assert_eq!(Message { field: 6, ..message }.write(&mut [], 0), Err(Refusal::OutOfRange));
+}
+
+fn main() {
+    evening();
+    replies();
+    full_desks();
+    numbers_out_of_range();
+    lists();
+    messages();
+    println!("an evening in every room, replies, full desks, numbers, messages");
+}

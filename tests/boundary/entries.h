@@ -1,0 +1,41 @@
+/* Entries of a script (docs/REPLAY.md), and the call of the library that each stands for. */
+#ifndef ENTRIES_H
+#define ENTRIES_H
+
+#include "tollherring.h"
+
+enum { START_LINE = 1, START_CLERK = 2, ASK = 16, TO_CLERK = 17, ACCEPT = 18, USER_A_FREE = 19, USER_CANCELS = 20, TIMER = 21,
+       TO_LINE = 32, LINE_REPORT = 33, LOOK = 34, LINE_ACT = 35, GUARD = 36, WRITE = 48, PRINT_CLERK = 64, PRINT_LINE = 65 };
+
+/* the numbers of an entry, as they are handed to the library, and its bytes */
+struct entry {
+    unsigned code;
+    uint64_t kind, service, can_keep, preference; /* of an ask */
+    uint64_t choice;                              /* the act, the timer, or whether User A or the line is busy */
+    uint64_t keep, retain;                        /* of a line desk's start */
+    uint8_t identifier[16], number_a[16], number_b[16]; /* number_b: also the number of a line */
+    tollherring_line_given lines[255];
+    size_t lines_bytes;
+    const uint8_t *bytes; /* of a message: they stand in the script */
+    size_t length;
+    size_t place, size; /* of a write */
+};
+
+/* Where everything stands that a call is lent: the caller chooses the memory, so that it can be fenced. */
+struct lent {
+    tollherring_clerk *clerk;
+    tollherring_line *line;
+    const uint8_t *identifier, *number_a, *number_b, *bytes;
+    const tollherring_line_given *lines;
+    uint8_t *out;
+    size_t room;
+    tollherring_outcome *outcome;
+};
+
+/* Where the next entry begins; NULL where the script ends inside this one, or a code or a choice is not listed. */
+const uint8_t *read_entry(struct entry *entry, const uint8_t *at, const uint8_t *end);
+
+/* The call of an entry with a code of 1 to 36: what it answers. A start has no outcome of its own: its answer is put into one. */
+uint64_t call(const struct entry *entry, const struct lent *lent);
+
+#endif

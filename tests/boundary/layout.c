@@ -1,0 +1,55 @@
+/* What include/tollherring.h promises of sizes and places, held against the compiler's, and its use as the first and only header. Compiled as C99, as
+ * C11 and as C++11: a struct that is laid out otherwise does not compile. */
+#include "tollherring.h"
+
+#define HOLDS(name, condition) typedef char holds_##name[(condition) ? 1 : -1]
+#define WORD(type, field, k) HOLDS(type##_##field, offsetof(tollherring_##type, field) == 8 * (k) && sizeof ((tollherring_##type *)0)->field == 8)
+
+HOLDS(clerk_size, sizeof(tollherring_clerk) == 1536 && offsetof(tollherring_clerk, words) == 0);
+HOLDS(line_size, sizeof(tollherring_line) == 3984 && offsetof(tollherring_line, words) == 0);
+HOLDS(outcome_size, sizeof(tollherring_outcome) == 56);
+HOLDS(record_size, sizeof(tollherring_record) == 64);
+HOLDS(status_size, sizeof(tollherring_line_status) == 16);
+HOLDS(message_size, sizeof(tollherring_message) == 32);
+HOLDS(given_size, sizeof(tollherring_line_given) == 17);
+HOLDS(given_number, offsetof(tollherring_line_given, number) == 0);
+HOLDS(given_kinds, offsetof(tollherring_line_given, kinds) == 16);
+HOLDS(lengths, sizeof(size_t) == 8 && sizeof(void *) == 8);
+
+WORD(outcome, refusal, 0);
+WORD(outcome, length, 1);
+WORD(outcome, next, 2);
+WORD(outcome, starts, 3);
+WORD(outcome, stops, 4);
+WORD(outcome, notice, 5);
+WORD(outcome, clear, 6);
+
+WORD(record, kind, 0);
+WORD(record, service, 1);
+WORD(record, can_keep, 2);
+WORD(record, keep, 3);
+WORD(record, connection, 4);
+WORD(record, state, 5);
+WORD(record, active, 6);
+WORD(record, suspended, 7);
+
+WORD(line_status, kinds, 0);
+WORD(line_status, busy, 1);
+
+WORD(message, type, 0);
+WORD(message, carrier, 1);
+WORD(message, service, 2);
+WORD(message, field, 3);
+
+/* one ask, so that the names are linked too: as C++ they have to be the C names */
+int main(void)
+{
+    const uint8_t identifier[16] = {7}, number_a[16] = {3, 4, 1, 1}, number_b[16] = {2, 8, 0};
+    tollherring_clerk desk;
+    tollherring_outcome outcome;
+    uint8_t out[TOLLHERRING_MESSAGE_MOST];
+    tollherring_clerk_start(&desk);
+    if (tollherring_clerk_ask(&desk, identifier, TOLLHERRING_CCBS, number_a, number_b, 1, 1, TOLLHERRING_PREFER_RETAIN, out, sizeof out, &outcome) != 0)
+        return 1;
+    return outcome.length == 27 && out[0] == TOLLHERRING_CCBS_REQUEST && out[1] == TOLLHERRING_SETUP && outcome.starts == TOLLHERRING_T1 ? 0 : 1;
+}

@@ -1,0 +1,259 @@
+//! Plays a script from standard input on the library, through the Rust module, and prints the lines of docs/REPLAY.md. With the word `short` it lends a heap
+//! block of 17 bytes as one of 53: a fault that a checker has to find.
+
+#[path = "../../rust/tollherring.rs"]
+mod tollherring;
+
+use std::fmt::Write as _;
+use std::io::{Read, Write};
+use tollherring::*;
+
+/// The part of the script that hasn't been read: None where it ends inside an entry, or a choice is not listed.
+struct Unread<'s>(&'s [u8]);
+
+impl<'s> Unread<'s> {
+    fn run(&mut self, count: usize) -> Option<&'s [u8]> {
+        let run = self.0.get(..count)?;
+        self.0 = &self.0[count..];
+        Some(run)
+    }
+
+    fn byte(&mut self) -> Option<u8> {
+        self.run(1).map(|run| run[0])
+    }
+
+    /// A byte that has to be one of those listed.
+    fn listed(&mut self, least: u8, most: u8) -> Option<u8> {
+        self.byte().filter(|value| (least..=most).contains(value))
+    }
+
+    fn counted(&mut self) -> Option<&'s [u8]> {
+        let count = self.byte()?;
+        self.run(usize::from(count))
+    }
+
+    fn identifier(&mut self) -> Option<Identifier> {
+        self.run(16)?.try_into().ok()
+    }
+
+    /// The length, in range or not, and at most the first 15 of the bytes.
+    fn number(&mut self) -> Option<Number> {
+        let mut number = [0; 16];
+        let digits = self.counted()?;
+        number[0] = digits.len() as u8;
+        number[1..].iter_mut().zip(digits).for_each(|(place, digit)| *place = *digit);
+        Some(Number(number))
+    }
+}
+
+struct Session {
+    clerk: Box<ClerkDesk>,
+    line: Box<LineDesk>,
+    out: Box<[u8]>,
+    text: String,
+}
+
+fn hex(bytes: &[u8]) -> String {
+    if bytes.is_empty() {
+        return "-".to_string();
+    }
+    let digit = |value: u8| char::from(b"0123456789abcdef"[usize::from(value)]);
+    bytes.iter().flat_map(|byte| [digit(byte / 16), digit(byte % 16)]).collect()
+}
+
+fn outcome_text(number: usize, outcome: &Outcome, left: usize) -> String {
+    format!(
+        "{} {} {} {} {} {} {} {}\n",
+        number,
+        outcome.refusal.map_or(0, Refusal::number),
+        hex(outcome.message.unwrap_or(&[])),
+        outcome.starts.number(),
+        outcome.stops.number(),
+        outcome.notice.map_or(0, Notice::number),
+        u8::from(outcome.clear),
+        left
+    )
+}
+
+/// A desk's start has no outcome of its own.
+fn start_text(number: usize, refusal: Option<Refusal>) -> String {
+    format!("{} {} - 0 0 0 0 0\n", number, refusal.map_or(0, Refusal::number))
+}
+
+impl Session {
+    fn start_line(&mut self, number: usize, unread: &mut Unread) -> Option<String> {
+        let mut lines = Vec::new();
+        for _ in 0..unread.byte()? {
+            lines.push(LineGiven { number: unread.number()?, kinds: unread.listed(0, 3)? });
+        }
+        let settings = unread.listed(0, 3)?;
+        let started = LineDesk::start(&lines, settings % 2 == 1, settings >= 2);
+        let refusal = started.as_ref().err().copied();
+        if let Ok(desk) = started {
+            *self.line = desk;
+        }
+        Some(start_text(number, refusal))
+    }
+
+    fn ask(&mut self, number: usize, unread: &mut Unread) -> Option<String> {
+        let identifier = unread.identifier()?;
+        let kind = Kind::from_number(u64::from(unread.byte()?))?;
+        let (number_a, number_b) = (unread.number()?, unread.number()?);
+        let service = u16::from_le_bytes([unread.byte()?, unread.byte()?]);
+        let can_keep = unread.listed(0, 1)? == 1;
+        let preference = u64::from(unread.byte()?);
+        let outcome = match Preference::from_number(preference) {
+            Some(preference) => {
+                let ask = Ask { kind, service, can_keep, preference };
+                self.clerk.ask(&identifier, &number_a, &number_b, &ask, &mut self.out)
+            }
+            None => {
+                let (kind, service, can_keep) = (kind.number(), u64::from(service), u64::from(can_keep));
+                self.clerk.ask_numbers(
+                    &identifier,
+                    kind,
+                    &number_a,
+                    &number_b,
+                    service,
+                    can_keep,
+                    preference,
+                    &mut self.out,
+                )
+            }
+        };
+        Some(outcome_text(number, &outcome, 0))
+    }
+
+    fn clerk_entry(&mut self, code: u8, number: usize, unread: &mut Unread) -> Option<String> {
+        if code == 17 {
+            let busy = unread.listed(0, 1)? == 1;
+            // a block of the bytes' own size, so that a checker sees one that is read too far
+            let bytes = unread.counted()?.to_vec().into_boxed_slice();
+            let outcome = self.clerk.receive(&bytes, busy, &mut self.out);
+            return Some(outcome_text(number, &outcome, bytes.len() - outcome.next));
+        }
+        let identifier = unread.identifier()?;
+        let outcome = match code {
+            18 => self.clerk.act(&identifier, Act::Accept, &mut self.out),
+            19 => {
+                let act = if unread.listed(0, 1)? == 1 { Act::GoOn } else { Act::Resume };
+                self.clerk.act(&identifier, act, &mut self.out)
+            }
+            20 => self.clerk.act(&identifier, Act::Cancel, &mut self.out),
+            _ => self.clerk.report(&identifier, Timer::from_number(u64::from(unread.byte()?))?, &mut self.out),
+        };
+        Some(outcome_text(number, &outcome, 0))
+    }
+
+    fn line_entry(&mut self, code: u8, number: usize, unread: &mut Unread) -> Option<String> {
+        if code == 32 {
+            let bytes = unread.counted()?.to_vec().into_boxed_slice();
+            let outcome = self.line.receive(&bytes, &mut self.out);
+            return Some(outcome_text(number, &outcome, bytes.len() - outcome.next));
+        }
+        let outcome = match code {
+            33 => {
+                let digits = unread.number()?;
+                self.line.report(&digits, unread.listed(0, 1)? == 1)
+            }
+            34 => self.line.look(&unread.number()?, &mut self.out),
+            35 => {
+                let identifier = unread.identifier()?;
+                self.line.act(&identifier, LineAct::from_number(u64::from(unread.byte()?))?, &mut self.out)
+            }
+            _ => self.line.guard(&unread.identifier()?, &mut self.out),
+        };
+        Some(outcome_text(number, &outcome, 0))
+    }
+
+    fn clerk_text(&self, number: usize) -> String {
+        let mut text = format!("{} c {}\n", number, self.clerk.records().count());
+        for r in self.clerk.records() {
+            let keep = r.keep.map_or("-".to_string(), |keep| u8::from(keep).to_string());
+            let connection = r.connection.map_or("-".to_string(), |connection| connection.number().to_string());
+            let (id, kind, can_keep, state) =
+                (hex(&r.identifier), r.kind.number(), u8::from(r.can_keep), r.state.number());
+            let _ = writeln!(
+                text,
+                "c {} {} {} {} {} {} {} {} {}",
+                id, kind, r.number_a, r.number_b, r.service, can_keep, keep, connection, state
+            );
+        }
+        text
+    }
+
+    fn line_text(&self, number: usize) -> String {
+        let mut text = format!("{} l {} {}\n", number, self.line.lines().count(), self.line.records().count());
+        for line in self.line.lines() {
+            let _ = writeln!(text, "l {} {} {}", line.number, line.kinds, u8::from(line.busy));
+        }
+        for r in self.line.records() {
+            let (id, kind, keep, connection) =
+                (hex(&r.identifier), r.kind.number(), u8::from(r.keep), r.connection.number());
+            let (state, active, suspended) = (r.state.number(), u8::from(r.active), u8::from(r.suspended));
+            let _ = write!(text, "r {} {} {} {} {}", id, kind, r.number_a, r.number_b, r.service);
+            let _ = writeln!(text, " {} {} {} {} {}", keep, connection, state, active, suspended);
+        }
+        text
+    }
+
+    /// The lines of one entry; None where the program has to stop.
+    fn entry(&mut self, number: usize, unread: &mut Unread) -> Option<String> {
+        match unread.byte()? {
+            1 => self.start_line(number, unread),
+            2 => {
+                *self.clerk = ClerkDesk::start();
+                Some(start_text(number, None))
+            }
+            16 => self.ask(number, unread),
+            code @ 17..=21 => self.clerk_entry(code, number, unread),
+            code @ 32..=36 => self.line_entry(code, number, unread),
+            48 => written_text(number, unread),
+            64 => Some(self.clerk_text(number)),
+            65 => Some(self.line_text(number)),
+            _ => None,
+        }
+    }
+
+    fn play(&mut self, script: &[u8]) {
+        let mut unread = Unread(script);
+        let mut number = 0;
+        while !unread.0.is_empty() {
+            match self.entry(number, &mut unread) {
+                Some(lines) => self.text.push_str(&lines),
+                None => {
+                    let _ = writeln!(self.text, "stop {}", number);
+                    return;
+                }
+            }
+            number += 1;
+        }
+    }
+}
+
+fn written_text(number: usize, unread: &mut Unread) -> Option<String> {
+    let bytes = unread.counted()?.to_vec().into_boxed_slice();
+    let place = usize::from(unread.byte()?);
+    let mut buffer = vec![0xEE; usize::from(unread.byte()?)].into_boxed_slice();
+    let written = Message::read(&bytes).and_then(|(message, _)| message.write(&mut buffer, place));
+    let refusal = written.err().map_or(0, Refusal::number);
+    Some(format!("{} {} {} {}\n", number, refusal, written.unwrap_or(0), hex(&buffer)))
+}
+
+fn main() -> std::io::Result<()> {
+    let mut script = Vec::new();
+    std::io::stdin().read_to_end(&mut script)?;
+    let mut session = Session {
+        clerk: Box::new(ClerkDesk::start()),
+        line: Box::new(LineDesk::start(&[], false, false).expect("a desk without lines")),
+        out: vec![0; MESSAGE_MOST].into_boxed_slice(),
+        text: String::new(),
+    };
+    if std::env::args().nth(1).as_deref() == Some("short") {
+        let block = Box::leak(vec![0u8; MESSAGE_LEAST - 1].into_boxed_slice()).as_mut_ptr();
+        // the fault: the block is not of that size
+        session.out = unsafe { Box::from_raw(std::ptr::slice_from_raw_parts_mut(block, MESSAGE_MOST)) };
+    }
+    session.play(&script);
+    std::io::stdout().write_all(session.text.as_bytes())
+}
