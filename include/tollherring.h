@@ -12,8 +12,9 @@
  * been answered, so that the same input can be handed in again.
  *
  * Whatever numbers and bytes are passed, there is an answer. What the caller owes is only what C itself asks for: every pointer points to as many bytes as
- * its type or its length says, is not NULL (with length 0 neither), and no two of the things that one call is given overlap; one desk is not used by two
- * threads at a time. No call keeps a pointer, allocates, or does input or output.
+ * its type or its length says and is not NULL (with length 0 neither); what is written (the desk, `out`, `outcome`, every pointer that is not const) overlaps
+ * nothing else that the call is given, while inputs may be the same; one desk is not used by two threads at a time. No call keeps a pointer, allocates, or
+ * does input or output.
  */
 #ifndef TOLLHERRING_H
 #define TOLLHERRING_H
@@ -45,8 +46,8 @@ typedef struct tollherring_outcome {
     uint64_t length;  /* how many bytes of `out` are the message to be sent; 0: nothing is sent */
     uint64_t next;    /* after receive: how many bytes were read; 0 where the bytes themselves were refused (1, 2), and on 12. Else 0 */
     uint64_t starts;  /* timers to start: a sum of TOLLHERRING_T1, T2, T3, GUARD */
-    uint64_t stops;   /* timers to stop: the same. All are those of the one record that the step was about: the one whose identifier was given, was in
-                         the bytes received, or, after a Look, is in `out` */
+    uint64_t stops;   /* timers to stop: the same, also the one that was just reported. No timer is in both. All are those of the one record that the step
+                         was about: the one whose identifier was given, was in the bytes received, or, after a Look, is in `out` */
     uint64_t notice;  /* what to tell User A: TOLLHERRING_ACCEPTED and so on, 0 for nothing */
     uint64_t clear;   /* 1: clear the call */
 } tollherring_outcome;
@@ -69,7 +70,7 @@ typedef struct tollherring_outcome {
 #define TOLLHERRING_CANCELLED 9
 
 /* refusals */
-#define TOLLHERRING_BYTES_END 1       /* bytes end inside a message, or a number is over two bytes or not shortest */
+#define TOLLHERRING_BYTES_END 1       /* bytes end inside a message, or a number is over two bytes or not shortest: with 53 bytes at hand, the latter */
 #define TOLLHERRING_OUT_OF_RANGE 2    /* a field or a number given is out of range */
 #define TOLLHERRING_OTHER_END 3       /* the message type isn't for this end */
 #define TOLLHERRING_LIVE 4            /* an ask uses an identifier that is live at this desk */
@@ -77,7 +78,7 @@ typedef struct tollherring_outcome {
 #define TOLLHERRING_NO_RECORD 6       /* no record with that identifier */
 #define TOLLHERRING_NO_ROW 7          /* the record's state has no row for this input */
 #define TOLLHERRING_CARRIER 8         /* carrier not allowed for this type and record */
-#define TOLLHERRING_NOT_RUNNING 9     /* that timer isn't running */
+#define TOLLHERRING_NOT_RUNNING 9     /* that timer isn't running, or is T2 in Ringout, where it is not heeded */
 #define TOLLHERRING_NO_LINE 10        /* no such line */
 #define TOLLHERRING_NOTHING_TO_OFFER 11 /* a Look has nothing to offer: the usual answer, and no fault */
 #define TOLLHERRING_NO_ROOM 12        /* no room in `out` */
@@ -137,10 +138,10 @@ typedef struct tollherring_outcome {
 #define TOLLHERRING_PREFER_RELEASE 2
 
 /* User A's acts, for tollherring_clerk_act alone */
-#define TOLLHERRING_CLERK_ACCEPT 1
-#define TOLLHERRING_CLERK_RESUME 2 /* User A is free again: back to waiting */
-#define TOLLHERRING_CLERK_GO_ON 3  /* User A is free again: on to recall */
-#define TOLLHERRING_CLERK_CANCEL 4
+#define TOLLHERRING_CLERK_ACT_ACCEPT 1
+#define TOLLHERRING_CLERK_ACT_RESUME 2 /* User A is free again: back to waiting */
+#define TOLLHERRING_CLERK_ACT_GO_ON 3  /* User A is free again: on to recall */
+#define TOLLHERRING_CLERK_ACT_CANCEL 4
 
 /* the timer that ran out, for tollherring_clerk_report alone: not the bits of `starts` and `stops` */
 #define TOLLHERRING_T1_RAN_OUT 1
@@ -150,7 +151,9 @@ typedef struct tollherring_outcome {
 /* An empty desk. */
 void tollherring_clerk_start(tollherring_clerk *desk);
 
-/* User A asks to be rung back. service 0 to 16383, can_keep 0 or 1. Refusals 2, 4, 5, 12. */
+/* User A asks to be rung back. `service`, 0 to 16383, is the service of the failed call as both ends number it; it is carried and compared with nothing.
+ * can_keep, 0 or 1: whether this end can keep a request that meets a busy line again; it is kept if both ends say so. The preference goes before the
+ * line desk's default. Refusals 2, 4, 5, 12. */
 uint64_t tollherring_clerk_ask(tollherring_clerk *desk, const uint8_t identifier[16], uint64_t kind, const uint8_t number_a[16],
                                const uint8_t number_b[16], uint64_t service, uint64_t can_keep, uint64_t preference, uint8_t *out, size_t room,
                                tollherring_outcome *outcome);
@@ -176,11 +179,12 @@ typedef struct tollherring_line_given {
 } tollherring_line_given;
 
 /* acts at this end, for tollherring_line_act alone */
-#define TOLLHERRING_LINE_ALERTED 1
-#define TOLLHERRING_LINE_CALL_FAILED 2
-#define TOLLHERRING_LINE_CANCEL 3
+#define TOLLHERRING_LINE_ACT_ALERTED 1
+#define TOLLHERRING_LINE_ACT_CALL_FAILED 2
+#define TOLLHERRING_LINE_ACT_CANCEL 3
 
-/* A desk with its lines, all free; whether it keeps requests, and whether it retains connections by default, 0 or 1 each. `size` is the size of `lines` in
+/* A desk with its lines, all free; whether it keeps a request that meets a busy line again, if the clerk's end can too, and whether it retains connections
+ * where the clerk's end has no preference, 0 or 1 each. `size` is the size of `lines` in
  * bytes (sizeof, not how many): 17 for a line, at most 16 lines; none at all is allowed, and so is a line that allows no kind. Refusal 2 for more lines, a
  * size that ends inside a line, bad digits or kinds, and one number twice: then no desk is made, and the memory is as it was. */
 uint64_t tollherring_line_start(tollherring_line *desk, const tollherring_line_given *lines, size_t size, uint64_t keep, uint64_t retain);
@@ -189,7 +193,7 @@ uint64_t tollherring_line_start(tollherring_line *desk, const tollherring_line_g
 uint64_t tollherring_line_receive(tollherring_line *desk, const uint8_t *bytes, size_t length, uint8_t *out, size_t room,
                                   tollherring_outcome *outcome);
 
-/* A line is busy (1) or free (0). Refusals 2, 10. */
+/* A line is busy (1) or free (0). It is about no request and sends nothing. Refusals 2, 10. */
 uint64_t tollherring_line_report(tollherring_line *desk, const uint8_t number[16], uint64_t busy, uint8_t *out, size_t room,
                                  tollherring_outcome *outcome);
 
@@ -214,14 +218,14 @@ uint64_t tollherring_line_guard(tollherring_line *desk, const uint8_t identifier
 #define TOLLHERRING_RELEASED 2 /* RLS: a new one for each invoke */
 
 /* states of a record at the clerk's desk, and at the line desk */
-#define TOLLHERRING_CLERK_WAIT_ACK 1
-#define TOLLHERRING_CLERK_INVOKED 2
-#define TOLLHERRING_CLERK_WAIT_ANSWER 3
-#define TOLLHERRING_CLERK_RINGOUT 4
-#define TOLLHERRING_CLERK_SUSPENDED 5
-#define TOLLHERRING_LINE_INVOKED 1
-#define TOLLHERRING_LINE_AWAIT 2
-#define TOLLHERRING_LINE_ALERT 3
+#define TOLLHERRING_CLERK_STATE_WAIT_ACK 1
+#define TOLLHERRING_CLERK_STATE_INVOKED 2
+#define TOLLHERRING_CLERK_STATE_WAIT_ANSWER 3
+#define TOLLHERRING_CLERK_STATE_RINGOUT 4
+#define TOLLHERRING_CLERK_STATE_SUSPENDED 5
+#define TOLLHERRING_LINE_STATE_INVOKED 1
+#define TOLLHERRING_LINE_STATE_AWAIT 2
+#define TOLLHERRING_LINE_STATE_ALERT 3
 
 typedef struct tollherring_record {
     uint64_t kind;       /* TOLLHERRING_CCBS or TOLLHERRING_CCNR */
@@ -229,8 +233,8 @@ typedef struct tollherring_record {
     uint64_t can_keep;   /* what the clerk's end sent, 0 or 1; at the line desk 0 */
     uint64_t keep;       /* TOLLHERRING_NOT_CHOSEN, TOLLHERRING_NOT_KEPT or TOLLHERRING_KEPT: here 1 is no */
     uint64_t connection; /* TOLLHERRING_NOT_CHOSEN, TOLLHERRING_RETAINED or TOLLHERRING_RELEASED */
-    uint64_t state;      /* TOLLHERRING_CLERK_WAIT_ACK and so on; TOLLHERRING_LINE_INVOKED and so on */
-    uint64_t active;     /* the line desk's activity mark, 0 or 1; at the clerk's desk 0 */
+    uint64_t state;      /* TOLLHERRING_CLERK_STATE_WAIT_ACK and so on; TOLLHERRING_LINE_STATE_INVOKED and so on */
+    uint64_t active;     /* the line desk's activity mark, 0 or 1: the line was busy since, or at, acceptance; a CCNR request waits for it. At the clerk's desk 0 */
     uint64_t suspended;  /* the line desk's suspended mark, 0 or 1; at the clerk's desk 0 */
 } tollherring_record;
 

@@ -1,4 +1,5 @@
-//! Tollherring: ring-back (ITU-T H.450.9, call completion) for telephone proxies, over `libtollherring.a`. No crates; core alone; rustc 1.63 and later.
+//! Tollherring: ring-back (ITU-T H.450.9, call completion) for telephone proxies, over `libtollherring.a`. No crates; core alone; rustc 1.63 and
+//! later, editions 2018 and 2021 (a program of edition 2024 takes it in as a small crate of its own).
 //!
 //! Two desks. The clerk's desk is User A's end: it asks to be rung back. The line desk is User B's end: it keeps the requests until the line is free. A
 //! host starts a desk once and lends it to each step for the whole working day; docs/HOST.md tells, step by step, what it has to do.
@@ -8,7 +9,7 @@
 //! refusal the desk is as it was. A buffer of [`MESSAGE_MOST`] bytes is always enough; with less room than the message takes, the refusal is
 //! [`Refusal::NoRoom`], and nothing at all was done.
 //!
-//! Take this file into a program as a module, and show rustc the folder of the archive: `rustc -L target/staticlib main.rs`, or in a build.rs
+//! Take this file into a program as a module, and show rustc the folder of the archive: `rustc --edition 2021 -L target/staticlib main.rs`, or in a build.rs
 //! `println!("cargo:rustc-link-search=native=target/staticlib")`.
 //!
 //! ```ignore
@@ -173,6 +174,22 @@ numbered! {
 }
 
 numbered! {
+    /// The field of a request error, type 4.
+    RequestError {
+        Short = 1,
+        Long = 2,
+    }
+}
+
+numbered! {
+    /// The field of a ringout error, type 7.
+    RingoutError {
+        RemoteUserBusyAgain = 1,
+        FailureToMatch = 2,
+    }
+}
+
+numbered! {
     /// Whether the signalling connection of a request is retained or released.
     Connection {
         Retained = 1,
@@ -304,6 +321,11 @@ impl Outcome<'_> {
 
     pub fn message_type(&self) -> Option<MessageType> {
         MessageType::from_number(u64::from(self.message?[0]))
+    }
+
+    /// The request that the message is of: after a Look, this tells which was offered.
+    pub fn identifier(&self) -> Option<Identifier> {
+        self.message?.get(2..18)?.try_into().ok()
     }
 }
 
@@ -569,8 +591,8 @@ impl LineDesk {
     }
 }
 
-/// A message as such, for logs and tests: the desks take and give bytes. Types 1 and 2 have the two numbers, a service, and flags (can-keep + 2 * preference) as
-/// their field; the field of type 3 is keep, of 4 and 7 the error. What a type doesn't have is 0.
+/// A message as such, for logs and for those that a host hands in by itself: the desks take and give bytes. Types 1 and 2 have the two numbers, a service, and flags
+/// (can-keep + 2 * preference) as their field; the field of type 3 is keep, of 4 and 7 the error. What a type doesn't have is read as 0 and not looked at when written.
 #[derive(Clone, Copy, PartialEq, Eq, Debug)]
 pub struct Message {
     pub message_type: MessageType,

@@ -92,9 +92,9 @@ static void fields_of(struct unread *u, struct entry *e)
     case START_LINE: lines_of(u, e); break;
     case ASK: ask_of(u, e); break;
     case TO_CLERK: e->choice = listed(u, 0, 1); message_of(u, e); break;
-    case ACCEPT: e->choice = TOLLHERRING_CLERK_ACCEPT; break;
-    case USER_A_FREE: e->choice = listed(u, 0, 1) ? TOLLHERRING_CLERK_GO_ON : TOLLHERRING_CLERK_RESUME; break;
-    case USER_CANCELS: e->choice = TOLLHERRING_CLERK_CANCEL; break;
+    case ACCEPT: e->choice = TOLLHERRING_CLERK_ACT_ACCEPT; break;
+    case USER_A_FREE: e->choice = listed(u, 0, 1) ? TOLLHERRING_CLERK_ACT_GO_ON : TOLLHERRING_CLERK_ACT_RESUME; break;
+    case USER_CANCELS: e->choice = TOLLHERRING_CLERK_ACT_CANCEL; break;
     case TIMER: case LINE_ACT: e->choice = listed(u, 1, 3); break;
     case TO_LINE: message_of(u, e); break;
     case LINE_REPORT: number_of(u, e->number_b); e->choice = listed(u, 0, 1); break;

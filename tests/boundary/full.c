@@ -27,7 +27,7 @@ void fill_clerk(void)
     full = clerk;
     EXPECT(ask(16, 1) == TOLLHERRING_FULL && outcome.length == 0 && outcome.starts == 0);
     EXPECT(ask(3, 1) == TOLLHERRING_LIVE && memcmp(&full, &clerk, sizeof full) == 0);
-    EXPECT(tollherring_clerk_act(&clerk, third, TOLLHERRING_CLERK_CANCEL, out, sizeof out, &outcome) == 0);
+    EXPECT(tollherring_clerk_act(&clerk, third, TOLLHERRING_CLERK_ACT_CANCEL, out, sizeof out, &outcome) == 0);
     EXPECT(outcome.notice == TOLLHERRING_CANCELLED && outcome.length == TOLLHERRING_MESSAGE_LEAST && out[0] == TOLLHERRING_CC_CANCEL);
     EXPECT(ask(16, 1) == 0);
     EXPECT(ask(3, 1) == TOLLHERRING_FULL);
