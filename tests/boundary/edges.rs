@@ -266,6 +266,8 @@ fn lists() {
     list(LineAct::from_number, LineAct::number, 1, 3);
     list(MessageType::from_number, MessageType::number, 1, 12);
     list(Carrier::from_number, Carrier::number, 1, 5);
+    list(RequestError::from_number, RequestError::number, 1, 2);
+    list(RingoutError::from_number, RingoutError::number, 1, 2);
     list(Connection::from_number, Connection::number, 1, 2);
     list(ClerkState::from_number, ClerkState::number, 1, 5);
     list(LineState::from_number, LineState::number, 1, 3);

@@ -17,11 +17,11 @@ use crate::words::NO_RECORD;
 use crate::world::World;
 use crate::world::after_line;
 use crate::wrong_end::carried_out;
-use desk::letter::Letter;
 use desk::outcome::Outcome;
 use desk::outcome::Sending;
 use desk::outcome::done;
 use desk::outcome::no_timers;
+use desk::sends::plain_letter;
 use line::Desk;
 use line::steps::Stepped;
 use line::steps::act;
@@ -174,14 +174,9 @@ pub fn line_hears(w: World, event: Event) -> World {
 pub fn stray_result(w: World, event: Event) -> World {
     let d = w.line;
     let none = no_timers();
-    let nobody = Words { low: 0, high: 0 };
-    let letter = Letter {
-        carrier: Carrier::Connect,
-        identifier: words_of(identifier_of(event.about)),
-        numberA: nobody,
-        numberB: nobody,
-        body: Body::RequestResult { keep: 1 },
-    };
+    let identifier = words_of(identifier_of(event.about));
+    let body = Body::RequestResult { keep: 1 };
+    let letter = plain_letter(identifier, Carrier::Connect, body);
     let outcome = done(Sending::Send(letter), none, none);
     finish(w, event, About::Nothing, Sending::Nothing, d, outcome, 0)
 }

@@ -3,3 +3,4 @@ pub mod Clerk
 pub mod Line
 pub mod Shown
 pub mod Messages
+pub mod Claims
