@@ -1,2 +1,1 @@
-pub mod CodesLaws
 pub mod LetterLaws

@@ -1,5 +1,4 @@
 pub mod Letter
 pub mod Carriers
-pub mod Codes
 pub mod Outcome
 pub mod Sends

@@ -1,8 +1,7 @@
-// What both desks share: messages and choices in flight, the codes they are stored as, the outcome of a step, what is sent, and which
+// What both desks share: messages and choices in flight, the outcome of a step, what is sent, and which
 // carrier goes with which type. An inner room: its functions serve the desks and are no public operations, but for
 // `letter::message_of`, by which a host has what is sent as a message.
 pub mod carriers;
-pub mod codes;
 pub mod letter;
 pub mod outcome;
 pub mod sends;

@@ -10,7 +10,7 @@ use Rattle.message.specs.Format.{inRange}
 use Rattle.message.specs.Wire.{messageAt}
 use Rattle.store.specs.Rows.{rows, putRow, dropRow}
 use Rattle.desk.specs.Carriers.{carrierFits}
-use Rattle.desk.specs.Codes.{kindOf, keepOf, connectionOf}
+use Rattle.terms.specs.Codes.{kindOf, keepOf, connectionOf}
 use Rattle.desk.specs.Letter.{numberWords, letterOf}
 use Rattle.clerk_table.specs.Step as ClerkStep
 use Rattle.clerk_records.specs.Codes as ClerkCodes

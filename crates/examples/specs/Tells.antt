@@ -12,7 +12,7 @@ use Rattle.message.specs.Format.{typeNumber, carrierNumber}
 use Rattle.message.specs.Wire.{messageAt}
 use Rattle.message.specs.declared.Body.{Body}
 use Rattle.message.specs.declared.Body.the-variants.{CcbsRequest, CcnrRequest, RequestResult, RequestError, CcExecPossible, CcRingout, RingoutError, CcSuspend, CcResume, CcCancel, CallAlerts, CallFailed}
-use Rattle.desk.specs.Codes.{keepCode, connectionCode, flagCode}
+use Rattle.terms.specs.Codes.{keepCode, connectionCode, flagCode}
 use Rattle.desk.specs.Letter.{numberWords}
 use Rattle.desk.specs.declared.outcome.Sending.{Sending}
 use Rattle.desk.specs.declared.outcome.Sending.the-variants as Sending

@@ -5,7 +5,7 @@ use mathlib.Core.List.{List}
 use lib.Dec.{eqb, leb, ltb}
 use Rattle.lists.specs.Choice.{pick}
 use Rattle.lists.specs.Lists.{both}
-use Rattle.desk.specs.Codes.{kindOf}
+use Rattle.terms.specs.Codes.{kindOf}
 use Rattle.clerk_table.specs.declared.inputs.Act.the-variants as ClerkAct
 use Rattle.clerk_table.specs.declared.table.Timer.the-variants.{T1, T2, T3}
 use Rattle.line_table.specs.declared.inputs.Act.the-variants as LineAct

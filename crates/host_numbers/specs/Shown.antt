@@ -2,7 +2,7 @@
 use Prim.Native.Nat.{ℕ, _+_}
 use mathlib.Core.List.{List, [], _∷_}
 use Rattle.lists.specs.Choice.{pick}
-use Rattle.desk.specs.Codes.{kindCode, keepCode, connectionCode, flagCode}
+use Rattle.terms.specs.Codes.{kindCode, keepCode, connectionCode, flagCode}
 use Rattle.clerk_table.specs.declared.record.Record as ClerkRecord
 use Rattle.clerk_records.specs.Codes as ClerkCodes
 use Rattle.line_table.specs.declared.record.Record as LineRecord

@@ -2,7 +2,7 @@
 use clerk::steps::Asking;
 use clerk_table::inputs::Act as ClerkAct;
 use clerk_table::table::Timer;
-use desk::codes::kind_of;
+use terms::codes::kind_of;
 use line_table::inputs::Act as LineAct;
 ghost use mathlib.Core.Path.{_≡_};
 ghost use Prim.Native.Nat.{_<_};

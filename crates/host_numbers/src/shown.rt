@@ -1,10 +1,10 @@
 // What a host is shown of a record or a line, as bytes and plain numbers.
 use clerk_records::codes::state_code as clerk_state_code;
 use clerk_table::record::Record as ClerkRecord;
-use desk::codes::connection_code;
-use desk::codes::flag_code;
-use desk::codes::keep_code;
-use desk::codes::kind_code;
+use terms::codes::connection_code;
+use terms::codes::flag_code;
+use terms::codes::keep_code;
+use terms::codes::kind_code;
 use line_records::codes::state_code as line_state_code;
 use line_table::line::Line;
 use line_table::record::Record as LineRecord;

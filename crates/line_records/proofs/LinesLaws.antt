@@ -11,7 +11,7 @@ use Rattle.lists.specs.Parts.{over}
 use Rattle.lists.proofs.Lists.{map-set}
 use Rattle.store.specs.Rows.{rows, putRow, dropRow, blankRow}
 use Rattle.store.proofs.RowsLaws.{place-rest, rows-length, rows-at, rows-put, put-length, drop-length}
-use Rattle.desk.proofs.CodesLaws.{flag-back}
+use Rattle.terms.proofs.CodesLaws.{flag-back}
 use Rattle.line_table.specs.declared.record.Record.{Record}
 use Rattle.line_table.specs.declared.line.Line.{Line}
 use Rattle.line_records.specs.Records.{recordOf, recordWords, records}

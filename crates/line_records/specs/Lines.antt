@@ -11,7 +11,7 @@ use Rattle.lists.specs.Words.{sameWords}
 use Rattle.lists.specs.declared.Found.{Found}
 use Rattle.lists.specs.declared.words.Words.{Words}
 use Rattle.store.specs.Rows.{rows}
-use Rattle.desk.specs.Codes.{flagCode}
+use Rattle.terms.specs.Codes.{flagCode}
 use Rattle.line_table.specs.declared.line.Line.{Line}
 
 -- a row of words as a line

@@ -10,7 +10,7 @@ use Rattle.lists.specs.Words.{sameWords}
 use Rattle.lists.specs.declared.Found.{Found}
 use Rattle.lists.specs.declared.words.Words.{Words}
 use Rattle.store.specs.Rows.{rows, putRow, dropRow}
-use Rattle.desk.specs.Codes.{kindOf, kindCode, keepOf, keepCode, connectionOf, connectionCode, flagCode}
+use Rattle.terms.specs.Codes.{kindOf, kindCode, keepOf, keepCode, connectionOf, connectionCode, flagCode}
 use Rattle.line_table.specs.Search.{used}
 use Rattle.line_table.specs.declared.record.Record.{Record}
 use Rattle.line_records.specs.Codes.{stateOf, stateCode}

@@ -1,5 +1,5 @@
 // The lines and settings of a line desk, in words that the caller lends.
-use desk::codes::flag_code;
+use terms::codes::flag_code;
 use line_table::line::Line;
 use lists::Found;
 use lists::words::Words;

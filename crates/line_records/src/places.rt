@@ -1,13 +1,13 @@
 // The places of a line desk: a record is found, loaded, put and removed, in words that the caller lends.
 use crate::codes::state_code;
 use crate::codes::state_of;
-use desk::codes::connection_code;
-use desk::codes::connection_of;
-use desk::codes::flag_code;
-use desk::codes::keep_code;
-use desk::codes::keep_of;
-use desk::codes::kind_code;
-use desk::codes::kind_of;
+use terms::codes::connection_code;
+use terms::codes::connection_of;
+use terms::codes::flag_code;
+use terms::codes::keep_code;
+use terms::codes::keep_of;
+use terms::codes::kind_code;
+use terms::codes::kind_of;
 use line_table::record::Record;
 use lists::Found;
 use lists::words::Words;

@@ -9,7 +9,7 @@ use Rattle.message.specs.Format.{inRange}
 use Rattle.store.specs.Rows.{rows, putRow, dropRow}
 use Rattle.desk.specs.Letter.{numberWords, letterOf, messageOf}
 use Rattle.desk.specs.Carriers.{carrierFits}
-use Rattle.desk.specs.Codes.{kindOf, keepOf, connectionOf}
+use Rattle.terms.specs.Codes.{kindOf, keepOf, connectionOf}
 use Rattle.desk.specs.declared.Connection.{Connection}
 use Rattle.desk.specs.declared.Connection.the-variants.{Empty, Ret, Rls}
 use Rattle.places.specs.Places.{Held, none, one, held}

@@ -7,7 +7,7 @@ use lib.ListN.{length}
 use Rattle.lists.specs.Words.{wordsOf}
 use Rattle.lists.specs.declared.words.Words.{Words}
 use Rattle.message.specs.declared.Kind.the-variants.{Ccbs}
-use Rattle.desk.specs.Codes.{keepCode, flagCode}
+use Rattle.terms.specs.Codes.{keepCode, flagCode}
 use Rattle.desk.specs.declared.Connection.the-variants.{Empty}
 use Rattle.places.specs.Places.{Held, none, one}
 use Rattle.clerk_table.specs.declared.inputs.Act.the-variants as User

@@ -11,8 +11,8 @@ use clerk::Desk;
 use clerk_records::codes::state_code;
 use clerk_records::places::load;
 use clerk_table::record::Record;
-use desk::codes::flag_code;
-use desk::codes::kind_code;
+use terms::codes::flag_code;
+use terms::codes::kind_code;
 use host_numbers::shown::kinds_number;
 
 // What steps change in a record.

@@ -5,7 +5,7 @@ use crate::output::put_number;
 use crate::output::put_space;
 use crate::output::put_text;
 use crate::script::run;
-use desk::codes::flag_code;
+use terms::codes::flag_code;
 use desk::outcome::Notice;
 use desk::outcome::Outcome;
 use desk::outcome::Sending;

@@ -2,7 +2,7 @@
 use crate::text::either;
 use crate::text::put_entry;
 use desk::Keep;
-use desk::codes::keep_code;
+use terms::codes::keep_code;
 use message::Body;
 use message::Carrier;
 use writer::numbers::carrier_number;

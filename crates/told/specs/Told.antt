@@ -2,7 +2,7 @@
 use Prim.Native.Nat.{ℕ, _+_}
 use mathlib.Core.List.{List, [], _∷_}
 use Rattle.lists.specs.Choice.{pick}
-use Rattle.desk.specs.Codes.{flagCode}
+use Rattle.terms.specs.Codes.{flagCode}
 use Rattle.desk.specs.Letter.{messageOf}
 use Rattle.desk.specs.declared.outcome.Timers.{Timers}
 use Rattle.desk.specs.declared.outcome.Notice.{Notice}

@@ -1,7 +1,7 @@
 // An outcome told to a host: its message as bytes at the front of a lent buffer, and the rest as plain numbers. Seven numbers: the refusal; the bytes of the
 // message written, 0 for none; the first unread place; timers started; timers stopped; the notice; whether to clear the call. An inner room of the
 // library's face and of the programs: its functions are no public operations.
-use desk::codes::flag_code;
+use terms::codes::flag_code;
 use desk::letter::message_of;
 use desk::outcome::Notice;
 use desk::outcome::Outcome;

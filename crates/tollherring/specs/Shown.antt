@@ -5,7 +5,7 @@ use lib.ListN.{getD}
 use lib.Dec.{eqb}
 use Rattle.lists.specs.Choice.{pick}
 use Rattle.lists.specs.Words.{bytesOf, sameWords}
-use Rattle.desk.specs.Codes.{flagCode}
+use Rattle.terms.specs.Codes.{flagCode}
 use Rattle.clerk_table.specs.declared.record.Record as ClerkRecord
 use Rattle.clerk_records.specs.Codes as ClerkCodes
 use Rattle.clerk_records.specs.Records as ClerkRecords

@@ -1,7 +1,7 @@
 // What a desk holds, for hosts that show it: the record or line of a place, as bytes and plain numbers.
 use clerk_records::codes::state_code as clerk_state_code;
 use clerk_records::places::load as load_clerk;
-use desk::codes::flag_code;
+use terms::codes::flag_code;
 use host_numbers::shown::clerk_numbers;
 use host_numbers::shown::kinds_number;
 use host_numbers::shown::line_numbers;

@@ -4,11 +4,11 @@ use mathlib.Core.Bool.{Bool, true, false}
 use lib.Dec.{eqb}
 use Rattle.message.specs.declared.Kind.{Kind}
 use Rattle.message.specs.declared.Kind.the-variants.{Ccbs, Ccnr}
 use Rattle.desk.specs.declared.Connection.{Connection}
 use Rattle.desk.specs.declared.Connection.the-variants as Connection
 use Rattle.desk.specs.declared.Keep.{Keep}
 use Rattle.desk.specs.declared.Keep.the-variants as Keep
-use Rattle.desk.specs.Codes.{kindOf, kindCode, keepOf, keepCode, connectionOf, connectionCode, flagCode}
+use Rattle.terms.specs.Codes.{kindOf, kindCode, keepOf, keepCode, connectionOf, connectionCode, flagCode}
 
 pub kind-back : (k : Kind) → kindOf (kindCode k) ≡ k
 unfolding kindOf

@@ -1,8 +1,8 @@
 -- By the codes.
 use borrow.Author.Tests.{ne-eqb}
-use Rattle.desk.specs.Codes.{keepOf}
-use Rattle.desk.proofs.codes.keep_of.Statement.{statement}
-use Rattle.desk.proofs.codes.keep_of.Tie as tie
+use Rattle.terms.specs.Codes.{keepOf}
+use Rattle.terms.proofs.codes.keep_of.Statement.{statement}
+use Rattle.terms.proofs.codes.keep_of.Tie as tie
 
 returns : tie.Need-returns
 unfolding keepOf

@@ -1,8 +1,8 @@
 -- By the codes.
 use borrow.Author.Tests.{ne-eqb}
-use Rattle.desk.specs.Codes.{connectionOf}
-use Rattle.desk.proofs.codes.connection_of.Statement.{statement}
-use Rattle.desk.proofs.codes.connection_of.Tie as tie
+use Rattle.terms.specs.Codes.{connectionOf}
+use Rattle.terms.proofs.codes.connection_of.Statement.{statement}
+use Rattle.terms.proofs.codes.connection_of.Tie as tie
 
 returns : tie.Need-returns
 unfolding connectionOf

@@ -1,9 +1,9 @@
 // Words and what they stand for, in the records of both desks. A word that is no code reads as the first case.
-use crate::Connection;
-use crate::Keep;
+use desk::Connection;
+use desk::Keep;
 use message::Kind;
 ghost use mathlib.Core.Path.{_≡_};
-ghost use Rattle.desk.specs.Codes.{kindOf, kindCode, keepOf, keepCode, connectionOf, connectionCode, flagCode};
+ghost use Rattle.terms.specs.Codes.{kindOf, kindCode, keepOf, keepCode, connectionOf, connectionCode, flagCode};
 
 pub fn kind_of(code: u64) -> Kind
     ensures { λ r. ⌜ r ≡ kindOf code ⌝ }

@@ -1,0 +1,121 @@
+// The terms of a request: what both ends agree on about it, and its words at rest. A record of either desk is its terms, its state and its own marks. An
+// inner room of both desks: its functions are no public operations.
+use codes::connection_code;
+use codes::connection_of;
+use codes::keep_code;
+use codes::keep_of;
+use codes::kind_code;
+use codes::kind_of;
+use desk::Connection;
+use desk::Keep;
+use lists::words::Words;
+use message::Kind;
+pub mod codes;
+pub mod request;
+ghost use mathlib.Core.Path.{_≡_};
+ghost use Rattle.terms.specs.Terms.{noTerms, termsAt, termsPut, withChoices};
+
+// How many words the terms take. They stand at the front of a record's words, and the state behind them.
+pub const WIDTH: usize = 10;
+
+pub struct Terms {
+    pub identifier: Words,
+    pub numberA: Words,
+    pub numberB: Words,
+    pub service: u64,
+    pub kind: Kind,
+    pub keep: Keep,
+    pub connection: Connection,
+}
+
+// No terms: what a free place has.
+pub fn no_terms() -> Terms
+    ensures { λ r. ⌜ r ≡ noTerms ⌝ }
+{
+    let none = Words { low: 0, high: 0 };
+    Terms {
+        identifier: none,
+        numberA: none,
+        numberB: none,
+        service: 0,
+        kind: Kind::Ccbs,
+        keep: Keep::Empty,
+        connection: Connection::Empty,
+    }
+}
+
+// The terms at the front of some words; of too few words, none.
+pub fn terms_of(row: &[u64]) -> Terms
+    ensures { λ r. ⌜ r ≡ termsAt (now (row .entry)) ⌝ }
+{
+    if WIDTH <= row.len() {
+        let identifier = Words {
+            low: row[0],
+            high: row[1],
+        };
+        let numberA = Words {
+            low: row[2],
+            high: row[3],
+        };
+        let numberB = Words {
+            low: row[4],
+            high: row[5],
+        };
+        let kind = kind_of(row[7]);
+        let keep = keep_of(row[8]);
+        let connection = connection_of(row[9]);
+        return Terms {
+            identifier,
+            numberA,
+            numberB,
+            service: row[6],
+            kind,
+            keep,
+            connection,
+        };
+    }
+    no_terms()
+}
+
+// Terms put over the front of some words; too few words stay as they are.
+pub fn put_terms(row: &mut [u64], terms: Terms)
+    ensures { λ r. ⌜ now (row .exit) ≡ termsPut terms (now (row .entry)) ⌝ }
+{
+    if WIDTH <= row.len() {
+        let identifier = terms.identifier;
+        let numberA = terms.numberA;
+        let numberB = terms.numberB;
+        let kind = terms.kind;
+        let keep = terms.keep;
+        let connection = terms.connection;
+        row[0] = identifier.low;
+        row[1] = identifier.high;
+        row[2] = numberA.low;
+        row[3] = numberA.high;
+        row[4] = numberB.low;
+        row[5] = numberB.high;
+        row[6] = terms.service;
+        row[7] = kind_code(kind);
+        row[8] = keep_code(keep);
+        row[9] = connection_code(connection);
+    }
+}
+
+// The terms with the two choices.
+pub fn with_choices(terms: Terms, keep: Keep, connection: Connection) -> Terms
+    ensures { λ r. ⌜ r ≡ withChoices terms keep connection ⌝ }
+{
+    let identifier = terms.identifier;
+    let numberA = terms.numberA;
+    let numberB = terms.numberB;
+    let kind = terms.kind;
+    Terms {
+        identifier,
+        numberA,
+        numberB,
+        service: terms.service,
+        kind,
+        keep,
+        connection,
+    }
+}
