@@ -17,15 +17,15 @@ pub enum State {
 }
 
 pub enum Row {
-    // result in Wait-Ack (8.1.1.3; T2 by 8.1.1.1 and 8.1.1.2)
+    // type 3, result, in Wait-Ack (8.1.1.3; T2 by 8.1.1.1 and 8.1.1.2)
     Accepted,
-    // request error 1 in Wait-Ack (8.1.2.1)
+    // type 4, request error 1 (short), in Wait-Ack (8.1.2.1)
     DeniedShort,
-    // request error 2 in Wait-Ack (8.1.2.1)
+    // type 4, request error 2 (long), in Wait-Ack (8.1.2.1)
     DeniedLong,
-    // ccExecPossible in Invoked, User A not busy (8.1.1.4)
+    // type 5, ccExecPossible, in Invoked, User A not busy (8.1.1.4)
     Recalls,
-    // ccExecPossible in Invoked, User A busy (8.1.1.5)
+    // type 5, ccExecPossible, in Invoked, User A busy (8.1.1.5)
     Suspends,
     // accept in Wait-Answer (8.1.1.4)
     RingsOut,
@@ -33,17 +33,17 @@ pub enum Row {
     Resumes,
     // User A free in Suspended: go on to recall (8.1.1.5, last paragraph)
     GoesOn,
-    // call alerts in Ringout (8.1.1.4)
+    // type 11, call alerts, in Ringout (8.1.1.4)
     Completes,
-    // call failed in Ringout (8.1.2.4, last paragraph, and 8.1.1.6 a: mend M2)
+    // type 12, call failed, in Ringout (8.1.2.4, last paragraph, and 8.1.1.6 a: mend M2)
     CallFails,
-    // ringout error 1 in Ringout, keep chosen (8.1.2.4)
+    // type 7, ringout error 1 (busy again), in Ringout, keep chosen (8.1.2.4)
     BusyAgainKept,
-    // ringout error 1 in Ringout, keep not chosen (8.1.2.4)
+    // type 7, ringout error 1 (busy again), in Ringout, keep not chosen (8.1.2.4)
     BusyAgainEnded,
-    // ringout error 2 in Ringout (8.1.2.4)
+    // type 7, ringout error 2 (failureToMatch), in Ringout (8.1.2.4)
     NotMatched,
-    // ccCancel received (8.1.1.6 b: mend M4)
+    // type 10, ccCancel, received (8.1.1.6 b: mend M4)
     LineCancels,
     // user's cancel (8.1.1.6 a)
     UserCancels,
