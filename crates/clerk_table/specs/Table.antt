@@ -58,49 +58,63 @@ abbrev cleared : Cell clearing → Bool
 cleared nothing = false
 cleared clears = true
 
-abbrev row : Home → Next → Cell sending → Cell starting → Cell stopping → Cell noticing → Cell clearing → Effect
+-- a row of the table: where it is taken, and what it does
+pub record Rule : Type 0 where
+  pub home : Home
+  pub effect : Effect
+
+abbrev row : Home → Next → Cell sending → Cell starting → Cell stopping → Cell noticing → Cell clearing → Rule
 row home next message start stop notice call =
-    record { home = home; next = next; sends = sent message; starts = started start; stops = stopped stop; notice = noticed notice; clears = cleared call }
+    record {
+      home = home;
+      effect = record { next = next; sends = sent message; starts = started start; stops = stopped stop; notice = noticed notice; clears = cleared call };
+    }
 
 -- ---- the table
 -- taken in · then · sends · starts · stops · notice · clears the call
-abbrev pub effectOf : Row → Effect
+abbrev pub ruleOf : Row → Rule
 -- type 3, result, in Wait-Ack (8.1.1.3; T2 by 8.1.1.1 and 8.1.1.2)
-effectOf Accepted = row InWaitAck (To Invoked) nothing (starts T2) (stops T1) (says Says.Accepted) nothing
+ruleOf Accepted = row InWaitAck (To Invoked) nothing (starts T2) (stops T1) (says Says.Accepted) nothing
 -- type 4, request error 1 (short), in Wait-Ack (8.1.2.1)
-effectOf DeniedShort = row InWaitAck Gone nothing nothing all (says Says.DeniedShort) nothing
+ruleOf DeniedShort = row InWaitAck Gone nothing nothing all (says Says.DeniedShort) nothing
 -- type 4, request error 2 (long), in Wait-Ack (8.1.2.1)
-effectOf DeniedLong = row InWaitAck Gone nothing nothing all (says Says.DeniedLong) nothing
+ruleOf DeniedLong = row InWaitAck Gone nothing nothing all (says Says.DeniedLong) nothing
 -- type 5, ccExecPossible, in Invoked, User A not busy (8.1.1.4)
-effectOf Recalls = row InInvoked (To WaitAnswer) nothing (starts T3) nothing (says Says.Recall) nothing
+ruleOf Recalls = row InInvoked (To WaitAnswer) nothing (starts T3) nothing (says Says.Recall) nothing
 -- type 5, ccExecPossible, in Invoked, User A busy (8.1.1.5)
-effectOf Suspends = row InInvoked (To Suspended) (sends CcSuspend) nothing nothing nothing nothing
+ruleOf Suspends = row InInvoked (To Suspended) (sends CcSuspend) nothing nothing nothing nothing
 -- accept in Wait-Answer (8.1.1.4)
-effectOf RingsOut = row InWaitAnswer (To Ringout) (sends CcRingout) nothing (stops T3) nothing nothing
+ruleOf RingsOut = row InWaitAnswer (To Ringout) (sends CcRingout) nothing (stops T3) nothing nothing
 -- User A free in Suspended: resume (8.1.1.5, of RLS too: the connection choice is for life)
-effectOf Resumes = row InSuspended (To Invoked) (sends CcResume) nothing nothing nothing nothing
+ruleOf Resumes = row InSuspended (To Invoked) (sends CcResume) nothing nothing nothing nothing
 -- User A free in Suspended: go on to recall (8.1.1.5, last paragraph)
-effectOf GoesOn = row InSuspended (To WaitAnswer) nothing (starts T3) nothing (says Says.Recall) nothing
+ruleOf GoesOn = row InSuspended (To WaitAnswer) nothing (starts T3) nothing (says Says.Recall) nothing
 -- type 11, call alerts, in Ringout (8.1.1.4)
-effectOf Completes = row InRingout Gone nothing nothing all (says Says.Completed) nothing
+ruleOf Completes = row InRingout Gone nothing nothing all (says Says.Completed) nothing
 -- type 12, call failed, in Ringout (8.1.2.4, last paragraph, and 8.1.1.6 a: mend M2)
-effectOf CallFails = row InRingout Gone (sends CcCancel) nothing all (says Says.Failed) nothing
+ruleOf CallFails = row InRingout Gone (sends CcCancel) nothing all (says Says.Failed) nothing
 -- type 7, ringout error 1 (busy again), in Ringout, keep chosen (8.1.2.4)
-effectOf BusyAgainKept = row InRingout (To Invoked) nothing nothing nothing (says Says.BusyAgainKept) nothing
+ruleOf BusyAgainKept = row InRingout (To Invoked) nothing nothing nothing (says Says.BusyAgainKept) nothing
 -- type 7, ringout error 1 (busy again), in Ringout, keep not chosen (8.1.2.4)
-effectOf BusyAgainEnded = row InRingout Gone nothing nothing all (says Says.BusyAgainEnded) nothing
+ruleOf BusyAgainEnded = row InRingout Gone nothing nothing all (says Says.BusyAgainEnded) nothing
 -- type 7, ringout error 2 (failureToMatch), in Ringout (8.1.2.4)
-effectOf NotMatched = row InRingout Gone nothing nothing all (says Says.Failed) nothing
+ruleOf NotMatched = row InRingout Gone nothing nothing all (says Says.Failed) nothing
 -- type 10, ccCancel, received (8.1.1.6 b: mend M4)
-effectOf LineCancels = row Always Gone nothing nothing all (says Says.Failed) clears
+ruleOf LineCancels = row Always Gone nothing nothing all (says Says.Failed) clears
 -- user's cancel (8.1.1.6 a)
-effectOf UserCancels = row Always Gone (sends CcCancel) nothing all (says Says.Cancelled) clears
+ruleOf UserCancels = row Always Gone (sends CcCancel) nothing all (says Says.Cancelled) clears
 -- T1 reported (8.1.2.1; the ccCancel is document 01's)
-effectOf T1RunsOut = row InWaitAck Gone (sends CcCancel) nothing all (says Says.Failed) nothing
+ruleOf T1RunsOut = row InWaitAck Gone (sends CcCancel) nothing all (says Says.Failed) nothing
 -- T2 reported (8.1.2.2; not in Ringout: mend M1)
-effectOf T2RunsOut = row WhereT2Counts Gone (sends CcCancel) nothing all (says Says.Failed) nothing
+ruleOf T2RunsOut = row WhereT2Counts Gone (sends CcCancel) nothing all (says Says.Failed) nothing
 -- T3 reported (8.1.2.3)
-effectOf T3RunsOut = row InWaitAnswer Gone (sends CcCancel) nothing all (says Says.Failed) nothing
+ruleOf T3RunsOut = row InWaitAnswer Gone (sends CcCancel) nothing all (says Says.Failed) nothing
+
+abbrev pub homeOf : Row → Home
+homeOf row = ruleOf row .home
+
+abbrev pub effectOf : Row → Effect
+effectOf row = ruleOf row .effect
 
 -- the states in which a row is taken; a free place has no row
 abbrev pub holdsIn : Home → State → Bool
