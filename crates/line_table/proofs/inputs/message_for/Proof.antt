@@ -1,7 +1,7 @@
 -- A line for each type.
 use borrow.Author.Needs.{needs}
-use Rattle.line_table.proofs.inputs.meant_by.Statement.{statement}
-use Rattle.line_table.proofs.inputs.meant_by.Tie as tie
+use Rattle.line_table.proofs.inputs.message_for.Statement.{statement}
+use Rattle.line_table.proofs.inputs.message_for.Tie as tie
 
 enum-known-body : tie.Need-enum-known-body
 enum-known-body c = search needs
@@ -75,8 +75,8 @@ returns-11 c = search needs
 returns-12 : tie.Need-returns-12
 returns-12 c = search needs
 
-pub meant-by-spec : {M : Type 1} → statement M
-meant-by-spec =
+pub message-for-spec : {M : Type 1} → statement M
+message-for-spec =
     tie.close
     (tie.spec
     enum-known-body
