@@ -9,9 +9,13 @@ use native.Mathlib.Omega.{arith}
 use Rattle.lists.specs.Words.{Bytes, wordsOf, bytesOf}
 use Rattle.lists.proofs.WordsLaws.{bytes-append, bytes-take, bytes-drop, bytes-words}
 use Rattle.message.specs.Number.{digitsInRange, digitsBytes, sixteen}
+use Rattle.message.specs.Equality.{normal, normalNumber}
+use Rattle.message.specs.declared.Message.{Message}
+use Rattle.message.specs.declared.Body.{Body}
+use Rattle.message.specs.declared.Body.the-variants.{CcbsRequest, CcnrRequest, RequestResult, RequestError, CcExecPossible, CcRingout, RingoutError, CcSuspend, CcResume, CcCancel, CallAlerts, CallFailed}
 use Rattle.message.proofs.RangeLaws.{digits-few, digits-length}
 use Rattle.message.proofs.NumberBack.{digits-back}
-use Rattle.desk.specs.Letter.{numberWords}
+use Rattle.desk.specs.Letter.{numberWords, letterOf, readLetter}
 
 bytes-zeros : (n : ℕ) → Bytes (replicate n 0)
 bytes-zeros zero i = omega arith
@@ -64,3 +68,25 @@ module _ (g : List ℕ) (low : ℕ) (l : length g ≡ 16) (b : Bytes g) (ok : di
   -- words that are read again are the same words
   pub number-same : numberWords (bytesOf (numberWords g)) ≡ numberWords g
   number-same = ap numberWords normal-back ∙ normal-words
+
+-- ---- a message that is its own normal form
+-- the normal form of a normal form is the same; of zeros, zeros
+normal-again : (body : Body) (number : List ℕ) → normalNumber body number ≡ number → numberWords number ≡ wordsOf number
+unfolding numberWords
+normal-again (CcbsRequest service flags) number e = ap wordsOf e
+normal-again (CcnrRequest service flags) number e = ap wordsOf e
+normal-again (RequestResult keep) number e = rw (← e)
+normal-again (RequestError error) number e = rw (← e)
+normal-again CcExecPossible number e = rw (← e)
+normal-again CcRingout number e = rw (← e)
+normal-again (RingoutError error) number e = rw (← e)
+normal-again CcSuspend number e = rw (← e)
+normal-again CcResume number e = rw (← e)
+normal-again CcCancel number e = rw (← e)
+normal-again CallAlerts number e = rw (← e)
+normal-again CallFailed number e = rw (← e)
+
+pub letter-read : (m : Message) → normal m ≡ m → letterOf m ≡ readLetter m
+unfolding letterOf readLetter normal
+letter-read m e =
+    rw (normal-again (m .body) (m .numberA) (ap (λ (x : Message). x .numberA) e), normal-again (m .body) (m .numberB) (ap (λ (x : Message). x .numberB) e))

@@ -21,6 +21,17 @@ letterOf m =
       body = m .body;
     }
 
+-- the words as they stand: for a message that was read, which is its own normal form, the same letter
+unfoldable pub readLetter : Message → Letter
+readLetter m =
+    record {
+      carrier = m .carrier;
+      identifier = wordsOf (m .identifier);
+      numberA = wordsOf (m .numberA);
+      numberB = wordsOf (m .numberB);
+      body = m .body;
+    }
+
 unfoldable pub messageOf : Letter → Message
 messageOf l =
     record {

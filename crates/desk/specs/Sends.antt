@@ -27,3 +27,8 @@ sent (Sent.One body) identifier connection = Sending.Send (plainLetter identifie
 -- an answer in Release Complete with the identifier of what it answers: the reply to a refused message, the error of a request that is denied
 abbrev pub replied : Words → Body → Sending
 replied identifier body = Sending.Send (plainLetter identifier ReleaseComplete body)
+
+-- the answer that goes with a refusal, or none
+abbrev pub answered : Words → Sends → Sending
+answered identifier Sent.Nothing = Sending.Nothing
+answered identifier (Sent.One body) = replied identifier body

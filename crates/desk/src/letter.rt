@@ -7,7 +7,7 @@ use message::Carrier;
 use message::Message;
 use message::digits::normal_number;
 ghost use mathlib.Core.Path.{_≡_};
-ghost use Rattle.desk.specs.Letter.{numberWords, letterOf, messageOf};
+ghost use Rattle.desk.specs.Letter.{numberWords, letterOf, readLetter, messageOf};
 
 pub struct Letter {
     pub carrier: Carrier,
@@ -37,6 +37,27 @@ pub fn letter_of(m: Message) -> Letter
     let id = words_of(identifier);
     let numberA = number_words(a);
     let numberB = number_words(b);
+    Letter {
+        carrier,
+        identifier: id,
+        numberA,
+        numberB,
+        body,
+    }
+}
+
+// The letter of a message that was read: it is its own normal form, so its numbers are taken as they stand.
+pub fn read_letter(m: Message) -> Letter
+    ensures { λ r. ⌜ r ≡ readLetter m ⌝ }
+{
+    let carrier = m.carrier;
+    let identifier = m.identifier;
+    let a = m.numberA;
+    let b = m.numberB;
+    let body = m.body;
+    let id = words_of(identifier);
+    let numberA = words_of(a);
+    let numberB = words_of(b);
     Letter {
         carrier,
         identifier: id,

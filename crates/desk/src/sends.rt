@@ -7,9 +7,9 @@ use lists::words::Words;
 use message::Body;
 use message::Carrier;
 ghost use mathlib.Core.Path.{_≡_};
-ghost use Rattle.desk.specs.Sends.{plainLetter, sent, replied};
+ghost use Rattle.desk.specs.Sends.{plainLetter, sent, replied, answered};
 
-// What a row of a table sends.
+// What a row of a table sends, or what is replied.
 pub enum Sends {
     Nothing,
     One(Body),
@@ -47,4 +47,14 @@ pub fn reply_with(identifier: Words, body: Body) -> Sending
     ensures { λ r. ⌜ r ≡ replied identifier body ⌝ }
 {
     Sending::Send(plain_letter(identifier, Carrier::ReleaseComplete, body))
+}
+
+// The answer that goes with a refusal, or none.
+pub fn answer_with(identifier: Words, answer: Sends) -> Sending
+    ensures { λ r. ⌜ r ≡ answered identifier answer ⌝ }
+{
+    match answer {
+        Sends::Nothing => Sending::Nothing,
+        Sends::One(body) => reply_with(identifier, body),
+    }
 }

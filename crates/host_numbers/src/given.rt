@@ -2,8 +2,8 @@
 use clerk::steps::Asking;
 use clerk_table::inputs::Act as ClerkAct;
 use clerk_table::table::Timer;
-use terms::codes::kind_of;
 use line_table::inputs::Act as LineAct;
+use terms::codes::kind_of;
 ghost use mathlib.Core.Path.{_≡_};
 ghost use Prim.Native.Nat.{_<_};
 ghost use Rattle.host_numbers.specs.Given.{clerkAct, timer, lineAct, askWords, askingOf};

@@ -1,15 +1,15 @@
 // What a host is shown of a record or a line, as bytes and plain numbers.
 use clerk_records::codes::state_code as clerk_state_code;
 use clerk_table::record::Record as ClerkRecord;
-use terms::codes::connection_code;
-use terms::codes::flag_code;
-use terms::codes::keep_code;
-use terms::codes::kind_code;
 use line_records::codes::state_code as line_state_code;
 use line_table::line::Line;
 use line_table::record::Record as LineRecord;
 use lists::words::Words;
 use lists::words::bytes_of;
+use terms::codes::connection_code;
+use terms::codes::flag_code;
+use terms::codes::keep_code;
+use terms::codes::kind_code;
 ghost use mathlib.Core.Path.{_≡_};
 ghost use Rattle.lists.specs.Words.{bytesOf};
 ghost use Rattle.host_numbers.specs.Shown.{clerkNumbers, lineNumbers, kindsNumber};

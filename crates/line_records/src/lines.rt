@@ -1,9 +1,9 @@
 // The lines and settings of a line desk, in words that the caller lends.
-use terms::codes::flag_code;
 use line_table::line::Line;
 use lists::Found;
 use lists::words::Words;
 use lists::words::same_words;
+use terms::codes::flag_code;
 ghost use mathlib.Core.Path.{_≡_};
 ghost use Prim.Native.Nat.{_≤_, _<_, _+_, _*_};
 ghost use lib.ListN.{length, getD};

@@ -1,6 +1,9 @@
 // The places of a line desk: a record is found, loaded, put and removed, in words that the caller lends.
 use crate::codes::state_code;
 use crate::codes::state_of;
+use line_table::record::Record;
+use lists::Found;
+use lists::words::Words;
 use terms::codes::connection_code;
 use terms::codes::connection_of;
 use terms::codes::flag_code;
@@ -8,9 +11,6 @@ use terms::codes::keep_code;
 use terms::codes::keep_of;
 use terms::codes::kind_code;
 use terms::codes::kind_of;
-use line_table::record::Record;
-use lists::Found;
-use lists::words::Words;
 ghost use mathlib.Core.Path.{_≡_};
 ghost use Prim.Native.Nat.{_≤_, _<_};
 ghost use lib.ListN.{length, getD};

@@ -2,6 +2,7 @@
 use Prim.Native.Nat.{ℕ}
 use mathlib.Core.Path.{_≡_, refl, sym}
 use native.Mathlib.Omega.{arith}
+use Rattle.lists.proofs.OneResult.{one-told}
 use Rattle.message.specs.Reading.{Read, took, refused, andThen}
 use Rattle.message.specs.Answers.{numberTold, placeTold}
 use Rattle.message.specs.declared.number.NumberRead.{NumberRead}
@@ -31,3 +32,10 @@ place-one (P.Taken n) (P.Taken m) e = cc
 place-one (P.Taken n) (P.Refused y) e = absurd (never-took (sym e))
 place-one (P.Refused x) (P.Taken m) e = absurd (never-took e)
 place-one (P.Refused x) (P.Refused y) e = cc
+
+-- ---- so a promise of what an answer tells allows one answer
+pub one-number : (r r′ : NumberRead) {definition : Read ℕ} → numberTold r ≡ definition → numberTold r′ ≡ definition → r ≡ r′
+one-number r r′ = one-told numberTold number-one r r′
+
+pub one-place : (r r′ : PlaceRead) {definition : Read (Unit {0})} → placeTold r ≡ definition → placeTold r′ ≡ definition → r ≡ r′
+one-place r r′ = one-told placeTold place-one r r′

@@ -11,9 +11,9 @@ use clerk::Desk;
 use clerk_records::codes::state_code;
 use clerk_records::places::load;
 use clerk_table::record::Record;
+use host_numbers::shown::kinds_number;
 use terms::codes::flag_code;
 use terms::codes::kind_code;
-use host_numbers::shown::kinds_number;
 
 // What steps change in a record.
 fn put_phase(line: &mut [u8], at: usize, r: Record) -> usize {

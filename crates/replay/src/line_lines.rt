@@ -7,8 +7,6 @@ use crate::record_fields::put_connection;
 use crate::record_fields::put_identifier;
 use crate::record_fields::put_keep;
 use crate::record_fields::put_words_digits;
-use terms::codes::flag_code;
-use terms::codes::kind_code;
 use host_numbers::shown::kinds_number;
 use line_records::codes::state_code;
 use line_records::lines::load_line;
@@ -16,6 +14,8 @@ use line_records::places::load;
 use line_table::line::Line;
 use line_table::record::Record;
 use lists::words::Words;
+use terms::codes::flag_code;
+use terms::codes::kind_code;
 
 // What steps change in a record.
 fn put_phase(line: &mut [u8], at: usize, r: Record) -> usize {

@@ -15,7 +15,8 @@ use Rattle.lists.specs.Parts.{over}
 use Rattle.lists.specs.declared.Found.the-variants.{At, Nothing}
 use Rattle.lists.specs.declared.words.Words.{Words}
 use Rattle.lists.proofs.Lists.{both-parts, first-below, first-holds, first-earlier, first-none}
-use Rattle.store.specs.Rows.{live, free, hasIdentifier, rows, rowAt, putRow, blankRow, dropRow}
+use Rattle.terms.specs.Terms as Terms
+use Rattle.store.specs.Rows.{stateWord, live, free, hasIdentifier, rows, rowAt, putRow, blankRow, dropRow, most, rowsFit}
 
 -- ---- places: row i ends within the rows, and the rows behind it are the rest
 pub place-within : (width count i n : ℕ) → i < count → count * width ≤ n → i * width + width ≤ n
@@ -28,6 +29,19 @@ place-rest width count i h =
     let e : i + 1 + (count - (i + 1)) ≡ count = omega arith in
     let p : (i + 1 + (count - (i + 1))) * width ≡ count * width = ap (λ (n : ℕ). n * width) e in
     omega arith
+
+-- ---- rows that fit
+pub fit-parts : (width count n : ℕ) → rowsFit width count n ≡ true → (Terms.width < width) × (count * width ≤ n)
+unfolding rowsFit
+fit-parts width count n e =
+    let a = both-parts (ltb Terms.width width) (both (leb width most) (both (leb count most) (leb (count * width) n))) e in
+    let b = both-parts (leb width most) (both (leb count most) (leb (count * width) n)) (a .1) in
+    let d = both-parts (leb count most) (leb (count * width) n) (b .1) in
+    (ltb-true _ _ (a .0), leb-true _ _ (d .1))
+
+pub fit-from : (width count n : ℕ) → Terms.width < width → width ≤ most → count ≤ most → count * width ≤ n → rowsFit width count n ≡ true
+unfolding rowsFit
+fit-from width count n a b d e = rw (lt-ltb Terms.width width a, le-leb width most b, le-leb count most d, le-leb (count * width) n e)
 
 -- ---- lists of anything
 -- the n-th taken out, where what stands before it is known
@@ -48,15 +62,15 @@ stores-sets [] ws k j = refl
 stores-sets (x ∷ xs) ws k j = stores-sets xs (set ws (k + j) x) k (suc j) ∙ rw (add-suc k j)
 
 -- ---- what a row's tests say of its words
-pub live-state : (top : ℕ) (row : List ℕ) → live top row ≡ true → (0 < getD row 8 0) × (getD row 8 0 ≤ top)
+pub live-state : (top : ℕ) (row : List ℕ) → live top row ≡ true → (0 < stateWord row) × (stateWord row ≤ top)
 unfolding live
 live-state top row e =
-    let h = both-parts (ltb 0 (getD row 8 0)) (leb (getD row 8 0) top) e in
+    let h = both-parts (ltb 0 (stateWord row)) (leb (stateWord row) top) e in
     (ltb-true _ _ (h .0), leb-true _ _ (h .1))
 
-pub state-live : (top : ℕ) (row : List ℕ) → 0 < getD row 8 0 → getD row 8 0 ≤ top → live top row ≡ true
+pub state-live : (top : ℕ) (row : List ℕ) → 0 < stateWord row → stateWord row ≤ top → live top row ≡ true
 unfolding live
-state-live top row a b = rw (lt-ltb 0 (getD row 8 0) a, le-leb (getD row 8 0) top b)
+state-live top row a b = rw (lt-ltb 0 (stateWord row) a, le-leb (stateWord row) top b)
 
 pub identifier-parts :
     (top : ℕ) (identifier : Words) (row : List ℕ) → hasIdentifier top identifier row ≡ true →
@@ -224,11 +238,11 @@ module _ (width : ℕ) where
       (rows-cons n (blankRow width) (replicate (n * width) 0) (length-replicate width 0)
       ∙ ap {B = List (List ℕ)} (λ r. blankRow width ∷ r) (rows-blank n))
 
-  -- ---- a row's tests look at no word behind its ninth
-  module _ (wide : 9 ≤ width) (top : ℕ) (row : List ℕ) where
+  -- ---- a row's tests look at no word behind its state
+  module _ (wide : Terms.width < width) (top : ℕ) (row : List ℕ) where
     pub live-take : live top (take width row) ≡ live top row
     unfolding live
-    live-take = rw (getD-take width row 8 0)
+    live-take = rw (getD-take width row Terms.width 0)
 
     pub free-take : free top (take width row) ≡ free top row
     unfolding free
@@ -239,9 +253,9 @@ module _ (width : ℕ) where
     identifier-take identifier = rw (getD-take width row 0 0 (omega arith), getD-take width row 1 0 (omega arith), live-take)
 
   -- the place of a blank row is free
-  pub blank-free : 9 ≤ width → (top : ℕ) → free top (blankRow width) ≡ true
+  pub blank-free : Terms.width < width → (top : ℕ) → free top (blankRow width) ≡ true
   unfolding free live
-  blank-free wide top = rw (getD-replicate {A = ℕ} width 8 0 0 wide)
+  blank-free wide top = rw (getD-replicate {A = ℕ} width Terms.width 0 0 wide)
 
   -- ---- what a search of the rows says of the places, by any test
   module _ (p : List ℕ → Bool) (count : ℕ) (ws : List ℕ) where

@@ -3,14 +3,22 @@ use Prim.Native.Nat.{ℕ, zero, suc, _+_, _-_, _*_}
 use mathlib.Core.Bool.{Bool, not}
 use mathlib.Core.List.{List, [], _∷_, _++_}
 use lib.Dec.{leb, ltb, eqb}
-use lib.ListN.{getD, take, drop, replicate}
-use Rattle.lists.specs.Lists.{both}
+use lib.ListN.{length, getD, take, drop, replicate}
+use Rattle.lists.specs.Choice.{pick}
+use Rattle.lists.specs.Lists.{both, first}
 use Rattle.lists.specs.Parts.{over}
+use Rattle.lists.specs.declared.Found.{Found}
+use Rattle.lists.specs.declared.Found.the-variants.{Nothing}
 use Rattle.lists.specs.declared.words.Words.{Words}
+use Rattle.terms.specs.Terms as Terms
 
--- a row is live exactly if its state, word 8, is from 1 to top
+-- the word of a row's state stands behind its terms
+abbrev pub stateWord : List ℕ → ℕ
+stateWord row = getD row Terms.width 0
+
+-- a row is live exactly if its state is from 1 to top
 unfoldable pub live : ℕ → List ℕ → Bool
-live top row = both (ltb 0 (getD row 8 0)) (leb (getD row 8 0) top)
+live top row = both (ltb 0 (stateWord row)) (leb (stateWord row) top)
 
 -- otherwise its place is free
 unfoldable pub free : ℕ → List ℕ → Bool
@@ -45,3 +53,17 @@ dropRow width count ws i =
     ++ take ((count - (i + 1)) * width) (drop ((i + 1) * width) ws)
     ++ blankRow width
     ++ drop (count * width) ws
+
+-- ---- whether so many rows stand at the front of so many words, each with terms and a state
+abbrev pub most : ℕ
+most = 65536
+
+unfoldable pub rowsFit : ℕ → ℕ → ℕ → Bool
+rowsFit width count words = both (ltb Terms.width width) (both (leb width most) (both (leb count most) (leb (count * width) words)))
+
+-- the first row that passes a test, and a row taken out; where the rows don't fit, none, and nothing changes
+unfoldable pub found : (List ℕ → Bool) → ℕ → ℕ → List ℕ → Found
+found test width count ws = pick (rowsFit width count (length ws)) (first test (rows width count ws)) Nothing
+
+unfoldable pub removedRow : ℕ → ℕ → List ℕ → ℕ → List ℕ
+removedRow width count ws i = pick (rowsFit width count (length ws)) (pick (ltb i count) (dropRow width count ws i) ws) ws

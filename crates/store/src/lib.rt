@@ -1,4 +1,5 @@
-// Rows of words in a lent slice, for the desks; these functions ask for a place that is there, so they are no public operations.
+// Rows of words in a lent slice, at any width and count: what both desks keep their records in. A row begins with a record's terms, of which the identifier stands
+// first, and its state stands behind them. An inner room of both desks: its functions are no public operations.
 use lists::Found;
 use lists::words::Words;
 ghost use mathlib.Core.Path.{_≡_};
@@ -6,28 +7,48 @@ ghost use Prim.Native.Nat.{_+_, _*_, _≤_, _<_};
 ghost use lib.ListN.{length, drop};
 ghost use lib.Seq.{paste};
 ghost use Rattle.lists.specs.Lists.{first};
-ghost use Rattle.store.specs.Rows.{live, free, hasIdentifier, rows, blankRow, dropRow};
+ghost use Rattle.terms.specs.Terms.{width as termsWidth};
+ghost use Rattle.store.specs.Rows.{live, free, hasIdentifier, rows, blankRow, dropRow, most, rowsFit, found, removedRow};
+
+// No desk has more rows, or longer ones: up to here the count of their words is no overflow.
+const MOST: usize = 65536;
+
+// Whether so many rows stand at the front of so many words, each with terms and a state.
+fn rows_fit(length: usize, width: usize, count: usize) -> bool
+    ensures { λ r. ⌜ r ≡ rowsFit width count length ⌝ }
+{
+    if terms::WIDTH < width {
+        if width <= MOST {
+            if count <= MOST {
+                return count * width <= length;
+            }
+            return false;
+        }
+        return false;
+    }
+    false
+}
 
 // Whether the row that starts at word `at` is live.
-pub fn is_live(ws: &[u64], at: usize, top: u64) -> bool
-    requires { ⌜ at + 9 ≤ length (now ws) ⌝ }
+fn is_live(ws: &[u64], at: usize, top: u64) -> bool
+    requires { ⌜ at + termsWidth < length (now ws) ⌝ }
     ensures { λ r. ⌜ r ≡ live top (drop at (now (ws .entry))) ⌝ }
 {
-    let state = ws[at + 8];
+    let state = ws[at + terms::WIDTH];
     if 0 < state { state <= top } else { false }
 }
 
 // Whether the row that starts at word `at` is free.
 fn is_free(ws: &[u64], at: usize, top: u64) -> bool
-    requires { ⌜ at + 9 ≤ length (now ws) ⌝ }
+    requires { ⌜ at + termsWidth < length (now ws) ⌝ }
     ensures { λ r. ⌜ r ≡ free top (drop at (now (ws .entry))) ⌝ }
 {
     !is_live(ws, at, top)
 }
 
 // Whether the row that starts at word `at` is live and has this identifier: its low word first, which tells most rows apart.
-pub fn has_identifier(ws: &[u64], at: usize, identifier: Words, top: u64) -> bool
-    requires { ⌜ at + 9 ≤ length (now ws) ⌝ }
+fn has_identifier(ws: &[u64], at: usize, identifier: Words, top: u64) -> bool
+    requires { ⌜ at + termsWidth < length (now ws) ⌝ }
     ensures { λ r. ⌜ r ≡ hasIdentifier top identifier (drop at (now (ws .entry))) ⌝ }
 {
     if ws[at] == identifier.low {
@@ -40,8 +61,8 @@ pub fn has_identifier(ws: &[u64], at: usize, identifier: Words, top: u64) -> boo
 }
 
 // The place of the first live row with this identifier.
-pub fn find(ws: &[u64], width: usize, count: usize, identifier: Words, top: u64) -> Found
-    requires { ⌜ (9 ≤ width) × (count * width ≤ length (now ws)) ⌝ }
+fn find_in(ws: &[u64], width: usize, count: usize, identifier: Words, top: u64) -> Found
+    requires { ⌜ (termsWidth < width) × (count * width ≤ length (now ws)) ⌝ }
     ensures { λ r. ⌜ r ≡ first (hasIdentifier top identifier) (rows width count (now (ws .entry))) ⌝ }
 {
     let mut i = 0;
@@ -57,8 +78,8 @@ pub fn find(ws: &[u64], width: usize, count: usize, identifier: Words, top: u64)
 }
 
 // The first free place.
-pub fn find_free(ws: &[u64], width: usize, count: usize, top: u64) -> Found
-    requires { ⌜ (9 ≤ width) × (count * width ≤ length (now ws)) ⌝ }
+fn find_free_in(ws: &[u64], width: usize, count: usize, top: u64) -> Found
+    requires { ⌜ (termsWidth < width) × (count * width ≤ length (now ws)) ⌝ }
     ensures { λ r. ⌜ r ≡ first (free top) (rows width count (now (ws .entry))) ⌝ }
 {
     let mut i = 0;
@@ -69,6 +90,26 @@ pub fn find_free(ws: &[u64], width: usize, count: usize, top: u64) -> Found
         }
         i += 1;
         at += width;
+    }
+    Found::Nothing
+}
+
+// The place of the first live row with this identifier; where the rows don't fit, none.
+pub fn find(ws: &[u64], width: usize, count: usize, identifier: Words, top: u64) -> Found
+    ensures { λ r. ⌜ r ≡ found (hasIdentifier top identifier) width count (now (ws .entry)) ⌝ }
+{
+    if rows_fit(ws.len(), width, count) {
+        return find_in(ws, width, count, identifier, top);
+    }
+    Found::Nothing
+}
+
+// The first free place; where the rows don't fit, none.
+pub fn find_free(ws: &[u64], width: usize, count: usize, top: u64) -> Found
+    ensures { λ r. ⌜ r ≡ found (free top) width count (now (ws .entry)) ⌝ }
+{
+    if rows_fit(ws.len(), width, count) {
+        return find_free_in(ws, width, count, top);
     }
     Found::Nothing
 }
@@ -98,7 +139,7 @@ fn blank(ws: &mut [u64], at: usize, width: usize)
 }
 
 // The row at place i taken out: the later rows move one place to the left, and the last place is left blank.
-pub fn remove(ws: &mut [u64], width: usize, count: usize, i: usize)
+fn remove_in(ws: &mut [u64], width: usize, count: usize, i: usize)
     requires { ⌜ (i < count) × (count * width ≤ length (now ws)) ⌝ }
     ensures { λ r. ⌜ now (ws .exit) ≡ dropRow width count (now (ws .entry)) i ⌝ }
 {
@@ -106,4 +147,15 @@ pub fn remove(ws: &mut [u64], width: usize, count: usize, i: usize)
     let later = (count - (i + 1)) * width;
     shift(ws, at, width, later);
     blank(ws, at + later, width);
+}
+
+// The row at place i taken out; where the rows don't fit, or i is no place, nothing changes.
+pub fn remove(ws: &mut [u64], width: usize, count: usize, i: usize)
+    ensures { λ r. ⌜ now (ws .exit) ≡ removedRow width count (now (ws .entry)) i ⌝ }
+{
+    if rows_fit(ws.len(), width, count) {
+        if i < count {
+            remove_in(ws, width, count, i);
+        }
+    }
 }

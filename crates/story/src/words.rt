@@ -2,9 +2,9 @@
 use crate::text::either;
 use crate::text::put_entry;
 use desk::Keep;
-use terms::codes::keep_code;
 use message::Body;
 use message::Carrier;
+use terms::codes::keep_code;
 use writer::numbers::carrier_number;
 
 // The states of both desks, by their entries in the table below: 1 is no record, 0 is for an event that is about no request.

@@ -10,8 +10,10 @@ use desk::Connection;
 use desk::Keep;
 use lists::words::Words;
 use message::Kind;
+
 pub mod codes;
 pub mod request;
+
 ghost use mathlib.Core.Path.{_≡_};
 ghost use Rattle.terms.specs.Terms.{noTerms, termsAt, termsPut, withChoices};
 

@@ -1,12 +1,12 @@
 // An outcome told to a host: its message as bytes at the front of a lent buffer, and the rest as plain numbers. Seven numbers: the refusal; the bytes of the
 // message written, 0 for none; the first unread place; timers started; timers stopped; the notice; whether to clear the call. An inner room of the
 // library's face and of the programs: its functions are no public operations.
-use terms::codes::flag_code;
 use desk::letter::message_of;
 use desk::outcome::Notice;
 use desk::outcome::Outcome;
 use desk::outcome::Sending;
 use desk::outcome::Timers;
+use terms::codes::flag_code;
 use writer::Written;
 ghost use mathlib.Core.Path.{_≡_};
 ghost use Prim.Native.Nat.{_≤_};

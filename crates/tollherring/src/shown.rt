@@ -1,7 +1,6 @@
 // What a desk holds, for hosts that show it: the record or line of a place, as bytes and plain numbers.
 use clerk_records::codes::state_code as clerk_state_code;
 use clerk_records::places::load as load_clerk;
-use terms::codes::flag_code;
 use host_numbers::shown::clerk_numbers;
 use host_numbers::shown::kinds_number;
 use host_numbers::shown::line_numbers;
@@ -12,6 +11,7 @@ use line_records::places::load as load_record;
 use lists::words::Words;
 use lists::words::bytes_of;
 use lists::words::same_words;
+use terms::codes::flag_code;
 ghost use mathlib.Core.Path.{_≡_};
 ghost use Rattle.tollherring.specs.Shown.{shown, clerkShown, lineShown, lineAtShown, shownLine};
 

@@ -1,7 +1,8 @@
--- The state is word 8 of the row, and each answer is the definition's at the outcome of the test against 0. Assumes nothing.
+-- The state stands behind the terms of the row, and each answer is the definition's at the outcome of the test against 0. Assumes nothing.
 use borrow.Author.Tests.{lt-ltb, le-ltb}
 use denote.Ref.{now}
 use lib.Seq.{getD-drop}
+use Rattle.terms.specs.Terms as Terms
 use Rattle.store.specs.Rows.{live}
 use borrow.Author.Needs.{needs}
 use Rattle.store.proofs.is_live.Statement.{statement}
@@ -20,13 +21,13 @@ returns : tie.Need-returns
 unfolding live
 returns c =
     let a = c .before .before .args in
-    simp (getD-drop (a .at) (now (a .ws)) 8 0, lt-ltb _ _ (c .if1 .taken))
+    simp (getD-drop (a .at) (now (a .ws)) Terms.width 0, lt-ltb _ _ (c .if1 .taken))
 
 returns-2 : tie.Need-returns-2
 unfolding live
 returns-2 c =
     let a = c .before .before .args in
-    simp (getD-drop (a .at) (now (a .ws)) 8 0, le-ltb _ _ (c .if1 .left))
+    simp (getD-drop (a .at) (now (a .ws)) Terms.width 0, le-ltb _ _ (c .if1 .left))
 
 pub is-live-spec : {M : Type 1} → statement M
 is-live-spec = tie.close (tie.spec add-state mul-state shared-slice-read-state returns returns-2)

@@ -1,65 +1,37 @@
--- The words of the later rows are moved by a row, and the row behind them is blanked. Assumes nothing.
-use Prim.Native.Nat.{_+_, _-_, _*_}
-use mathlib.Core.Path.{_≡_, _∙_}
-use native.Mathlib.Omega.{arith}
-use denote.Ref.{now}
-use Rattle.store.proofs.RowsLaws.{place-rest}
-use Rattle.store.proofs.Turns.{remove-end}
+-- Where the rows fit and the place is one of them, it is the row taken out; else nothing changes.
+use mathlib.Core.Path.{sym, _∙_}
+use borrow.Author.Tests.{lt-ltb, le-ltb}
+use Rattle.store.specs.Rows.{removedRow}
+use Rattle.store.proofs.RowsLaws.{fit-parts}
 use borrow.Author.Needs.{needs}
 use Rattle.store.proofs.remove.Statement.{statement}
 use Rattle.store.proofs.remove.Tie as tie
 
--- the rows before i, row i and the later ones make all
-rest :
-    (c : tie.Start) →
-    c .args .i * c .args .width + c .args .width + (c .args .count - (c .args .i + 1)) * c .args .width ≡ c .args .count * c .args .width
-rest c = place-rest (c .args .width) (c .args .count) (c .args .i) (c .pre .0)
+rows-fit-requires : tie.Need-rows-fit-requires
+rows-fit-requires c κs = search needs
 
-mul-at : tie.Need-mul-at
-mul-at c = omega (arith, rest (c .before), c .before .pre .1)
-
-add-later : tie.Need-add-later
-add-later c = search needs
-
-sub-later : tie.Need-sub-later
-sub-later c = search needs
-
-mul-later : tie.Need-mul-later
-mul-later c = omega (arith, rest (c .before), c .before .pre .1)
-
-shift-requires : tie.Need-shift-requires
-shift-requires c κs = omega (arith, rest (c .before .before), c .before .before .pre .1)
-
-add-blank : tie.Need-add-blank
-add-blank c =
-    let s = c .before .before .before .before .before .before in
-    omega (arith, rest s, s .pre .1)
-
-blank-requires : tie.Need-blank-requires
-blank-requires c κs =
-    let s = c .before .before .before .before .before .before in
-    omega (arith, rest s, s .pre .1, c .before .before .before .shift .kept .0)
+remove-in-requires : tie.Need-remove-in-requires
+remove-in-requires c κs =
+    (c .before .if2 .taken, fit-parts _ _ _ (sym (c .before .before .before .rows-fit .ensures) ∙ c .before .before .if1 .taken) .1)
 
 same-length : tie.Need-same-length
 same-length c = search needs
 
 returns : tie.Need-returns
+unfolding removedRow
 returns c =
-    let s = c .before .before .before .before .before .before .before .before .before in
-    let a = s .args in
-    let moved = c .before .before .before .before .before .before .shift in
-    c .before .before .blank .ensures ∙ remove-end (a .width) (a .count) (now (a .ws)) (a .i) (moved .last .0) (s .pre .0) (s .pre .1) (moved .ensures)
+    rw (sym (c .before .before .before .before .before .before .rows-fit .ensures) ∙ c .before .before .before .before .before .if1 .taken, lt-ltb _ _ (c .before .before .before .before .if2 .taken))
+    (c .before .before .remove-in .ensures)
+
+returns-2 : tie.Need-returns-2
+unfolding removedRow
+returns-2 c = rw (sym (c .before .before .rows-fit .ensures) ∙ c .before .if1 .taken, le-ltb _ _ (c .if2 .left))
+
+returns-3 : tie.Need-returns-3
+unfolding removedRow
+returns-3 c = rw (sym (c .before .rows-fit .ensures) ∙ c .if1 .left)
 
 pub remove-spec : {M : Type 1} → statement M
 remove-spec =
     tie.close
-    (tie.spec
-    mul-at
-    add-later
-    sub-later
-    mul-later
-    shift-requires
-    add-blank
-    blank-requires
-    same-length
-    returns)
+    (tie.spec rows-fit-requires remove-in-requires same-length returns returns-2 returns-3)

@@ -1,0 +1,22 @@
+-- Identifier and numbers are turned into words as they stand.
+use Rattle.desk.specs.Letter.{readLetter}
+use borrow.Author.Needs.{needs}
+use Rattle.desk.proofs.letter.read_letter.Statement.{statement}
+use Rattle.desk.proofs.letter.read_letter.Tie as tie
+
+words-of-requires : tie.Need-words-of-requires
+words-of-requires c κs = search needs
+
+words-of-requires-2 : tie.Need-words-of-requires-2
+words-of-requires-2 c κs = search needs
+
+words-of-requires-3 : tie.Need-words-of-requires-3
+words-of-requires-3 c κs = search needs
+
+returns : tie.Need-returns
+unfolding readLetter
+returns c = rw (c .before .before .words-of .ensures, c .before .words-of2 .ensures, c .words-of3 .ensures)
+
+pub read-letter-spec : {M : Type 1} → statement M
+read-letter-spec =
+    tie.close (tie.spec words-of-requires words-of-requires-2 words-of-requires-3 returns)

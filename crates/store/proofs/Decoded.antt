@@ -1,0 +1,68 @@
+-- Rows of words read as records, over any width, count, type and decoder: each search, each store and each delete in words is the same in records. By the laws of rows, row by row.
+use Prim.Native.Nat.{ℕ, zero, suc, _*_, _≤_, _<_}
+use mathlib.Core.Path.{_≡_, refl, sym, ap, _∙_}
+use mathlib.Core.Bool.{Bool, true}
+use mathlib.Core.List.{List, [], _∷_, map}
+use lib.ListN.{length, getD, take, drop, set, length-map, List·getD-map}
+use native.Mathlib.Omega.{arith}
+use borrow.Author.Tests.{lt-ltb}
+use Rattle.lists.specs.Lists.{first, without}
+use Rattle.lists.proofs.Lists.{first-map, first-same, map-set, map-without}
+use Rattle.store.specs.Rows.{rows, putRow, dropRow, blankRow, rowsFit, found, removedRow}
+use Rattle.store.proofs.RowsLaws.{rows-length, rows-at, rows-put, rows-drop}
+
+getD-past : {A : Type 0} (xs : List A) (i : ℕ) (d : A) → length xs ≤ i → getD xs i d ≡ d
+getD-past [] i d h = refl
+getD-past (x ∷ xs) zero d h = absurd (omega (arith, h))
+getD-past (x ∷ xs) (suc i) d h = getD-past xs i d (omega (arith, h))
+
+-- where the rows fit, a search is that of the rows, and a row that is there is taken out
+pub found-fit : (test : List ℕ → Bool) (width count : ℕ) (ws : List ℕ) → rowsFit width count (length ws) ≡ true → found test width count ws ≡ first test (rows width count ws)
+unfolding found
+found-fit test width count ws fit = rw fit
+
+pub removed-fit : (width count : ℕ) (ws : List ℕ) (i : ℕ) → rowsFit width count (length ws) ≡ true → i < count → removedRow width count ws i ≡ dropRow width count ws i
+unfolding removedRow
+removed-fit width count ws i fit h = rw (fit, lt-ltb i count h)
+
+module _ {A : Type 0} (width count : ℕ) (decode : List ℕ → A) where
+  pub decoded-length : (ws : List ℕ) → length (map decode (rows width count ws)) ≡ count
+  decoded-length ws = length-map (rows width count ws) decode ∙ rows-length width count ws
+
+  -- past the last place
+  pub decoded-past : (ws : List ℕ) (i : ℕ) → count ≤ i → getD (map decode (rows width count ws)) i (decode []) ≡ decode []
+  decoded-past ws i h = getD-past (map decode (rows width count ws)) i (decode []) (omega (arith, decoded-length ws))
+
+  -- a search by a test of the words that is a test of the record
+  pub decoded-found :
+      (test : List ℕ → Bool) (passes : A → Bool) → ((row : List ℕ) → test row ≡ passes (decode row)) → (ws : List ℕ) →
+      rowsFit width count (length ws) ≡ true → found test width count ws ≡ first passes (map decode (rows width count ws))
+  decoded-found test passes same ws fit =
+      found-fit test width count ws fit
+      ∙ first-same test (λ row. passes (decode row)) (rows width count ws) same
+      ∙ sym (first-map decode passes (rows width count ws))
+
+  -- the record of a place, where a record reads no word behind its row
+  pub decoded-at :
+      ((row : List ℕ) → decode (take width row) ≡ decode row) → (ws : List ℕ) (i : ℕ) → i < count →
+      getD (map decode (rows width count ws)) i (decode []) ≡ decode (drop (i * width) ws)
+  decoded-at front ws i h =
+      List·getD-map decode (rows width count ws) i [] ∙ ap decode (rows-at width count ws i [] h) ∙ front (drop (i * width) ws)
+
+  -- a record put at a place: its words are those of a row, and read as the record
+  pub decoded-put :
+      (ws row : List ℕ) (i : ℕ) (r : A) → decode row ≡ r → length row ≡ width → i < count → count * width ≤ length ws →
+      map decode (rows width count (putRow width ws i row)) ≡ set (map decode (rows width count ws)) i r
+  decoded-put ws row i r back size h fits =
+      ap (map decode) (rows-put width count ws i row size h fits)
+      ∙ map-set decode (rows width count ws) i row
+      ∙ ap (λ (x : A). set (map decode (rows width count ws)) i x) back
+
+  -- a record taken out: a row of zeros reads as no words do
+  pub decoded-drop :
+      decode (blankRow width) ≡ decode [] → (ws : List ℕ) (i : ℕ) → i < count → count * width ≤ length ws →
+      map decode (rows width count (dropRow width count ws i)) ≡ without (decode []) (map decode (rows width count ws)) i
+  decoded-drop blank ws i h fits =
+      ap (map decode) (rows-drop width count ws i h fits)
+      ∙ map-without decode (blankRow width) (rows width count ws) i
+      ∙ ap (λ (x : A). without x (map decode (rows width count ws)) i) blank
