@@ -2,8 +2,10 @@
 
 use crate::side::{Ask, ClerkInput, CodecInput, Desk, Identifier, LineInput, Number, Told};
 
-type ClerkWords = [u64; 192];
-type LineWords = [u64; 498];
+const CLERK_WORDS: usize = 192;
+const LINE_WORDS: usize = 498;
+type ClerkWords = [u64; CLERK_WORDS];
+type LineWords = [u64; LINE_WORDS];
 
 #[rustfmt::skip]
 extern "C" {
@@ -42,7 +44,7 @@ pub struct Held {
 
 impl Clerk {
     pub fn start() -> Clerk {
-        let mut words = [0; 192];
+        let mut words = [0; CLERK_WORDS];
         unsafe { tollherring_clerk_start(&mut words) };
         Clerk(words)
     }
@@ -51,7 +53,7 @@ impl Clerk {
 impl Line {
     /// Each line allows both kinds.
     pub fn start(lines: &[Number], keep: bool, retain: bool) -> Line {
-        let mut words = [0; 498];
+        let mut words = [0; LINE_WORDS];
         let given: Vec<u8> = lines.iter().flat_map(|l| l.sixteen.iter().copied().chain([3])).collect();
         let refusal =
             unsafe { tollherring_line_start(&mut words, given.as_ptr(), given.len(), u64::from(keep), u64::from(retain)) };

@@ -27,6 +27,10 @@ use core::fmt;
 pub const MESSAGE_LEAST: usize = 18;
 pub const MESSAGE_MOST: usize = 53;
 
+/// How many words of 64 bits each desk takes.
+pub const CLERK_WORDS: usize = 192;
+pub const LINE_WORDS: usize = 498;
+
 /// The CallIdentifier of the failed call: any 16 bytes.
 pub type Identifier = [u8; 16];
 
@@ -390,20 +394,20 @@ pub struct LineGiven {
 #[repr(C)]
 #[derive(Clone, PartialEq, Eq)]
 pub struct ClerkDesk {
-    words: [u64; 192],
+    words: [u64; CLERK_WORDS],
 }
 
 /// The line desk, User B's end. Its words are not looked into.
 #[repr(C)]
 #[derive(Clone, PartialEq, Eq)]
 pub struct LineDesk {
-    words: [u64; 498],
+    words: [u64; LINE_WORDS],
 }
 
 impl ClerkDesk {
     /// An empty desk.
     pub fn start() -> ClerkDesk {
-        let mut desk = ClerkDesk { words: [0; 192] };
+        let mut desk = ClerkDesk { words: [0; CLERK_WORDS] };
         unsafe { tollherring_clerk_start(&mut desk) };
         desk
     }
@@ -515,7 +519,7 @@ impl LineDesk {
     /// A desk with its lines, all free; whether it keeps requests, and whether it retains connections by default. At most 16 lines; none at all is
     /// allowed. Refusal 2.
     pub fn start(lines: &[LineGiven], keep: bool, retain: bool) -> Result<LineDesk, Refusal> {
-        let mut desk = LineDesk { words: [0; 498] };
+        let mut desk = LineDesk { words: [0; LINE_WORDS] };
         let bytes = core::mem::size_of_val(lines);
         let refusal =
             unsafe { tollherring_line_start(&mut desk, lines.as_ptr(), bytes, u64::from(keep), u64::from(retain)) };

@@ -1,3 +1,3 @@
+pub mod Messages
 pub mod Given
 pub mod Shown
-pub mod Messages

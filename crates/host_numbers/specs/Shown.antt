@@ -1,7 +1,9 @@
 -- What a host is shown of a record or a line, as plain numbers.
 use Prim.Native.Nat.{ℕ, _+_}
+use mathlib.Core.Bool.{Bool, false}
 use mathlib.Core.List.{List, [], _∷_}
 use Rattle.lists.specs.Choice.{pick}
+use Rattle.terms.specs.declared.Terms.{Terms}
 use Rattle.terms.specs.Codes.{kindCode, keepCode, connectionCode, flagCode}
 use Rattle.clerk_table.specs.declared.record.Record as ClerkRecord
 use Rattle.clerk_records.specs.Codes as ClerkCodes
@@ -10,12 +12,16 @@ use Rattle.line_table.specs.declared.line.Line.{Line}
 use Rattle.line_records.specs.Codes as LineCodes
 
 -- ---- kind, service, can-keep, keep, connection, state, activity mark, suspended mark
+abbrev pub recordNumbers : Terms → Bool → ℕ → Bool → Bool → List ℕ
+recordNumbers t canKeep state active suspended =
+    kindCode (t .kind) ∷ t .service ∷ flagCode canKeep ∷ keepCode (t .keep) ∷ connectionCode (t .connection) ∷ state ∷ flagCode active ∷ flagCode suspended ∷ []
+
+-- a clerk's record has no marks, a line's no can-keep
 abbrev pub clerkNumbers : ClerkRecord.Record → List ℕ
-clerkNumbers r = kindCode (r .kind) ∷ r .service ∷ flagCode (r .canKeep) ∷ keepCode (r .keep) ∷ connectionCode (r .connection) ∷ ClerkCodes.stateCode (r .state) ∷ 0 ∷ 0 ∷ []
+clerkNumbers r = recordNumbers (r .terms) (r .canKeep) (ClerkCodes.stateCode (r .state)) false false
 
 abbrev pub lineNumbers : LineRecord.Record → List ℕ
-lineNumbers r =
-    kindCode (r .kind) ∷ r .service ∷ 0 ∷ keepCode (r .keep) ∷ connectionCode (r .connection) ∷ LineCodes.stateCode (r .state) ∷ flagCode (r .active) ∷ flagCode (r .suspended) ∷ []
+lineNumbers r = recordNumbers (r .terms) false (LineCodes.stateCode (r .state)) (r .active) (r .suspended)
 
 -- ---- a line's kinds: 1 CCBS + 2 CCNR
 abbrev pub kindsNumber : Line → ℕ

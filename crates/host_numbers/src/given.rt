@@ -1,64 +1,72 @@
-// What the host gives as plain numbers: acts, timers and the data of an ask.
-use clerk::steps::Asking;
+// What a host gives as plain numbers, made an entry of the desk: a number that stands for nothing is refused with 2, before anything else is looked at.
+use clerk::entry::Asking;
+use clerk::entry::BytesEntry as ClerkBytesEntry;
+use clerk::entry::Entry as ClerkEntry;
+use clerk::entry::act_entry as clerk_act_entry;
+use clerk::entry::ask_entry;
+use clerk::entry::bytes_entry as clerk_bytes_entry;
+use clerk::entry::timer_entry;
 use clerk_table::inputs::Act as ClerkAct;
 use clerk_table::table::Timer;
+use crate::messages::field_given;
+use crate::messages::service_given;
+use line::entry::Entry as LineEntry;
+use line::entry::act_entry as line_act_entry;
+use line::entry::report_entry;
 use line_table::inputs::Act as LineAct;
 use terms::codes::kind_of;
 ghost use mathlib.Core.Path.{_≡_};
-ghost use Prim.Native.Nat.{_<_};
-ghost use Rattle.host_numbers.specs.Given.{clerkAct, timer, lineAct, askWords, askingOf};
+ghost use Rattle.host_numbers.specs.Given.{clerkActGiven, timerGiven, lineActGiven, reportGiven, askWords, askingOf, askGiven, clerkBytesGiven};
 
-pub enum ClerkActGiven {
-    Act(ClerkAct),
-    Unknown,
-}
-
-pub enum TimerGiven {
-    Timer(Timer),
-    Unknown,
-}
-
-pub enum LineActGiven {
-    Act(LineAct),
-    Unknown,
-}
-
-pub fn clerk_act(number: u64) -> ClerkActGiven
-    ensures { λ r. ⌜ r ≡ clerkAct number ⌝ }
+// User A's act, by its number.
+pub fn clerk_act_given(identifier: [u8; 16], number: u64) -> ClerkEntry
+    ensures { λ r. ⌜ r ≡ clerkActGiven identifier number ⌝ }
 {
     match number {
-        1 => ClerkActGiven::Act(ClerkAct::Accept),
-        2 => ClerkActGiven::Act(ClerkAct::Resume),
-        3 => ClerkActGiven::Act(ClerkAct::GoOn),
-        4 => ClerkActGiven::Act(ClerkAct::Cancel),
-        _ => ClerkActGiven::Unknown,
+        1 => clerk_act_entry(identifier, ClerkAct::Accept),
+        2 => clerk_act_entry(identifier, ClerkAct::Resume),
+        3 => clerk_act_entry(identifier, ClerkAct::GoOn),
+        4 => clerk_act_entry(identifier, ClerkAct::Cancel),
+        _ => ClerkEntry::Refused(2),
     }
 }
 
-pub fn timer(number: u64) -> TimerGiven
-    ensures { λ r. ⌜ r ≡ timer number ⌝ }
+// A timer that ran out at the clerk's end, by its number.
+pub fn timer_given(identifier: [u8; 16], number: u64) -> ClerkEntry
+    ensures { λ r. ⌜ r ≡ timerGiven identifier number ⌝ }
 {
     match number {
-        1 => TimerGiven::Timer(Timer::T1),
-        2 => TimerGiven::Timer(Timer::T2),
-        3 => TimerGiven::Timer(Timer::T3),
-        _ => TimerGiven::Unknown,
+        1 => timer_entry(identifier, Timer::T1),
+        2 => timer_entry(identifier, Timer::T2),
+        3 => timer_entry(identifier, Timer::T3),
+        _ => ClerkEntry::Refused(2),
     }
 }
 
-pub fn line_act(number: u64) -> LineActGiven
-    ensures { λ r. ⌜ r ≡ lineAct number ⌝ }
+// An act at the line's end, by its number.
+pub fn line_act_given(identifier: [u8; 16], number: u64) -> LineEntry
+    ensures { λ r. ⌜ r ≡ lineActGiven identifier number ⌝ }
 {
     match number {
-        1 => LineActGiven::Act(LineAct::Alerted),
-        2 => LineActGiven::Act(LineAct::CallFailed),
-        3 => LineActGiven::Act(LineAct::Cancel),
-        _ => LineActGiven::Unknown,
+        1 => line_act_entry(identifier, LineAct::Alerted),
+        2 => line_act_entry(identifier, LineAct::CallFailed),
+        3 => line_act_entry(identifier, LineAct::Cancel),
+        _ => LineEntry::Refused(2),
     }
+}
+
+// A line report: 0 free, 1 busy.
+pub fn report_given(digits: [u8; 16], busy: u64) -> LineEntry
+    ensures { λ r. ⌜ r ≡ reportGiven digits busy ⌝ }
+{
+    if busy <= 1 {
+        return report_entry(digits, busy == 1);
+    }
+    LineEntry::Refused(2)
 }
 
 // Whether kind (1 or 2) and can-keep (0 or 1) are words of an ask.
-pub fn ask_words(kind: u64, canKeep: u64) -> bool
+fn ask_words(kind: u64, canKeep: u64) -> bool
     ensures { λ r. ⌜ r ≡ askWords kind canKeep ⌝ }
 {
     if 1 <= kind {
@@ -70,8 +78,8 @@ pub fn ask_words(kind: u64, canKeep: u64) -> bool
     false
 }
 
-// An ask whose numbers are in range.
-pub fn asking(
+// What is asked for; a service or a preference that is out of range stays out of range.
+fn asking(
     identifier: [u8; 16],
     kind: u64,
     numberA: [u8; 16],
@@ -80,17 +88,58 @@ pub fn asking(
     canKeep: u64,
     preference: u64,
 ) -> Asking
-    requires { ⌜ (service < 16384) × (preference < 3) ⌝ }
     ensures { λ r. ⌜ r ≡ askingOf identifier kind numberA numberB service canKeep preference ⌝ }
 {
     let k = kind_of(kind);
+    let s = service_given(service);
+    let p = field_given(preference);
     Asking {
         identifier,
         kind: k,
         numberA,
         numberB,
-        service: service as u16,
+        service: s,
         canKeep: canKeep == 1,
-        preference: preference as u8,
+        preference: p,
+    }
+}
+
+// An ask.
+pub fn ask_given(
+    identifier: [u8; 16],
+    kind: u64,
+    numberA: [u8; 16],
+    numberB: [u8; 16],
+    service: u64,
+    canKeep: u64,
+    preference: u64,
+) -> ClerkEntry
+    ensures { λ r. ⌜ r ≡ askGiven identifier kind numberA numberB service canKeep preference ⌝ }
+{
+    if ask_words(kind, canKeep) {
+        let a = asking(
+            identifier,
+            kind,
+            numberA,
+            numberB,
+            service,
+            canKeep,
+            preference,
+        );
+        return ask_entry(a);
+    }
+    ClerkEntry::Refused(2)
+}
+
+// Bytes at the clerk's end, with the host's word on User A: 0 not busy, 1 busy.
+pub fn clerk_bytes_given(bytes: &[u8], busy: u64) -> ClerkBytesEntry
+    ensures { λ r. ⌜ r ≡ clerkBytesGiven (now (bytes .entry)) busy ⌝ }
+{
+    if busy <= 1 {
+        return clerk_bytes_entry(bytes, busy == 1);
+    }
+    ClerkBytesEntry {
+        entry: ClerkEntry::Refused(2),
+        next: 0,
     }
 }

@@ -4,63 +4,76 @@ use clerk_table::record::Record as ClerkRecord;
 use line_records::codes::state_code as line_state_code;
 use line_table::line::Line;
 use line_table::record::Record as LineRecord;
-use lists::words::Words;
 use lists::words::bytes_of;
 use terms::codes::connection_code;
 use terms::codes::flag_code;
 use terms::codes::keep_code;
 use terms::codes::kind_code;
+use terms::Terms;
 ghost use mathlib.Core.Path.{_≡_};
 ghost use Rattle.lists.specs.Words.{bytesOf};
-ghost use Rattle.host_numbers.specs.Shown.{clerkNumbers, lineNumbers, kindsNumber};
+ghost use Rattle.host_numbers.specs.Shown.{recordNumbers, clerkNumbers, lineNumbers, kindsNumber};
+
+// How many numbers a host is shown of a record.
+pub const NUMBERS: usize = 8;
 
 // The identifier and the two numbers of digits.
-pub fn show_bytes(
+pub fn show_names(
     identifier: &mut [u8; 16],
     numberA: &mut [u8; 16],
     numberB: &mut [u8; 16],
-    i: Words,
-    a: Words,
-    b: Words,
+    terms: Terms,
 )
-    ensures { λ r. ⌜ (now (identifier .exit) ≡ bytesOf i) × (now (numberA .exit) ≡ bytesOf a) × (now (numberB .exit) ≡ bytesOf b) ⌝ }
+    ensures { λ r. ⌜ (now (identifier .exit) ≡ bytesOf (terms .identifier)) × (now (numberA .exit) ≡ bytesOf (terms .numberA)) × (now (numberB .exit) ≡ bytesOf (terms .numberB)) ⌝ }
 {
+    let i = terms.identifier;
+    let a = terms.numberA;
+    let b = terms.numberB;
     *identifier = bytes_of(i);
     *numberA = bytes_of(a);
     *numberB = bytes_of(b);
 }
 
-// Kind, service, can-keep, keep, connection, state; a clerk's record has no marks.
-pub fn clerk_numbers(r: ClerkRecord) -> [u64; 8]
-    ensures { λ q. ⌜ q ≡ clerkNumbers r ⌝ }
+// Kind, service, can-keep, keep, connection, state, and the two marks of a record.
+fn record_numbers(
+    terms: Terms,
+    canKeep: bool,
+    state: u64,
+    active: bool,
+    suspended: bool,
+) -> [u64; NUMBERS]
+    ensures { λ q. ⌜ q ≡ recordNumbers terms canKeep state active suspended ⌝ }
 {
-    let kind = r.kind;
-    let keep = r.keep;
-    let connection = r.connection;
-    let state = r.state;
+    let kind = terms.kind;
+    let keep = terms.keep;
+    let connection = terms.connection;
     let k = kind_code(kind);
-    let can = flag_code(r.canKeep);
+    let can = flag_code(canKeep);
     let kept = keep_code(keep);
     let c = connection_code(connection);
-    let s = clerk_state_code(state);
-    [k, r.service, can, kept, c, s, 0, 0]
+    let a = flag_code(active);
+    let s = flag_code(suspended);
+    [k, terms.service, can, kept, c, state, a, s]
 }
 
-// The same of a line's record, which has the marks and no can-keep.
-pub fn line_numbers(r: LineRecord) -> [u64; 8]
+// A clerk's record has no marks.
+pub fn clerk_numbers(r: ClerkRecord) -> [u64; NUMBERS]
+    ensures { λ q. ⌜ q ≡ clerkNumbers r ⌝ }
+{
+    let terms = r.terms;
+    let state = r.state;
+    let code = clerk_state_code(state);
+    record_numbers(terms, r.canKeep, code, false, false)
+}
+
+// A line's record has no can-keep.
+pub fn line_numbers(r: LineRecord) -> [u64; NUMBERS]
     ensures { λ q. ⌜ q ≡ lineNumbers r ⌝ }
 {
-    let kind = r.kind;
-    let keep = r.keep;
-    let connection = r.connection;
+    let terms = r.terms;
     let state = r.state;
-    let k = kind_code(kind);
-    let kept = keep_code(keep);
-    let c = connection_code(connection);
-    let s = line_state_code(state);
-    let active = flag_code(r.active);
-    let suspended = flag_code(r.suspended);
-    [k, r.service, 0, kept, c, s, active, suspended]
+    let code = line_state_code(state);
+    record_numbers(terms, false, code, r.active, r.suspended)
 }
 
 // 1 CCBS + 2 CCNR.

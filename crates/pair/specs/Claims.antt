@@ -5,32 +5,33 @@ use mathlib.Core.Bool.{Bool, true, false}
 use mathlib.Core.Logic.{_⊎_}
 use mathlib.Core.List.{List, [], _∷_, _++_}
 use lib.ListN.{length}
-use Rattle.lists.specs.Words.{Bytes, wordsOf}
+use Rattle.lists.specs.Words.{Bytes}
 use Rattle.lists.specs.declared.words.Words.{Words}
-use Rattle.message.specs.Number.{digitsInRange}
 use Rattle.message.specs.Format.{messageBytes}
 use Rattle.message.specs.declared.Message.{Message}
 use Rattle.message.specs.declared.Body.{Body}
 use Rattle.message.specs.declared.Body.the-variants.{CcbsRequest, CcnrRequest, RequestResult, RequestError, CcExecPossible, CcRingout, RingoutError, CcSuspend, CcResume, CcCancel, CallAlerts, CallFailed}
-use Rattle.desk.specs.Letter.{numberWords}
 use Rattle.desk.specs.declared.Connection.the-variants.{Empty}
 use Rattle.places.specs.Places.{Held, none, one}
+use Rattle.clerk_table.specs.Inputs.{namesOf}
 use Rattle.clerk_table.specs.declared.record.Record as ClerkRecord
 use Rattle.clerk_table.specs.declared.table.State.the-variants as ClerkState
 use Rattle.clerk.specs.Steps as Clerk
 use Rattle.line.specs.Steps as Line
+use Rattle.line_table.specs.declared.inputs.Input as LineInput
+use Rattle.line_table.specs.declared.inputs.Input.the-variants as AtLine
 use Rattle.line_table.specs.declared.record.Record as LineRecord
 use Rattle.line_table.specs.declared.record.Change.{Change}
 use Rattle.line_table.specs.declared.record.Change.the-variants.{Stay, Put, Remove, Report}
 use Rattle.line_table.specs.declared.table.State.the-variants as LineState
 use Rattle.line_table.specs.Record.{moved}
 use Rattle.line_table.specs.Search.{marks}
-use Rattle.line_plan.specs.Plan.{lookPlan}
-use Rattle.pair.specs.World.{World, Event, asks, clerkActs, clerkReports, clerkHears, lineHears, lineReports, lineLooks, lineActs, guardReports, dropsUp, dropsDown, clerkHolds, lineHolds, nameOf, messagesOf, has, next, Allowed, Run, stop, then, startWorld, Reached}
+use Rattle.line_plan.specs.Plan.{planFor}
+use Rattle.pair.specs.World.{World, Event, clerkDoes, lineDoes, clerkHears, lineHears, dropsUp, dropsDown, clerkHolds, lineHolds, nameOf, messagesOf, has, next, Allowed, Run, stop, then, startWorld, Reached}
 
 -- acknowledged: the connection choice is not empty
 abbrev pub Acknowledged : ClerkRecord.Record → Type 0
-Acknowledged c = c .connection ≡ Empty → ⊥
+Acknowledged c = c .terms .connection ≡ Empty → ⊥
 
 -- ---- 1. what the clerk's end holds as acknowledged was accepted earlier at the line's end
 abbrev pub IsRequest : Body → Type 0
@@ -72,12 +73,12 @@ AcknowledgedWasAccepted =
 
 -- ---- 2. while both hold it the data agree
 pub record Agree (c : ClerkRecord.Record) (l : LineRecord.Record) : Type 0 where
-  pub numberA : c .numberA ≡ l .numberA
-  pub numberB : c .numberB ≡ l .numberB
-  pub service : c .service ≡ l .service
+  pub numberA : c .terms .numberA ≡ l .terms .numberA
+  pub numberB : c .terms .numberB ≡ l .terms .numberB
+  pub service : c .terms .service ≡ l .terms .service
   -- once acknowledged also keep choice and connection choice
-  pub keep : Acknowledged c → c .keep ≡ l .keep
-  pub connection : Acknowledged c → c .connection ≡ l .connection
+  pub keep : Acknowledged c → c .terms .keep ≡ l .terms .keep
+  pub connection : Acknowledged c → c .terms .connection ≡ l .terms .connection
 
 abbrev pub DataAgree : Type 0
 DataAgree =
@@ -88,7 +89,7 @@ DataAgree =
 abbrev pub KindAgrees : Type 0
 KindAgrees =
     (w : World) → Reached w → (identifier : Words) (c : ClerkRecord.Record) (l : LineRecord.Record) →
-    clerkHolds w identifier ≡ one c → lineHolds w identifier ≡ one l → c .kind ≡ l .kind
+    clerkHolds w identifier ≡ one c → lineHolds w identifier ≡ one l → c .terms .kind ≡ l .terms .kind
 
 -- ---- 3. quiet wires mean a listed pair (document 01, "Pairs when the wires are quiet")
 pub data Listed : Held ClerkRecord.Record → Held LineRecord.Record → Type 0 where
@@ -137,7 +138,7 @@ OverForGood =
 -- the request that a change of the line desk is about
 abbrev pub Puts : Change → Words → Type 0
 Puts Stay identifier = ⊥
-Puts (Put i r) identifier = r .identifier ≡ identifier
+Puts (Put i r) identifier = r .terms .identifier ≡ identifier
 Puts (Remove i) identifier = ⊥
 Puts (Report k number busy) identifier = ⊥
 
@@ -146,23 +147,27 @@ Heads [] identifier = ⊥
 Heads (m ∷ ms) identifier = nameOf m ≡ identifier
 
 -- the request that a step is about: the one it names, the one whose message it delivers, the one that a Look offers
+abbrev pub LineAbout : List ℕ → LineInput.Input → Words → Type 0
+LineAbout words (AtLine.Message l) identifier = l .identifier ≡ identifier
+LineAbout words (AtLine.Act name act) identifier = name ≡ identifier
+LineAbout words (AtLine.Guard name) identifier = name ≡ identifier
+LineAbout words (AtLine.Report number busy) identifier = ⊥
+LineAbout words (AtLine.Look number) identifier = Puts (planFor words (AtLine.Look number) .change) identifier
+
 abbrev pub About : World → Event → Words → Type 0
-About w (asks a) identifier = wordsOf (a .identifier) ≡ identifier
-About w (clerkActs name act) identifier = wordsOf name ≡ identifier
-About w (clerkReports name timer) identifier = wordsOf name ≡ identifier
+About w (clerkDoes input) identifier = namesOf input .identifier ≡ identifier
+About w (lineDoes input) identifier = LineAbout (w .line .words) input identifier
 About w (clerkHears busy) identifier = Heads (w .down) identifier
 About w lineHears identifier = Heads (w .up) identifier
-About w (lineReports digits busy) identifier = ⊥
-About w (lineLooks digits) identifier = (digitsInRange 1 digits ≡ true) × Puts (lookPlan (w .line .words) (numberWords digits) .change) identifier
-About w (lineActs name act) identifier = wordsOf name ≡ identifier
-About w (guardReports name) identifier = wordsOf name ≡ identifier
 About w dropsUp identifier = ⊥
 About w dropsDown identifier = ⊥
 
 -- the same, except that a busy report of its line may mark the activity of an Invoked record
 pub data Unaltered : Event → Held LineRecord.Record → Held LineRecord.Record → Type 0 where
   same : {e : Event} {r : Held LineRecord.Record} → Unaltered e r r
-  marked : {digits : List ℕ} (r : LineRecord.Record) → marks (numberWords digits) r ≡ true → Unaltered (lineReports digits true) (one r) (one (moved r (r .state) true (r .suspended)))
+  marked :
+      {number : Words} (r : LineRecord.Record) → marks number r ≡ true →
+      Unaltered (lineDoes (AtLine.Report number true)) (one r) (one (moved r (r .state) true (r .suspended)))
 
 pub record Untouched (w : World) (e : Event) (identifier : Words) : Type 0 where
   pub clerk : clerkHolds (next w e) identifier ≡ clerkHolds w identifier
@@ -174,15 +179,10 @@ NoOtherAltered =
 
 -- and such a step sends, takes and drops none of its messages, unless it drops the head of a wire and that is one of them
 abbrev pub Drops : World → Event → Words → Type 0
-Drops w (asks a) identifier = ⊥
-Drops w (clerkActs name act) identifier = ⊥
-Drops w (clerkReports name timer) identifier = ⊥
+Drops w (clerkDoes input) identifier = ⊥
+Drops w (lineDoes input) identifier = ⊥
 Drops w (clerkHears busy) identifier = ⊥
 Drops w lineHears identifier = ⊥
-Drops w (lineReports digits busy) identifier = ⊥
-Drops w (lineLooks digits) identifier = ⊥
-Drops w (lineActs name act) identifier = ⊥
-Drops w (guardReports name) identifier = ⊥
 Drops w dropsUp identifier = Heads (w .up) identifier
 Drops w dropsDown identifier = Heads (w .down) identifier
 

@@ -1,10 +1,9 @@
--- Two desks, two wires that deliver in order or drop, and the history of the run. Each step is an operation of a desk, by the definition that its contract cites, or the drop of a wire's head.
+-- Two desks, two wires that deliver in order or drop, and the history of the run. Each step is an input at a desk's door, by the definition that its contract cites, or the drop of a wire's head.
 use Prim.Native.Nat.{ℕ}
 use mathlib.Core.Path.{_≡_}
 use mathlib.Core.Bool.{Bool, true, false}
 use mathlib.Core.List.{List, [], _∷_, _++_}
 use lib.Dec.{eqb}
-use lib.ListN.{length}
 use Rattle.lists.specs.Choice.{pick}
 use Rattle.lists.specs.Lists.{both}
 use Rattle.lists.specs.Words.{Bytes, wordsOf, sameWords}
@@ -15,7 +14,8 @@ use Rattle.desk.specs.declared.outcome.Outcome.{Outcome}
 use Rattle.desk.specs.declared.outcome.Sending.{Sending}
 use Rattle.desk.specs.declared.outcome.Sending.the-variants as Sending
 use Rattle.places.specs.Places.{Held, held}
-use Rattle.clerk_table.specs.declared.inputs.Act as ClerkAct
+use Rattle.clerk_table.specs.declared.inputs.Input as ClerkInput
+use Rattle.clerk_table.specs.declared.inputs.Input.the-variants as AtClerk
 use Rattle.clerk_table.specs.declared.record.Record as ClerkRecord
 use Rattle.clerk_table.specs.declared.table.Timer.{Timer}
 use Rattle.clerk_table.specs.declared.table.Timer.the-variants.{T1, T2, T3}
@@ -23,9 +23,9 @@ use Rattle.clerk_records.specs.Records as ClerkRecords
 use Rattle.clerk.specs.Steps as Clerk
 use Rattle.clerk.specs.declared.Desk as ClerkDesk
 use Rattle.clerk.specs.declared.steps.Stepped as ClerkStepped
-use Rattle.clerk.specs.declared.steps.Asking.{Asking}
 use Rattle.clerk_sound.specs.Sound as ClerkSound
-use Rattle.line_table.specs.declared.inputs.Act as LineAct
+use Rattle.line_table.specs.declared.inputs.Input as LineInput
+use Rattle.line_table.specs.declared.inputs.Input.the-variants as AtLine
 use Rattle.line_table.specs.declared.record.Record as LineRecord
 use Rattle.line_records.specs.Records as LineRecords
 use Rattle.line.specs.Start as LineStart
@@ -79,8 +79,8 @@ sentBy Sending.Nothing = []
 sentBy (Sending.Send l) = messageOf l ∷ []
 
 -- a step that is not refused
-abbrev pub taken : Outcome → Bool
-taken outcome = eqb (outcome .refusal) 0
+abbrev pub done : Outcome → Bool
+done outcome = eqb (outcome .refusal) 0
 
 -- an identifier noted if something is so
 abbrev pub note : Bool → Words → List Words → List Words
@@ -111,17 +111,12 @@ withGuarded h so identifier = record { takenUp = h .takenUp; dropped = h .droppe
 
 -- ---- the steps
 pub data Event : Type 0 where
-  -- at the clerk's end: an ask, User A's act, a timer's report; the head of `down` is delivered, with the host's word on User A
-  asks : Asking → Event
-  clerkActs : List ℕ → ClerkAct.Act → Event
-  clerkReports : List ℕ → Timer → Event
+  -- what a host puts in at an end: at the clerk's an ask, User A's act, a timer's report; at the line's a line report, a Look, an act, the guard's report
+  clerkDoes : ClerkInput.Input → Event
+  lineDoes : LineInput.Input → Event
+  -- the head of a wire is delivered: of `down`, with the host's word on User A; of `up`
   clerkHears : Bool → Event
-  -- at the line's end: the head of `up` is delivered; a line report, a Look, an act, the guard's report
   lineHears : Event
-  lineReports : List ℕ → Bool → Event
-  lineLooks : List ℕ → Event
-  lineActs : List ℕ → LineAct.Act → Event
-  guardReports : List ℕ → Event
   -- the head of a wire is dropped
   dropsUp : Event
   dropsDown : Event
@@ -131,6 +126,20 @@ abbrev pub counts : Timer → Bool
 counts T1 = true
 counts T2 = true
 counts T3 = false
+
+-- what is noted of an input that is done, or is not: an ask that takes up an identifier; a timer of the demand, or a guard, that has run out
+abbrev pub clerkNotes : History → ClerkInput.Input → Bool → History
+clerkNotes h (AtClerk.Ask names q) so = withTakenUp h so (names .identifier)
+clerkNotes h (AtClerk.Message l busy) so = h
+clerkNotes h (AtClerk.Act identifier act) so = h
+clerkNotes h (AtClerk.Timer identifier timer) so = withRunOut h (both (counts timer) so) identifier
+
+abbrev pub lineNotes : History → LineInput.Input → Bool → History
+lineNotes h (AtLine.Message l) so = h
+lineNotes h (AtLine.Act identifier act) so = h
+lineNotes h (AtLine.Guard identifier) so = withGuarded h so identifier
+lineNotes h (AtLine.Report number busy) so = h
+lineNotes h (AtLine.Look number) so = h
 
 unfoldable pub clerkHeard : World → Bool → List Message → World
 clerkHeard w busy [] = w
@@ -149,42 +158,39 @@ downDropped w [] = w
 downDropped w (m ∷ rest) = record { clerk = w .clerk; up = w .up; line = w .line; down = rest; history = withDropped (w .history) (nameOf m) }
 
 unfoldable pub next : World → Event → World
-next w (asks a) =
-    let step = Clerk.asked (w .clerk) a in
-    clerkStepped w (w .down) step (withTakenUp (w .history) (taken (step .outcome)) (wordsOf (a .identifier)))
-next w (clerkActs identifier act) = clerkStepped w (w .down) (Clerk.acted (w .clerk) identifier act) (w .history)
-next w (clerkReports identifier timer) =
-    let step = Clerk.reported (w .clerk) identifier timer in
-    clerkStepped w (w .down) step (withRunOut (w .history) (both (counts timer) (taken (step .outcome))) (wordsOf identifier))
+next w (clerkDoes input) =
+    let step = Clerk.step (w .clerk) input in
+    clerkStepped w (w .down) step (clerkNotes (w .history) input (done (step .outcome)))
+next w (lineDoes input) =
+    let step = Line.step (w .line) input in
+    lineStepped w (w .up) step (lineNotes (w .history) input (done (step .outcome)))
 next w (clerkHears busy) = clerkHeard w busy (w .down)
 next w lineHears = lineHeard w (w .up)
-next w (lineReports digits busy) = lineStepped w (w .up) (Line.lineReported (w .line) digits busy) (w .history)
-next w (lineLooks digits) = lineStepped w (w .up) (Line.looked (w .line) digits) (w .history)
-next w (lineActs identifier act) = lineStepped w (w .up) (Line.acted (w .line) identifier act) (w .history)
-next w (guardReports identifier) =
-    let step = Line.guardReported (w .line) identifier in
-    lineStepped w (w .up) step (withGuarded (w .history) (taken (step .outcome)) (wordsOf identifier))
 next w dropsUp = upDropped w (w .up)
 next w dropsDown = downDropped w (w .down)
 
 -- ---- runs
--- what the code's type says of an ask: sixteen bytes for the identifier and for each number
-pub record Typed (a : Asking) : Type 0 where
-  pub numbers : ClerkSound.Typed a
-  pub identifier : Bytes (a .identifier)
-  pub whole : length (a .identifier) ≡ 16
+-- a message comes by the wire alone; every other input is one that the entry makes of what a host gives; every identifier is taken up by at most one ask that is not refused
+abbrev pub ClerkAllowed : World → ClerkInput.Input → Type 0
+ClerkAllowed w (AtClerk.Ask names q) =
+    ClerkSound.Fair (AtClerk.Ask names q)
+    × (done (Clerk.step (w .clerk) (AtClerk.Ask names q) .outcome) ≡ true → has (w .history .takenUp) (names .identifier) ≡ false)
+ClerkAllowed w (AtClerk.Message l busy) = ⊥
+ClerkAllowed w (AtClerk.Act identifier act) = Unit
+ClerkAllowed w (AtClerk.Timer identifier timer) = Unit
 
--- every identifier is taken up by at most one ask that is not refused
+abbrev pub LineAllowed : LineInput.Input → Type 0
+LineAllowed (AtLine.Message l) = ⊥
+LineAllowed (AtLine.Act identifier act) = Unit
+LineAllowed (AtLine.Guard identifier) = Unit
+LineAllowed (AtLine.Report number busy) = Unit
+LineAllowed (AtLine.Look number) = Unit
+
 abbrev pub Allowed : World → Event → Type 0
-Allowed w (asks a) = Typed a × (taken (Clerk.asked (w .clerk) a .outcome) ≡ true → has (w .history .takenUp) (wordsOf (a .identifier)) ≡ false)
-Allowed w (clerkActs identifier act) = Unit
-Allowed w (clerkReports identifier timer) = Unit
+Allowed w (clerkDoes input) = ClerkAllowed w input
+Allowed w (lineDoes input) = LineAllowed input
 Allowed w (clerkHears busy) = Unit
 Allowed w lineHears = Unit
-Allowed w (lineReports digits busy) = Unit
-Allowed w (lineLooks digits) = Unit
-Allowed w (lineActs identifier act) = Unit
-Allowed w (guardReports identifier) = Unit
 Allowed w dropsUp = Unit
 Allowed w dropsDown = Unit
 

@@ -13,6 +13,9 @@ ghost use Prim.Native.Nat.{_≤_};
 ghost use Rattle.lists.specs.Choice.{pick};
 ghost use Rattle.told.specs.Told.{timersNumber, noticeNumber, sentWritten, sentBuffer, toldOf, toldRefused};
 
+// How many numbers a host is told of an outcome.
+pub const TOLD: usize = 7;
+
 // A bit of a sum.
 fn bit(choice: bool, value: u64) -> u64
     requires { ⌜ value ≤ 8 ⌝ }
@@ -67,7 +70,7 @@ pub fn send(out: &mut [u8], sending: Sending) -> Written
 }
 
 // An outcome whose message was written.
-pub fn tell(told: &mut [u64; 7], outcome: Outcome, length: usize, next: usize)
+pub fn tell(told: &mut [u64; TOLD], outcome: Outcome, length: usize, next: usize)
     ensures { λ r. ⌜ now (told .exit) ≡ toldOf outcome length next ⌝ }
 {
     let starts = outcome.starts;
@@ -89,7 +92,7 @@ pub fn tell(told: &mut [u64; 7], outcome: Outcome, length: usize, next: usize)
 }
 
 // A refusal that is the face's own: nothing was done, nothing is sent and nothing is read.
-pub fn refuse(told: &mut [u64; 7], number: u8) -> u64
+pub fn refuse(told: &mut [u64; TOLD], number: u8) -> u64
     ensures { λ r. ⌜ (r ≡ number) × (now (told .exit) ≡ toldRefused number) ⌝ }
 {
     let refusal = number as u64;

@@ -5,20 +5,13 @@ use lib.Dec.{eqb}
 use Rattle.lists.specs.Choice.{pick}
 use Rattle.lists.specs.Lists.{both}
 use Rattle.line.specs.declared.steps.Stepped.{Stepped}
-use Rattle.line.specs.declared.steps.SteppedBytes.{SteppedBytes}
 use Rattle.line.specs.Start.{started}
-use Rattle.line.specs.Steps.{deskOf, receivedBytes, lineReported, looked, acted, guardReported}
-use Rattle.host_numbers.specs.declared.given.LineActGiven.{LineActGiven}
-use Rattle.host_numbers.specs.declared.given.LineActGiven.the-variants as LineActGiven
-use Rattle.host_numbers.specs.Given.{lineAct, isWord, yes}
-use Rattle.tollherring.specs.Face.{Face, refusedFace, faced}
-
--- a step on the desk of these words
-abbrev pub stepFace : List ℕ → List ℕ → Stepped → Face
-stepFace words out step = faced words (step .desk .words) out (step .outcome) 0
-
-abbrev pub bytesFace : List ℕ → List ℕ → SteppedBytes → Face
-bytesFace words out step = faced words (step .desk .words) out (step .outcome) (step .next)
+use Rattle.line.specs.Entry.{bytesEntry, lookEntry, guardEntry}
+use Rattle.line.specs.Steps.{deskOf, entered}
+use Rattle.line.specs.declared.entry.Entry.{Entry}
+use Rattle.line.specs.declared.entry.BytesEntry.{BytesEntry}
+use Rattle.host_numbers.specs.Given.{lineActGiven, reportGiven, isWord, yes}
+use Rattle.tollherring.specs.Face.{Face, faced}
 
 -- a refused start makes no desk: the words stay as they were
 abbrev pub startWords : List ℕ → Stepped → List ℕ
@@ -31,22 +24,24 @@ lineStartedWords words given keep retain = pick (both (isWord keep) (isWord reta
 unfoldable pub lineStartedAnswer : List ℕ → ℕ → ℕ → ℕ
 lineStartedAnswer given keep retain = pick (both (isWord keep) (isWord retain)) (started given (yes keep) (yes retain) .outcome .refusal) 2
 
-unfoldable pub lineReceived : List ℕ → List ℕ → List ℕ → Face
-lineReceived words out bytes = bytesFace words out (receivedBytes (deskOf words) bytes)
+-- an entry's step on the desk of these words; `next` is the first unread place of what was read for it
+unfoldable pub lineEntered : List ℕ → List ℕ → Entry → ℕ → Face
+lineEntered words out entry next = faced words (entered (deskOf words) entry .desk .words) out (entered (deskOf words) entry .outcome) next
 
--- a report: 0 free, 1 busy
+abbrev pub lineBytes : List ℕ → List ℕ → BytesEntry → Face
+lineBytes words out read = lineEntered words out (read .entry) (read .next)
+
+unfoldable pub lineReceived : List ℕ → List ℕ → List ℕ → Face
+lineReceived words out bytes = lineBytes words out (bytesEntry bytes)
+
 unfoldable pub lineStatusReported : List ℕ → List ℕ → List ℕ → ℕ → Face
-lineStatusReported words out digits busy = pick (isWord busy) (stepFace words out (lineReported (deskOf words) digits (yes busy))) (refusedFace words out 2)
+lineStatusReported words out digits busy = lineEntered words out (reportGiven digits busy) 0
 
 unfoldable pub lineLooked : List ℕ → List ℕ → List ℕ → Face
-lineLooked words out digits = stepFace words out (looked (deskOf words) digits)
-
-abbrev pub onLineAct : List ℕ → List ℕ → List ℕ → LineActGiven → Face
-onLineAct words out identifier (LineActGiven.Act act) = stepFace words out (acted (deskOf words) identifier act)
-onLineAct words out identifier LineActGiven.Unknown = refusedFace words out 2
+lineLooked words out digits = lineEntered words out (lookEntry digits) 0
 
 unfoldable pub lineActed : List ℕ → List ℕ → List ℕ → ℕ → Face
-lineActed words out identifier act = onLineAct words out identifier (lineAct act)
+lineActed words out identifier act = lineEntered words out (lineActGiven identifier act) 0
 
 unfoldable pub lineGuarded : List ℕ → List ℕ → List ℕ → Face
-lineGuarded words out identifier = stepFace words out (guardReported (deskOf words) identifier)
+lineGuarded words out identifier = lineEntered words out (guardEntry identifier) 0

@@ -31,14 +31,14 @@ shown identifier numberA numberB numbers answer = record { identifier = identifi
 -- ---- the record at a place; a place whose record has no state has none
 abbrev pub clerkRecordShown : ClerkRecord.Record → Shown → Shown
 clerkRecordShown r none =
-    pick (eqb (ClerkCodes.stateCode (r .state)) 0) none (shown (bytesOf (r .identifier)) (bytesOf (r .numberA)) (bytesOf (r .numberB)) (clerkNumbers r) 0)
+    pick (eqb (ClerkCodes.stateCode (r .state)) 0) none (shown (bytesOf (r .terms .identifier)) (bytesOf (r .terms .numberA)) (bytesOf (r .terms .numberB)) (clerkNumbers r) 0)
 
 unfoldable pub clerkShown : List ℕ → ℕ → List ℕ → List ℕ → List ℕ → List ℕ → Shown
 clerkShown words place identifier numberA numberB numbers = clerkRecordShown (getD (ClerkRecords.records words) place ClerkRecords.blank) (shown identifier numberA numberB numbers 6)
 
 abbrev pub lineRecordShown : LineRecord.Record → Shown → Shown
 lineRecordShown r none =
-    pick (eqb (LineCodes.stateCode (r .state)) 0) none (shown (bytesOf (r .identifier)) (bytesOf (r .numberA)) (bytesOf (r .numberB)) (lineNumbers r) 0)
+    pick (eqb (LineCodes.stateCode (r .state)) 0) none (shown (bytesOf (r .terms .identifier)) (bytesOf (r .terms .numberA)) (bytesOf (r .terms .numberB)) (lineNumbers r) 0)
 
 unfoldable pub lineShown : List ℕ → ℕ → List ℕ → List ℕ → List ℕ → List ℕ → Shown
 lineShown words place identifier numberA numberB numbers = lineRecordShown (getD (LineRecords.records words) place LineRecords.blank) (shown identifier numberA numberB numbers 6)

@@ -1,35 +1,37 @@
 // The line desk for hosts: each call lends the desk's words, gives an input and is answered with the refusal's number or 0.
-use host_numbers::given::LineActGiven;
-use host_numbers::given::line_act;
-use line::plans::acted_plan;
-use line::plans::guard_reported_plan;
-use line::plans::line_reported_plan;
-use line::plans::looked_plan;
-use line::plans::received_plan;
+use host_numbers::given::line_act_given;
+use host_numbers::given::report_given;
+use line::entry::Entry;
+use line::entry::bytes_entry;
+use line::entry::guard_entry;
+use line::entry::look_entry;
 use line::start::start;
+use line_plan::plan_for;
+use line_records::WORDS;
 use line_records::change::apply;
-use line_table::record::Plan;
-use message::digits::PlaceRead;
+use line_table::inputs::Input;
+use told::TOLD;
 use told::refuse;
 use told::send;
 use told::tell;
 use writer::Written;
 ghost use mathlib.Core.Path.{_≡_};
-ghost use Rattle.line.specs.Steps.{deskOf, stepped};
+ghost use Rattle.line.specs.Steps.{deskOf, step};
 ghost use Rattle.line.specs.Start.{started};
 ghost use Rattle.tollherring.specs.Face.{face, faced};
-ghost use Rattle.tollherring.specs.Line.{startWords, lineStartedWords, lineStartedAnswer, lineReceived, lineStatusReported, lineLooked, lineActed, lineGuarded};
+ghost use Rattle.tollherring.specs.Line.{startWords, lineStartedWords, lineStartedAnswer, lineEntered, lineReceived, lineStatusReported, lineLooked, lineActed, lineGuarded};
 
-// The plan is made once its message has been written: with no room for it, nothing is done.
-fn finish(
-    words: &mut [u64; 498],
-    plan: Plan,
+// The one step that every call comes to. It is planned, its message is written, and only then is the change made: with no room for the message, nothing is done.
+fn step_in(
+    words: &mut [u64; WORDS],
+    input: Input,
     next: usize,
     out: &mut [u8],
-    told: &mut [u64; 7],
+    told: &mut [u64; TOLD],
 ) -> u64
-    ensures { λ r. ⌜ face (now (words .exit)) (now (out .exit)) (now (told .exit)) r ≡ faced (now (words .entry)) (stepped (deskOf (now (words .entry))) plan .desk .words) (now (out .entry)) (plan .outcome) next ⌝ }
+    ensures { λ r. ⌜ face (now (words .exit)) (now (out .exit)) (now (told .exit)) r ≡ faced (now (words .entry)) (step (deskOf (now (words .entry))) input .desk .words) (now (out .entry)) (step (deskOf (now (words .entry))) input .outcome) next ⌝ }
 {
+    let plan = plan_for(words, input);
     let outcome = plan.outcome;
     let sending = outcome.sending;
     match send(out, sending) {
@@ -43,7 +45,23 @@ fn finish(
     }
 }
 
-fn start_in(words: &mut [u64; 498], given: &[u8], keep: bool, retain: bool) -> u64
+// What was refused at the entry is told at once.
+fn enter(
+    words: &mut [u64; WORDS],
+    entry: Entry,
+    next: usize,
+    out: &mut [u8],
+    told: &mut [u64; TOLD],
+) -> u64
+    ensures { λ r. ⌜ face (now (words .exit)) (now (out .exit)) (now (told .exit)) r ≡ lineEntered (now (words .entry)) (now (out .entry)) entry next ⌝ }
+{
+    match entry {
+        Entry::Refused(number) => refuse(told, number),
+        Entry::Given(input) => step_in(words, input, next, out, told),
+    }
+}
+
+fn start_in(words: &mut [u64; WORDS], given: &[u8], keep: bool, retain: bool) -> u64
     ensures { λ r. ⌜ (r ≡ started (now (given .entry)) keep retain .outcome .refusal) × (now (words .exit) ≡ startWords (now (words .entry)) (started (now (given .entry)) keep retain)) ⌝ }
 {
     let step = start(given, keep, retain);
@@ -60,7 +78,7 @@ fn start_in(words: &mut [u64; 498], given: &[u8], keep: bool, retain: bool) -> u
 // A desk with its lines, all free, and its settings: 2, and then the words stay as they were.
 #[no_mangle]
 pub extern "C" fn tollherring_line_start(
-    words: &mut [u64; 498],
+    words: &mut [u64; WORDS],
     given: &[u8],
     keep: u64,
     retain: u64,
@@ -76,90 +94,75 @@ pub extern "C" fn tollherring_line_start(
     2
 }
 
-// Bytes reach the line's end: 1, 2, 3, 6, 7, 8, 12. The plan of a message goes straight on to be finished, since each hand that a plan passes through copies it.
+// Bytes reach the line's end: 1, 2, 3, 6, 7, 8, 12.
 #[no_mangle]
 pub extern "C" fn tollherring_line_receive(
-    words: &mut [u64; 498],
+    words: &mut [u64; WORDS],
     bytes: &[u8],
     out: &mut [u8],
-    told: &mut [u64; 7],
+    told: &mut [u64; TOLD],
 ) -> u64
     ensures { λ r. ⌜ face (now (words .exit)) (now (out .exit)) (now (told .exit)) r ≡ lineReceived (now (words .entry)) (now (out .entry)) (now (bytes .entry)) ⌝ }
 {
-    let answer = reader::read(bytes);
-    let verdict = answer.verdict;
-    match verdict {
-        PlaceRead::Refused(refusal) => refuse(told, refusal),
-        PlaceRead::Taken(next) => {
-            let m = answer.message;
-            let plan = received_plan(words, m);
-            finish(words, plan, next, out, told)
-        }
-    }
+    let read = bytes_entry(bytes);
+    let entry = read.entry;
+    enter(words, entry, read.next, out, told)
 }
 
 // A line is busy or free: 2, 10.
 #[no_mangle]
 pub extern "C" fn tollherring_line_report(
-    words: &mut [u64; 498],
+    words: &mut [u64; WORDS],
     digits: &[u8; 16],
     busy: u64,
     out: &mut [u8],
-    told: &mut [u64; 7],
+    told: &mut [u64; TOLD],
 ) -> u64
     ensures { λ r. ⌜ face (now (words .exit)) (now (out .exit)) (now (told .exit)) r ≡ lineStatusReported (now (words .entry)) (now (out .entry)) (now (digits .entry)) busy ⌝ }
 {
-    if busy <= 1 {
-        let plan = line_reported_plan(words, *digits, busy == 1);
-        return finish(words, plan, 0, out, told);
-    }
-    refuse(told, 2)
+    let entry = report_given(*digits, busy);
+    enter(words, entry, 0, out, told)
 }
 
 // A Look at a line: 10, 11, 12.
 #[no_mangle]
 pub extern "C" fn tollherring_line_look(
-    words: &mut [u64; 498],
+    words: &mut [u64; WORDS],
     digits: &[u8; 16],
     out: &mut [u8],
-    told: &mut [u64; 7],
+    told: &mut [u64; TOLD],
 ) -> u64
     ensures { λ r. ⌜ face (now (words .exit)) (now (out .exit)) (now (told .exit)) r ≡ lineLooked (now (words .entry)) (now (out .entry)) (now (digits .entry)) ⌝ }
 {
-    let plan = looked_plan(words, *digits);
-    finish(words, plan, 0, out, told)
+    let entry = look_entry(*digits);
+    enter(words, entry, 0, out, told)
 }
 
 // An act at the line's end: 2, 6, 7, 12.
 #[no_mangle]
 pub extern "C" fn tollherring_line_act(
-    words: &mut [u64; 498],
+    words: &mut [u64; WORDS],
     identifier: &[u8; 16],
     act: u64,
     out: &mut [u8],
-    told: &mut [u64; 7],
+    told: &mut [u64; TOLD],
 ) -> u64
     ensures { λ r. ⌜ face (now (words .exit)) (now (out .exit)) (now (told .exit)) r ≡ lineActed (now (words .entry)) (now (out .entry)) (now (identifier .entry)) act ⌝ }
 {
-    match line_act(act) {
-        LineActGiven::Act(what) => {
-            let plan = acted_plan(words, *identifier, what);
-            finish(words, plan, 0, out, told)
-        }
-        LineActGiven::Unknown => refuse(told, 2),
-    }
+    let entry = line_act_given(*identifier, act);
+    enter(words, entry, 0, out, told)
 }
 
 // The guard of a record ran out: 6, 12.
 #[no_mangle]
 pub extern "C" fn tollherring_line_guard(
-    words: &mut [u64; 498],
+    words: &mut [u64; WORDS],
     identifier: &[u8; 16],
     out: &mut [u8],
-    told: &mut [u64; 7],
+    told: &mut [u64; TOLD],
 ) -> u64
     ensures { λ r. ⌜ face (now (words .exit)) (now (out .exit)) (now (told .exit)) r ≡ lineGuarded (now (words .entry)) (now (out .entry)) (now (identifier .entry)) ⌝ }
 {
-    let plan = guard_reported_plan(words, *identifier);
-    finish(words, plan, 0, out, told)
+    let entry = guard_entry(*identifier);
+    enter(words, entry, 0, out, told)
 }

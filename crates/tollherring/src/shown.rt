@@ -1,10 +1,11 @@
 // What a desk holds, for hosts that show it: the record or line of a place, as bytes and plain numbers.
 use clerk_records::codes::state_code as clerk_state_code;
 use clerk_records::places::load as load_clerk;
+use host_numbers::shown::NUMBERS;
 use host_numbers::shown::clerk_numbers;
 use host_numbers::shown::kinds_number;
 use host_numbers::shown::line_numbers;
-use host_numbers::shown::show_bytes;
+use host_numbers::shown::show_names;
 use line_records::codes::state_code as line_state_code;
 use line_records::lines::load_line;
 use line_records::places::load as load_record;
@@ -18,12 +19,12 @@ ghost use Rattle.tollherring.specs.Shown.{shown, clerkShown, lineShown, 
 // The record at a place of the clerk's desk: 6 if there is none.
 #[no_mangle]
 pub extern "C" fn tollherring_clerk_record(
-    words: &[u64; 192],
+    words: &[u64; clerk_records::WORDS],
     place: u64,
     identifier: &mut [u8; 16],
     numberA: &mut [u8; 16],
     numberB: &mut [u8; 16],
-    numbers: &mut [u64; 8],
+    numbers: &mut [u64; NUMBERS],
 ) -> u64
     ensures { λ r. ⌜ shown (now (identifier .exit)) (now (numberA .exit)) (now (numberB .exit)) (now (numbers .exit)) r ≡ clerkShown (now (words .entry)) place (now (identifier .entry)) (now (numberA .entry)) (now (numberB .entry)) (now (numbers .entry)) ⌝ }
 {
@@ -32,10 +33,8 @@ pub extern "C" fn tollherring_clerk_record(
     if clerk_state_code(state) == 0 {
         return 6;
     }
-    let i = r.identifier;
-    let a = r.numberA;
-    let b = r.numberB;
-    show_bytes(identifier, numberA, numberB, i, a, b);
+    let terms = r.terms;
+    show_names(identifier, numberA, numberB, terms);
     *numbers = clerk_numbers(r);
     0
 }
@@ -43,12 +42,12 @@ pub extern "C" fn tollherring_clerk_record(
 // The record at a place of the line desk: 6 if there is none.
 #[no_mangle]
 pub extern "C" fn tollherring_line_record(
-    words: &[u64; 498],
+    words: &[u64; line_records::WORDS],
     place: u64,
     identifier: &mut [u8; 16],
     numberA: &mut [u8; 16],
     numberB: &mut [u8; 16],
-    numbers: &mut [u64; 8],
+    numbers: &mut [u64; NUMBERS],
 ) -> u64
     ensures { λ r. ⌜ shown (now (identifier .exit)) (now (numberA .exit)) (now (numberB .exit)) (now (numbers .exit)) r ≡ lineShown (now (words .entry)) place (now (identifier .entry)) (now (numberA .entry)) (now (numberB .entry)) (now (numbers .entry)) ⌝ }
 {
@@ -57,10 +56,8 @@ pub extern "C" fn tollherring_line_record(
     if line_state_code(state) == 0 {
         return 6;
     }
-    let i = r.identifier;
-    let a = r.numberA;
-    let b = r.numberB;
-    show_bytes(identifier, numberA, numberB, i, a, b);
+    let terms = r.terms;
+    show_names(identifier, numberA, numberB, terms);
     *numbers = line_numbers(r);
     0
 }
@@ -68,7 +65,7 @@ pub extern "C" fn tollherring_line_record(
 // The line at a place, its kinds and whether it is busy: 10 if there is none.
 #[no_mangle]
 pub extern "C" fn tollherring_line_at(
-    words: &[u64; 498],
+    words: &[u64; line_records::WORDS],
     place: u64,
     number: &mut [u8; 16],
     status: &mut [u64; 2],
