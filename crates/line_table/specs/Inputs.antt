@@ -1,6 +1,6 @@
 -- The inputs of the line desk, and what each means: whom it names; the row of each message and act; the replies that go with a refusal; the choices that a request brings.
 use Prim.Native.Nat.{ℕ, _/_}
-use mathlib.Core.Bool.{Bool, true, false}
+use mathlib.Core.Bool.{Bool}
 use lib.Dec.{eqb}
 use Rattle.lists.specs.Choice.{pick}
 use Rattle.message.specs.declared.Kind.the-variants.{Ccbs, Ccnr}
