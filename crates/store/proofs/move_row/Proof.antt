@@ -7,14 +7,14 @@ use denote.Ref.{now}
 use lib.ListN.{length, drop, length-set}
 use lib.Seq.{paste, paste-zero}
 use Rattle.store.proofs.Turns.{shift-turn}
-use Rattle.store.proofs.shift.Statement.{statement}
-use Rattle.store.proofs.shift.Tie as tie
+use Rattle.store.proofs.move_row.Statement.{statement}
+use Rattle.store.proofs.move_row.Tie as tie
 
 abbrev Inv-loop : tie.InvT-loop
-Inv-loop ws₀ at width later j₀ ws j = (j ≤ later) × ((length ws ≡ length ws₀) × (ws ≡ paste ws₀ at (drop (at + width) ws₀) j))
+Inv-loop ws₀ at width j₀ ws j = (j ≤ width) × ((length ws ≡ length ws₀) × (ws ≡ paste ws₀ at (drop (at + width) ws₀) j))
 
 abbrev μ-loop : tie.MeasureT-loop
-μ-loop ws₀ at width later j₀ ws j = later - j
+μ-loop ws₀ at width j₀ ws j = width - j
 
 loop-holds : tie.Need-loop-holds Inv-loop μ-loop
 loop-holds c =
@@ -66,11 +66,11 @@ returns : tie.Need-returns Inv-loop μ-loop
 returns c =
     let l = c .before .loop in
     let a = c .before .before .args in
-    let e : l .j ≡ a .later = omega arith in
+    let e : l .j ≡ a .width = omega arith in
     l .inv .1 .1 ∙ ap (paste (now (a .ws)) (a .at) (drop (a .at + a .width) (now (a .ws)))) e
 
-pub shift-spec : {M : Type 1} → statement M
-shift-spec =
+pub move-row-spec : {M : Type 1} → statement M
+move-row-spec =
     tie.close
     (tie.spec
     Inv-loop
