@@ -1,7 +1,7 @@
 -- By can-keep.
 use borrow.Author.Needs.{needs}
-use Rattle.clerk.proofs.plans.ask_flags.Statement.{statement}
-use Rattle.clerk.proofs.plans.ask_flags.Tie as tie
+use Rattle.clerk.proofs.entry.ask_flags.Statement.{statement}
+use Rattle.clerk.proofs.entry.ask_flags.Tie as tie
 
 mul-result : tie.Need-mul-result
 mul-result c = search needs
