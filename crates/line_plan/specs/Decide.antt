@@ -16,7 +16,7 @@ use Rattle.desk.specs.declared.sends.Sends.the-variants as Sends
 use Rattle.terms.specs.Request.{letterNames}
 use Rattle.terms.specs.declared.request.Names.{Names}
 use Rattle.terms.specs.declared.request.Request.{Request}
-use Rattle.line_table.specs.Table.{effectOf, holdsIn}
+use Rattle.line_table.specs.Table.{homeOf, holdsIn}
 use Rattle.line_table.specs.Line.{allows, canTake}
 use Rattle.line_table.specs.Inputs.{messageFor, rowFor, rowOfAct, replyMissed}
 use Rattle.line_table.specs.Search.{ofLine, passes}
@@ -41,7 +41,7 @@ abbrev pub lineMost : ℕ
 lineMost = 5
 
 abbrev pub holdsFor : Row → Record → Bool
-holdsFor row r = holdsIn (effectOf row .home) (r .state)
+holdsFor row r = holdsIn (homeOf row) (r .state)
 
 -- ---- messages about a record: 6, 7, 8
 -- whether the line of a number can take a call; the number of a record is a line's on every desk that is reached

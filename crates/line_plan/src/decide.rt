@@ -27,8 +27,8 @@ use line_table::record::Decision;
 use line_table::record::Record;
 use line_table::search::Sought;
 use line_table::table::Row;
-use line_table::table::effect_of;
 use line_table::table::holds_in;
+use line_table::table::home_of;
 use lists::Found;
 use lists::words::Words;
 use terms::request::Names;
@@ -45,8 +45,7 @@ const LINE_MOST: usize = 5;
 fn holds_for(row: Row, r: Record) -> bool
     ensures { λ q. ⌜ q ≡ holdsFor row r ⌝ }
 {
-    let effect = effect_of(row);
-    let home = effect.home;
+    let home = home_of(row);
     let state = r.state;
     holds_in(home, state)
 }

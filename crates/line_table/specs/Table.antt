@@ -16,57 +16,65 @@ use Rattle.line_table.specs.declared.table.Mark.{Mark}
 use Rattle.line_table.specs.declared.table.Mark.the-variants as Mark
 use Rattle.line_table.specs.declared.table.Effect.{Effect}
 
--- ---- the words of the columns: nothing, or what is sent, or what becomes of a mark
-pub data Column (A : Type 0) : Type 0 where
-  nothing : Column A
-  something : A → Column A
+-- ---- the words of the table: what stands in a column, and one word for nothing in all of them
+pub data Column : Type 0 where
+  sending marking : Column
 
-abbrev sends : Body → Column Body
-sends body = something body
+pub data Cell : Column → Type 0 where
+  nothing : {column : Column} → Cell column
+  sends : Body → Cell sending
+  sets : Cell marking
+  clears : Cell marking
 
-abbrev sets : Column Mark
-sets = something Mark.Sets
+abbrev sent : Cell sending → Sends
+sent nothing = Sends.Nothing
+sent (sends body) = Sends.One body
 
-abbrev clears : Column Mark
-clears = something Mark.Clears
+abbrev marked : Cell marking → Mark
+marked nothing = Mark.Nothing
+marked sets = Mark.Sets
+marked clears = Mark.Clears
 
-abbrev sentBy : Column Body → Sends
-sentBy nothing = Sends.Nothing
-sentBy (something body) = Sends.One body
+-- a row of the table: where it is taken, and what it does
+pub record Rule : Type 0 where
+  pub home : Home
+  pub effect : Effect
 
-abbrev markBy : Column Mark → Mark
-markBy nothing = Mark.Nothing
-markBy (something mark) = mark
+abbrev row : Home → Next → Cell sending → Cell marking → Cell marking → Rule
+row home next message activity suspension =
+    record { home = home; effect = record { next = next; sends = sent message; active = marked activity; suspended = marked suspension } }
 
-abbrev row : Home → Next → Column Body → Column Mark → Column Mark → Effect
-row home next sends active suspended = record { home = home; next = next; sends = sentBy sends; active = markBy active; suspended = markBy suspended }
-
--- ---- the rows
-abbrev pub effectOf : Row → Effect
+-- ---- the table
 -- taken in · then · sends · activity mark · suspended mark
-
+abbrev pub ruleOf : Row → Rule
 -- Look: the record is offered (8.2.1.4) · offering sends ccExecPossible; Await
-effectOf Offers = row InInvoked (To Await) (sends CcExecPossible) nothing nothing
+ruleOf Offers = row InInvoked (To Await) (sends CcExecPossible) nothing nothing
 -- ccSuspend in Await (8.2.1.6, first paragraph) · set the suspended mark
-effectOf Suspends = row InAwait (To Await) nothing nothing sets
+ruleOf Suspends = row InAwait (To Await) nothing nothing sets
 -- ccResume in Await (8.2.1.6, second and third paragraphs: mend M5) · clear that mark, Invoked; the activity mark stays
-effectOf Resumes = row InAwait (To Invoked) nothing nothing clears
+ruleOf Resumes = row InAwait (To Invoked) nothing nothing clears
 -- ccRingout in Await, line free (8.2.1.5) · clear the suspended mark, Alert
-effectOf RingsOut = row InAwait (To Alert) nothing nothing clears
+ruleOf RingsOut = row InAwait (To Alert) nothing nothing clears
 -- ccRingout in Await, line busy, keep chosen (8.2.2.3) · busy again: send remoteUserBusyAgain; Invoked with activity marked and the suspended mark cleared
-effectOf BusyAgainKept = row InAwait (To Invoked) (sends (RingoutError 1)) sets clears
+ruleOf BusyAgainKept = row InAwait (To Invoked) (sends (RingoutError 1)) sets clears
 -- ccRingout in Await, line busy, keep not chosen (8.2.2.3) · busy again: send remoteUserBusyAgain; delete
-effectOf BusyAgainEnded = row InAwait Gone (sends (RingoutError 1)) nothing nothing
+ruleOf BusyAgainEnded = row InAwait Gone (sends (RingoutError 1)) nothing nothing
 -- act alerted in Alert (8.2.1.5, last paragraph) · send type 11, call alerts, in Alerting; delete
-effectOf Alerts = row InAlert Gone (sends CallAlerts) nothing nothing
+ruleOf Alerts = row InAlert Gone (sends CallAlerts) nothing nothing
 -- act call failed in Alert (8.2.2.4; type 12 is document 01's) · send type 12, call failed; delete
-effectOf CallFails = row InAlert Gone (sends CallFailed) nothing nothing
+ruleOf CallFails = row InAlert Gone (sends CallFailed) nothing nothing
 -- ccCancel received (8.2.1.7 a) · in any state: delete
-effectOf ClerkCancels = row Always Gone nothing nothing nothing
+ruleOf ClerkCancels = row Always Gone nothing nothing nothing
 -- act cancel (8.2.1.7 b) · send ccCancel, delete
-effectOf LineCancels = row Always Gone (sends CcCancel) nothing nothing
+ruleOf LineCancels = row Always Gone (sends CcCancel) nothing nothing
 -- guard reported (8.2.1.4, note; 8.2.1.7 b; ours, as 11.4.2 names no timer) · the guard running out: send ccCancel, delete
-effectOf GuardRunsOut = row Always Gone (sends CcCancel) nothing nothing
+ruleOf GuardRunsOut = row Always Gone (sends CcCancel) nothing nothing
+
+abbrev pub homeOf : Row → Home
+homeOf row = ruleOf row .home
+
+abbrev pub effectOf : Row → Effect
+effectOf row = ruleOf row .effect
 
 -- the states in which a row is taken; a free place has no row
 abbrev pub holdsIn : Home → State → Bool

@@ -3,7 +3,7 @@
 use desk::sends::Sends;
 use message::Body;
 ghost use mathlib.Core.Path.{_≡_};
-ghost use Rattle.line_table.specs.Table.{effectOf, holdsIn};
+ghost use Rattle.line_table.specs.Table.{homeOf, effectOf, holdsIn};
 
 // Free is a place with no record, CC-Idle; then CC-Invoked-User-B, CC-Await-Call-Completion and CC-Wait-User-B-Alert.
 pub enum State {
@@ -59,12 +59,31 @@ pub enum Mark {
     Clears,
 }
 
+// What becomes of the record, what is sent, and what becomes of its two marks.
 pub struct Effect {
-    pub home: Home,
     pub next: Next,
     pub sends: Sends,
     pub active: Mark,
     pub suspended: Mark,
+}
+
+// Where a row is taken.
+pub fn home_of(row: Row) -> Home
+    ensures { λ r. ⌜ r ≡ homeOf row ⌝ }
+{
+    match row {
+        Row::Offers => Home::InInvoked,
+        Row::Suspends => Home::InAwait,
+        Row::Resumes => Home::InAwait,
+        Row::RingsOut => Home::InAwait,
+        Row::BusyAgainKept => Home::InAwait,
+        Row::BusyAgainEnded => Home::InAwait,
+        Row::Alerts => Home::InAlert,
+        Row::CallFails => Home::InAlert,
+        Row::ClerkCancels => Home::Always,
+        Row::LineCancels => Home::Always,
+        Row::GuardRunsOut => Home::Always,
+    }
 }
 
 // What a row does.
@@ -73,77 +92,66 @@ pub fn effect_of(row: Row) -> Effect
 {
     match row {
         Row::Offers => Effect {
-            home: Home::InInvoked,
             next: Next::To(State::Await),
             sends: Sends::One(Body::CcExecPossible),
             active: Mark::Nothing,
             suspended: Mark::Nothing,
         },
         Row::Suspends => Effect {
-            home: Home::InAwait,
             next: Next::To(State::Await),
             sends: Sends::Nothing,
             active: Mark::Nothing,
             suspended: Mark::Sets,
         },
         Row::Resumes => Effect {
-            home: Home::InAwait,
             next: Next::To(State::Invoked),
             sends: Sends::Nothing,
             active: Mark::Nothing,
             suspended: Mark::Clears,
         },
         Row::RingsOut => Effect {
-            home: Home::InAwait,
             next: Next::To(State::Alert),
             sends: Sends::Nothing,
             active: Mark::Nothing,
             suspended: Mark::Clears,
         },
         Row::BusyAgainKept => Effect {
-            home: Home::InAwait,
             next: Next::To(State::Invoked),
             sends: Sends::One(Body::RingoutError { error: 1 }),
             active: Mark::Sets,
             suspended: Mark::Clears,
         },
         Row::BusyAgainEnded => Effect {
-            home: Home::InAwait,
             next: Next::Gone,
             sends: Sends::One(Body::RingoutError { error: 1 }),
             active: Mark::Nothing,
             suspended: Mark::Nothing,
         },
         Row::Alerts => Effect {
-            home: Home::InAlert,
             next: Next::Gone,
             sends: Sends::One(Body::CallAlerts),
             active: Mark::Nothing,
             suspended: Mark::Nothing,
         },
         Row::CallFails => Effect {
-            home: Home::InAlert,
             next: Next::Gone,
             sends: Sends::One(Body::CallFailed),
             active: Mark::Nothing,
             suspended: Mark::Nothing,
         },
         Row::ClerkCancels => Effect {
-            home: Home::Always,
             next: Next::Gone,
             sends: Sends::Nothing,
             active: Mark::Nothing,
             suspended: Mark::Nothing,
         },
         Row::LineCancels => Effect {
-            home: Home::Always,
             next: Next::Gone,
             sends: Sends::One(Body::CcCancel),
             active: Mark::Nothing,
             suspended: Mark::Nothing,
         },
         Row::GuardRunsOut => Effect {
-            home: Home::Always,
             next: Next::Gone,
             sends: Sends::One(Body::CcCancel),
             active: Mark::Nothing,
