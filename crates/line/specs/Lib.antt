@@ -1,2 +1,3 @@
-pub mod Start
+pub mod Entry
 pub mod Steps
+pub mod Start

@@ -1,4 +1,4 @@
--- The line desk started from its lines and settings. A line is given in seventeen bytes: its number in sixteen places, then the kinds that it allows.
+-- The line desk started from its lines and settings. A line is given as its number in sixteen places, and behind it the kinds that it allows.
 use Prim.Native.Nat.{ℕ, zero, suc, _+_, _*_, _/_, _%_}
 use mathlib.Core.Bool.{Bool, true, false}
 use mathlib.Core.List.{List}
@@ -14,9 +14,16 @@ use Rattle.desk.specs.Letter.{numberWords}
 use Rattle.desk.specs.Outcome.{noTimers, refusedWith, doneWith}
 use Rattle.desk.specs.declared.outcome.Sending.the-variants as Sending
 use Rattle.line_table.specs.declared.line.Line.{Line}
+use Rattle.line_records.specs.Layout as Layout
 use Rattle.line_records.specs.Lines.{lines, lineAt, putLine, withSettings}
-use Rattle.line.specs.declared.Desk.{Desk}
 use Rattle.line.specs.declared.steps.Stepped.{Stepped}
+
+-- the bytes of a line that is given: its number's, then one of its kinds
+abbrev pub kindsAt : ℕ
+kindsAt = 16
+
+abbrev pub givenWidth : ℕ
+givenWidth = kindsAt + 1
 
 abbrev pub absent : Found → Bool
 absent (At k) = false
@@ -47,13 +54,13 @@ linesTold false ws = bad
 unfoldable pub takeLines : ℕ → ℕ → List ℕ → List ℕ → Lines
 takeLines zero k bytes ws = stored ws
 takeLines (suc left) k bytes ws =
-    pick (goodLine ws (take 16 bytes) (getD bytes 16 0))
-    (takeLines left (suc k) (drop 17 bytes) (lineTaken ws k (take 16 bytes) (getD bytes 16 0)))
+    pick (goodLine ws (take kindsAt bytes) (getD bytes kindsAt 0))
+    (takeLines left (suc k) (drop givenWidth bytes) (lineTaken ws k (take kindsAt bytes) (getD bytes kindsAt 0)))
     bad
 
 -- no desk is made: the answer has one without lines
 abbrev pub refusedStart : Stepped
-refusedStart = record { desk = record { words = replicate 498 0 }; outcome = refusedWith 2 Sending.Nothing }
+refusedStart = record { desk = record { words = replicate Layout.words 0 }; outcome = refusedWith 2 Sending.Nothing }
 
 abbrev pub startedBy : Lines → Stepped
 startedBy (stored ws) = record { desk = record { words = ws }; outcome = doneWith Sending.Nothing noTimers noTimers }
@@ -62,8 +69,8 @@ startedBy bad = refusedStart
 -- 2 for more than 16 lines, for bytes that end inside a line, and for a line that is not good
 unfoldable pub started : List ℕ → Bool → Bool → Stepped
 started given keep retain =
-    pick (leb (length given / 17) 16)
-    (pick (eqb (length given / 17 * 17) (length given))
-    (startedBy (takeLines (length given / 17) 0 given (withSettings (replicate 498 0) keep retain)))
+    pick (leb (length given / givenWidth) Layout.linePlaces)
+    (pick (eqb (length given / givenWidth * givenWidth) (length given))
+    (startedBy (takeLines (length given / givenWidth) 0 given (withSettings (replicate Layout.words 0) keep retain)))
     refusedStart)
     refusedStart

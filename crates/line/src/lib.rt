@@ -1,12 +1,13 @@
-// The line desk, User B's endpoint: sixteen lines, thirty-two records in the order of acceptance, and every input's step. A step plans on
-// words that are lent and then applies the plan to them; by value the desk goes in and comes back with the outcome.
-pub mod lent;
-pub mod plans;
+// The line desk, User B's endpoint: its lines, its records in the order of acceptance, and every input's step. What is put in is made an entry; a step plans on words
+// that are lent and then applies the plan to them; by value the desk goes in and comes back with the outcome.
+use line_records::WORDS;
+
+pub mod entry;
+pub mod on_words;
 pub mod start;
 pub mod steps;
 
-// Thirty-two records of thirteen words, sixteen lines of five words, and the two settings. Every value of it is a desk: a place whose state
-// word is no state has no record.
+// Records, lines and settings, as `line_records` keeps them. Every value of it is a desk: a place whose state word is no state has no record.
 pub struct Desk {
-    pub words: [u64; 498],
+    pub words: [u64; WORDS],
 }

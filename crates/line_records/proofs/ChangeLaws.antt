@@ -19,66 +19,67 @@ use Rattle.line_table.specs.Search.{marks}
 use Rattle.line_table.specs.declared.record.Record.{Record}
 use Rattle.line_table.specs.declared.record.Change.{Change}
 use Rattle.line_table.specs.declared.record.Change.the-variants.{Stay, Put, Remove, Report}
+use Rattle.line_records.specs.Layout as Layout
 use Rattle.line_records.specs.Records.{blank, records, putRecord, removed}
 use Rattle.line_records.specs.Lines.{noLine, lines, putLine, keeps, retains}
-use Rattle.line_records.specs.Change.{activated, markPlace, marked, statusStored, reported, applied}
+use Rattle.line_records.specs.Change.{activated, markPlace, marked, statusStored, withReport, applied}
 use Rattle.line_records.proofs.RecordsLaws.{records-length, records-put, records-drop}
 use Rattle.line_records.proofs.LinesLaws.{lines-length, lines-same, keeps-same, retains-same, settings-behind, putRow-length, putRow-behind, dropRow-length, dropRow-behind, overLine-length, overLine-behind, records-overLine, lines-put}
 
 -- ---- one record put, at any place
-put-length : (words : List ℕ) (i : ℕ) (r : Record) → length words ≡ 498 → length (putRecord words i r) ≡ length words
+put-length : (words : List ℕ) (i : ℕ) (r : Record) → length words ≡ Layout.words → length (putRecord words i r) ≡ length words
 unfolding putRecord
 put-length words i r l =
-    pick-elim (λ (v : List ℕ). length v ≡ length words) (ltb i 32) (λ t. putRow-length words i r (ltb-true i 32 t) l) (λ f. refl)
+    pick-elim (λ (v : List ℕ). length v ≡ length words) (ltb i Layout.places) (λ t. putRow-length words i r (ltb-true i Layout.places t) l) (λ f. refl)
 
-put-behind : (words : List ℕ) (i : ℕ) (r : Record) → length words ≡ 498 → drop 416 (putRecord words i r) ≡ drop 416 words
+put-behind : (words : List ℕ) (i : ℕ) (r : Record) → length words ≡ Layout.words → drop Layout.linesAt (putRecord words i r) ≡ drop Layout.linesAt words
 unfolding putRecord
 put-behind words i r l =
-    pick-elim (λ (v : List ℕ). drop 416 v ≡ drop 416 words) (ltb i 32) (λ t. putRow-behind words i r (ltb-true i 32 t) l) (λ f. refl)
+    pick-elim (λ (v : List ℕ). drop Layout.linesAt v ≡ drop Layout.linesAt words) (ltb i Layout.places) (λ t. putRow-behind words i r (ltb-true i Layout.places t) l) (λ f. refl)
 
-put-records : (words : List ℕ) (i : ℕ) (r : Record) → length words ≡ 498 → records (putRecord words i r) ≡ set (records words) i r
+put-records : (words : List ℕ) (i : ℕ) (r : Record) → length words ≡ Layout.words → records (putRecord words i r) ≡ set (records words) i r
 unfolding putRecord
 put-records words i r l =
-    pick-elim (λ (v : List ℕ). records v ≡ set (records words) i r) (ltb i 32)
-    (λ t. records-put words i r (ltb-true i 32 t) l)
-    (λ f. sym (set-out (records words) i r (omega (arith, records-length words, ltb-false i 32 f))))
+    pick-elim (λ (v : List ℕ). records v ≡ set (records words) i r) (ltb i Layout.places)
+    (λ t. records-put words i r (ltb-true i Layout.places t) (omega arith))
+    (λ f. sym (set-out (records words) i r (omega (arith, records-length words, ltb-false i Layout.places f))))
 
 -- ---- one record removed, at any place
-removed-length : (words : List ℕ) (i : ℕ) → length words ≡ 498 → length (removed words i) ≡ length words
+removed-length : (words : List ℕ) (i : ℕ) → length words ≡ Layout.words → length (removed words i) ≡ length words
 unfolding removed
 removed-length words i l =
-    pick-elim (λ (v : List ℕ). length v ≡ length words) (ltb i 32) (λ t. dropRow-length words i (ltb-true i 32 t) l) (λ f. refl)
+    pick-elim (λ (v : List ℕ). length v ≡ length words) (ltb i Layout.places) (λ t. dropRow-length words i (ltb-true i Layout.places t) l) (λ f. refl)
 
-removed-behind : (words : List ℕ) (i : ℕ) → length words ≡ 498 → drop 416 (removed words i) ≡ drop 416 words
+removed-behind : (words : List ℕ) (i : ℕ) → length words ≡ Layout.words → drop Layout.linesAt (removed words i) ≡ drop Layout.linesAt words
 unfolding removed
 removed-behind words i l =
-    pick-elim (λ (v : List ℕ). drop 416 v ≡ drop 416 words) (ltb i 32) (λ t. dropRow-behind words i (ltb-true i 32 t) l) (λ f. refl)
+    pick-elim (λ (v : List ℕ). drop Layout.linesAt v ≡ drop Layout.linesAt words) (ltb i Layout.places) (λ t. dropRow-behind words i (ltb-true i Layout.places t) l) (λ f. refl)
 
-removed-records : (words : List ℕ) (i : ℕ) → length words ≡ 498 → records (removed words i) ≡ without blank (records words) i
+removed-records : (words : List ℕ) (i : ℕ) → length words ≡ Layout.words → records (removed words i) ≡ without blank (records words) i
 unfolding removed
 removed-records words i l =
-    pick-elim (λ (v : List ℕ). records v ≡ without blank (records words) i) (ltb i 32)
-    (λ t. records-drop words i (ltb-true i 32 t) l)
-    (λ f. sym (without-past blank (records words) i (omega (arith, records-length words, ltb-false i 32 f))))
+    pick-elim (λ (v : List ℕ). records v ≡ without blank (records words) i) (ltb i Layout.places)
+    (λ t. records-drop words i (ltb-true i Layout.places t) (omega arith))
+    (λ f. sym (without-past blank (records words) i (omega (arith, records-length words, ltb-false i Layout.places f))))
 
 -- ---- the marks of a busy report
-place-length : (number : Words) (i : ℕ) (words : List ℕ) → length words ≡ 498 → length (markPlace number i words) ≡ length words
+place-length : (number : Words) (i : ℕ) (words : List ℕ) → length words ≡ Layout.words → length (markPlace number i words) ≡ length words
 unfolding markPlace
 place-length number i words l =
     let r = getD (records words) i blank in
     pick-elim (λ (v : List ℕ). length v ≡ length words) (marks number r) (λ t. put-length words i (activated r) l) (λ f. refl)
 
-place-behind : (number : Words) (i : ℕ) (words : List ℕ) → length words ≡ 498 → drop 416 (markPlace number i words) ≡ drop 416 words
+place-behind : (number : Words) (i : ℕ) (words : List ℕ) → length words ≡ Layout.words → drop Layout.linesAt (markPlace number i words) ≡ drop Layout.linesAt words
 unfolding markPlace
 place-behind number i words l =
     let r = getD (records words) i blank in
-    pick-elim (λ (v : List ℕ). drop 416 v ≡ drop 416 words) (marks number r) (λ t. put-behind words i (activated r) l) (λ f. refl)
+    pick-elim (λ (v : List ℕ). drop Layout.linesAt v ≡ drop Layout.linesAt words) (marks number r) (λ t. put-behind words i (activated r) l) (λ f. refl)
 
 abbrev marking : Words → Record → Record
 marking number r = pick (marks number r) (activated r) r
 
 place-records :
-    (number : Words) (i : ℕ) (words : List ℕ) → length words ≡ 498 →
+    (number : Words) (i : ℕ) (words : List ℕ) → length words ≡ Layout.words →
     records (markPlace number i words) ≡ set (records words) i (marking number (getD (records words) i blank))
 unfolding markPlace
 place-records number i words l =
@@ -88,14 +89,14 @@ place-records number i words l =
     (λ t. put-records words i (activated r) l ∙ ap (λ (b : Bool). set rs i (pick b (activated r) r)) (sym t))
     (λ f. sym (set-getD rs i blank) ∙ ap (λ (b : Bool). set rs i (pick b (activated r) r)) (sym f))
 
-pub marked-length : (number : Words) (n : ℕ) (words : List ℕ) → length words ≡ 498 → length (marked number n words) ≡ length words
+pub marked-length : (number : Words) (n : ℕ) (words : List ℕ) → length words ≡ Layout.words → length (marked number n words) ≡ length words
 unfolding marked
 marked-length number zero words l = refl
 marked-length number (suc n) words l =
     let e = marked-length number n words l in
     place-length number n (marked number n words) (e ∙ l) ∙ e
 
-pub marked-behind : (number : Words) (n : ℕ) (words : List ℕ) → length words ≡ 498 → drop 416 (marked number n words) ≡ drop 416 words
+pub marked-behind : (number : Words) (n : ℕ) (words : List ℕ) → length words ≡ Layout.words → drop Layout.linesAt (marked number n words) ≡ drop Layout.linesAt words
 unfolding marked
 marked-behind number zero words l = refl
 marked-behind number (suc n) words l =
@@ -103,7 +104,7 @@ marked-behind number (suc n) words l =
 
 -- after n places those from n on are still to be marked
 marked-from :
-    (number : Words) (n : ℕ) (words : List ℕ) → n ≤ 32 → length words ≡ 498 →
+    (number : Words) (n : ℕ) (words : List ℕ) → n ≤ Layout.places → length words ≡ Layout.words →
     map (marking number) (records words) ≡ mapFrom (marking number) n (records (marked number n words))
 unfolding marked
 marked-from number zero words h l = map-start (marking number) (records words)
@@ -117,104 +118,104 @@ marked-from number (suc n) words h l =
     ∙ ap (mapFrom f (suc n)) (sym (place-records number n before (marked-length number n words l ∙ l)))
 
 pub records-marked :
-    (number : Words) (words : List ℕ) → length words ≡ 498 →
-    records (marked number 32 words) ≡ map (λ r. pick (marks number r) (activated r) r) (records words)
+    (number : Words) (words : List ℕ) → length words ≡ Layout.words →
+    records (marked number Layout.places words) ≡ map (λ r. pick (marks number r) (activated r) r) (records words)
 records-marked number words l =
-    sym (marked-from number 32 words (omega arith) l
-    ∙ map-done (marking number) (records (marked number 32 words)) 32 (omega (arith, records-length (marked number 32 words))))
+    sym (marked-from number Layout.places words (omega arith) l
+    ∙ map-done (marking number) (records (marked number Layout.places words)) Layout.places (omega (arith, records-length (marked number Layout.places words))))
 
 -- ---- the status of a report, at any place
-status-length : (words : List ℕ) (k : ℕ) (busy : Bool) → length words ≡ 498 → length (statusStored words k busy) ≡ length words
+status-length : (words : List ℕ) (k : ℕ) (busy : Bool) → length words ≡ Layout.words → length (statusStored words k busy) ≡ length words
 unfolding statusStored putLine
 status-length words k busy l =
     let line = withStatus (getD (lines words) k noLine) busy in
-    pick-elim (λ (v : List ℕ). length v ≡ length words) (ltb k 16) (λ t. overLine-length words k line (ltb-true k 16 t) l) (λ f. refl)
+    pick-elim (λ (v : List ℕ). length v ≡ length words) (ltb k Layout.linePlaces) (λ t. overLine-length words k line (ltb-true k Layout.linePlaces t) l) (λ f. refl)
 
-status-settings : (words : List ℕ) (k : ℕ) (busy : Bool) → length words ≡ 498 → drop 496 (statusStored words k busy) ≡ drop 496 words
+status-settings : (words : List ℕ) (k : ℕ) (busy : Bool) → length words ≡ Layout.words → drop Layout.keepsAt (statusStored words k busy) ≡ drop Layout.keepsAt words
 unfolding statusStored putLine
 status-settings words k busy l =
     let line = withStatus (getD (lines words) k noLine) busy in
-    pick-elim (λ (v : List ℕ). drop 496 v ≡ drop 496 words) (ltb k 16) (λ t. overLine-behind words k line (ltb-true k 16 t) l) (λ f. refl)
+    pick-elim (λ (v : List ℕ). drop Layout.keepsAt v ≡ drop Layout.keepsAt words) (ltb k Layout.linePlaces) (λ t. overLine-behind words k line (ltb-true k Layout.linePlaces t) l) (λ f. refl)
 
-status-records : (words : List ℕ) (k : ℕ) (busy : Bool) → length words ≡ 498 → records (statusStored words k busy) ≡ records words
+status-records : (words : List ℕ) (k : ℕ) (busy : Bool) → length words ≡ Layout.words → records (statusStored words k busy) ≡ records words
 unfolding statusStored putLine
 status-records words k busy l =
     let line = withStatus (getD (lines words) k noLine) busy in
-    pick-elim (λ (v : List ℕ). records v ≡ records words) (ltb k 16) (λ t. records-overLine words k line (ltb-true k 16 t) l) (λ f. refl)
+    pick-elim (λ (v : List ℕ). records v ≡ records words) (ltb k Layout.linePlaces) (λ t. records-overLine words k line (ltb-true k Layout.linePlaces t) l) (λ f. refl)
 
 status-lines :
-    (words : List ℕ) (k : ℕ) (busy : Bool) → length words ≡ 498 →
+    (words : List ℕ) (k : ℕ) (busy : Bool) → length words ≡ Layout.words →
     lines (statusStored words k busy) ≡ set (lines words) k (withStatus (getD (lines words) k noLine) busy)
 unfolding statusStored putLine
 status-lines words k busy l =
     let line = withStatus (getD (lines words) k noLine) busy in
-    pick-elim (λ (v : List ℕ). lines v ≡ set (lines words) k line) (ltb k 16)
-    (λ t. lines-put words k line (ltb-true k 16 t) l)
-    (λ f. sym (set-out (lines words) k line (omega (arith, lines-length words, ltb-false k 16 f))))
+    pick-elim (λ (v : List ℕ). lines v ≡ set (lines words) k line) (ltb k Layout.linePlaces)
+    (λ t. lines-put words k line (ltb-true k Layout.linePlaces t) l)
+    (λ f. sym (set-out (lines words) k line (omega (arith, lines-length words, ltb-false k Layout.linePlaces f))))
 
 -- ---- every change
 pub applied-stay : (words : List ℕ) → applied words Stay ≡ words
 unfolding applied
 applied-stay words = refl
 
-pub applied-length : (words : List ℕ) (change : Change) → length words ≡ 498 → length (applied words change) ≡ 498
-unfolding applied reported
+pub applied-length : (words : List ℕ) (change : Change) → length words ≡ Layout.words → length (applied words change) ≡ Layout.words
+unfolding applied withReport
 applied-length words Stay l = l
 applied-length words (Put i r) l = put-length words i r l ∙ l
 applied-length words (Remove i) l = removed-length words i l ∙ l
 applied-length words (Report k number true) l =
     let e = status-length words k true l ∙ l in
-    marked-length number 32 (statusStored words k true) e ∙ e
+    marked-length number Layout.places (statusStored words k true) e ∙ e
 applied-length words (Report k number false) l = status-length words k false l ∙ l
 
 pub records-applied-put :
-    (words : List ℕ) (i : ℕ) (r : Record) → length words ≡ 498 → records (applied words (Put i r)) ≡ set (records words) i r
+    (words : List ℕ) (i : ℕ) (r : Record) → length words ≡ Layout.words → records (applied words (Put i r)) ≡ set (records words) i r
 unfolding applied
 records-applied-put words i r l = put-records words i r l
 
 pub records-applied-remove :
-    (words : List ℕ) (i : ℕ) → length words ≡ 498 → records (applied words (Remove i)) ≡ without blank (records words) i
+    (words : List ℕ) (i : ℕ) → length words ≡ Layout.words → records (applied words (Remove i)) ≡ without blank (records words) i
 unfolding applied
 records-applied-remove words i l = removed-records words i l
 
 pub records-applied-report :
-    (words : List ℕ) (k : ℕ) (number : Words) (busy : Bool) → length words ≡ 498 →
+    (words : List ℕ) (k : ℕ) (number : Words) (busy : Bool) → length words ≡ Layout.words →
     records (applied words (Report k number busy)) ≡ pick busy (map (λ r. pick (marks number r) (activated r) r) (records words)) (records words)
-unfolding applied reported
+unfolding applied withReport
 records-applied-report words k number true l =
     records-marked number (statusStored words k true) (status-length words k true l ∙ l)
     ∙ ap (map (marking number)) (status-records words k true l)
 records-applied-report words k number false l = status-records words k false l
 
-pub lines-applied-put : (words : List ℕ) (i : ℕ) (r : Record) → length words ≡ 498 → lines (applied words (Put i r)) ≡ lines words
+pub lines-applied-put : (words : List ℕ) (i : ℕ) (r : Record) → length words ≡ Layout.words → lines (applied words (Put i r)) ≡ lines words
 unfolding applied
 lines-applied-put words i r l = lines-same (putRecord words i r) words (put-behind words i r l)
 
-pub lines-applied-remove : (words : List ℕ) (i : ℕ) → length words ≡ 498 → lines (applied words (Remove i)) ≡ lines words
+pub lines-applied-remove : (words : List ℕ) (i : ℕ) → length words ≡ Layout.words → lines (applied words (Remove i)) ≡ lines words
 unfolding applied
 lines-applied-remove words i l = lines-same (removed words i) words (removed-behind words i l)
 
 pub lines-applied-report :
-    (words : List ℕ) (k : ℕ) (number : Words) (busy : Bool) → length words ≡ 498 →
+    (words : List ℕ) (k : ℕ) (number : Words) (busy : Bool) → length words ≡ Layout.words →
     lines (applied words (Report k number busy)) ≡ set (lines words) k (withStatus (getD (lines words) k noLine) busy)
-unfolding applied reported
+unfolding applied withReport
 lines-applied-report words k number true l =
     let stored = statusStored words k true in
-    lines-same (marked number 32 stored) stored (marked-behind number 32 stored (status-length words k true l ∙ l)) ∙ status-lines words k true l
+    lines-same (marked number Layout.places stored) stored (marked-behind number Layout.places stored (status-length words k true l ∙ l)) ∙ status-lines words k true l
 lines-applied-report words k number false l = status-lines words k false l
 
-applied-settings : (words : List ℕ) (change : Change) → length words ≡ 498 → drop 496 (applied words change) ≡ drop 496 words
-unfolding applied reported
+applied-settings : (words : List ℕ) (change : Change) → length words ≡ Layout.words → drop Layout.keepsAt (applied words change) ≡ drop Layout.keepsAt words
+unfolding applied withReport
 applied-settings words Stay l = refl
 applied-settings words (Put i r) l = settings-behind (putRecord words i r) words (put-behind words i r l)
 applied-settings words (Remove i) l = settings-behind (removed words i) words (removed-behind words i l)
 applied-settings words (Report k number true) l =
     let stored = statusStored words k true in
-    settings-behind (marked number 32 stored) stored (marked-behind number 32 stored (status-length words k true l ∙ l)) ∙ status-settings words k true l
+    settings-behind (marked number Layout.places stored) stored (marked-behind number Layout.places stored (status-length words k true l ∙ l)) ∙ status-settings words k true l
 applied-settings words (Report k number false) l = status-settings words k false l
 
-pub settings-applied : (words : List ℕ) (change : Change) → length words ≡ 498 → keeps (applied words change) ≡ keeps words
+pub settings-applied : (words : List ℕ) (change : Change) → length words ≡ Layout.words → keeps (applied words change) ≡ keeps words
 settings-applied words change l = keeps-same (applied words change) words (applied-settings words change l)
 
-pub retains-applied : (words : List ℕ) (change : Change) → length words ≡ 498 → retains (applied words change) ≡ retains words
+pub retains-applied : (words : List ℕ) (change : Change) → length words ≡ Layout.words → retains (applied words change) ≡ retains words
 retains-applied words change l = retains-same (applied words change) words (applied-settings words change l)

@@ -1,48 +1,54 @@
--- The words behind the records and the list of lines are one thing; a change of the records leaves the lines and settings, and a change of a line leaves the rest.
+-- The words behind the records and the list of lines are one thing, by the laws of decoded rows; a change of the records leaves the lines and settings, and a change of a line leaves the rest.
 use Prim.Native.Nat.{ℕ, zero, suc, _+_, _-_, _*_, _≤_, _<_}
 use mathlib.Core.Path.{_≡_, refl, sym, _∙_, ap}
 use mathlib.Core.List.{List, [], _∷_, _++_, map, append-assoc}
-use lib.ListN.{length, getD, take, drop, set, length-append, length-drop, length-map, length-replicate, List·getD-map, List·getD-eq-default}
+use lib.ListN.{length, getD, take, drop, set, length-append, length-drop, length-replicate}
 use lib.Seq.{getD-take, getD-drop, length-take-le, take-nil, take-take, take-add, take-at, drop-at, drop-drop, drop-append-add}
 use lib.Dec.{eqb}
 use native.Mathlib.Nat.{zero-add, suc-add}
 use native.Mathlib.Omega.{arith}
 use Rattle.lists.specs.Parts.{over}
-use Rattle.lists.proofs.Lists.{map-set}
 use Rattle.store.specs.Rows.{rows, putRow, dropRow, blankRow}
-use Rattle.store.proofs.RowsLaws.{place-rest, rows-length, rows-at, rows-put, put-length, drop-length}
+use Rattle.store.proofs.RowsLaws.{place-rest, put-length, drop-length}
+use Rattle.store.proofs.Decoded.{decoded-length, decoded-at, decoded-past, decoded-put}
 use Rattle.terms.proofs.CodesLaws.{flag-back}
 use Rattle.line_table.specs.declared.record.Record.{Record}
 use Rattle.line_table.specs.declared.line.Line.{Line}
+use Rattle.line_records.specs.Layout as Layout
 use Rattle.line_records.specs.Records.{recordOf, recordWords, records}
 use Rattle.line_records.specs.Lines.{lineOf, lineWords, noLine, lines, overLine, keeps, retains}
 
--- ---- a line
-pub line-back : (line : Line) → lineOf (lineWords line) ≡ line
+-- the words of all lines
+abbrev lineWordsAll : ℕ
+lineWordsAll = Layout.linePlaces * Layout.lineWidth
+
+-- ---- a line and its words
+line-back : (line : Line) → lineOf (lineWords line) ≡ line
 unfolding lineOf
 line-back line = rw (flag-back (line .ccbs), flag-back (line .ccnr), flag-back (line .busy))
 
-pub lines-length : (words : List ℕ) → length (lines words) ≡ 16
-unfolding lines
-lines-length words = length-map (rows 5 16 (drop 416 words)) lineOf ∙ rows-length 5 16 (drop 416 words)
-
--- a line reads its own five words
-pub line-front : (row : List ℕ) → lineOf (take 5 row) ≡ lineOf row
+pub line-front : (row : List ℕ) → lineOf (take Layout.lineWidth row) ≡ lineOf row
 unfolding lineOf
 line-front row =
-    let same : (k : ℕ) → k < 5 → getD (take 5 row) k 0 ≡ getD row k 0 = λ k h. getD-take 5 row k 0 h in
+    let same : (k : ℕ) → k < Layout.lineWidth → getD (take Layout.lineWidth row) k 0 ≡ getD row k 0 = λ k h. getD-take Layout.lineWidth row k 0 h in
     rw (same 0 (omega arith), same 1 (omega arith), same 2 (omega arith), same 3 (omega arith), same 4 (omega arith))
 
-pub line-at : (words : List ℕ) (k : ℕ) → k < 16 → getD (lines words) k noLine ≡ lineOf (drop (416 + k * 5) words)
+-- ---- the laws of decoded rows
+pub lines-length : (words : List ℕ) → length (lines words) ≡ Layout.linePlaces
+unfolding lines
+lines-length words = decoded-length Layout.lineWidth Layout.linePlaces lineOf (drop Layout.linesAt words)
+
+pub line-at :
+    (words : List ℕ) (k : ℕ) → k < Layout.linePlaces →
+    getD (lines words) k noLine ≡ lineOf (drop (Layout.linesAt + k * Layout.lineWidth) words)
 unfolding lines
 line-at words k h =
-    List·getD-map lineOf (rows 5 16 (drop 416 words)) k []
-    ∙ ap lineOf (rows-at 5 16 (drop 416 words) k [] h)
-    ∙ line-front (drop (k * 5) (drop 416 words))
-    ∙ ap lineOf (drop-drop (k * 5) 416 words)
+    decoded-at Layout.lineWidth Layout.linePlaces lineOf line-front (drop Layout.linesAt words) k h
+    ∙ ap lineOf (drop-drop (k * Layout.lineWidth) Layout.linesAt words)
 
-pub line-past : (words : List ℕ) (k : ℕ) → 16 ≤ k → getD (lines words) k noLine ≡ noLine
-line-past words k h = List·getD-eq-default (lines words) noLine (omega (arith, lines-length words))
+pub line-past : (words : List ℕ) (k : ℕ) → Layout.linePlaces ≤ k → getD (lines words) k noLine ≡ noLine
+unfolding lines
+line-past words k h = decoded-past Layout.lineWidth Layout.linePlaces lineOf (drop Layout.linesAt words) k h
 
 -- ---- what each reading depends on
 drop-take : (n m : ℕ) (l : List ℕ) → drop n (take (n + m) l) ≡ take m (drop n l)
@@ -62,26 +68,26 @@ rows-front width (suc n) v w h =
     sym (drop-take width (n * width) v) ∙ ap (drop width) q ∙ drop-take width (n * width) w in
     rw (a, rows-front width n (drop width v) (drop width w) b)
 
-pub records-same : (v w : List ℕ) → take 416 v ≡ take 416 w → records v ≡ records w
+pub records-same : (v w : List ℕ) → take Layout.linesAt v ≡ take Layout.linesAt w → records v ≡ records w
 unfolding records
-records-same v w h = ap (map recordOf) (rows-front 13 32 v w h)
+records-same v w h = ap (map recordOf) (rows-front Layout.width Layout.places v w h)
 
-pub lines-same : (v w : List ℕ) → drop 416 v ≡ drop 416 w → lines v ≡ lines w
+pub lines-same : (v w : List ℕ) → drop Layout.linesAt v ≡ drop Layout.linesAt w → lines v ≡ lines w
 unfolding lines
-lines-same v w h = ap (λ (t : List ℕ). map lineOf (rows 5 16 t)) h
+lines-same v w h = ap (λ (t : List ℕ). map lineOf (rows Layout.lineWidth Layout.linePlaces t)) h
 
-pub keeps-same : (v w : List ℕ) → drop 496 v ≡ drop 496 w → keeps v ≡ keeps w
+pub keeps-same : (v w : List ℕ) → drop Layout.keepsAt v ≡ drop Layout.keepsAt w → keeps v ≡ keeps w
 unfolding keeps
 keeps-same v w h =
-    ap (λ (n : ℕ). eqb n 1) (sym (getD-drop 496 v 0 0) ∙ ap (λ (t : List ℕ). getD t 0 0) h ∙ getD-drop 496 w 0 0)
+    ap (λ (n : ℕ). eqb n 1) (sym (getD-drop Layout.keepsAt v 0 0) ∙ ap (λ (t : List ℕ). getD t 0 0) h ∙ getD-drop Layout.keepsAt w 0 0)
 
-pub retains-same : (v w : List ℕ) → drop 496 v ≡ drop 496 w → retains v ≡ retains w
+pub retains-same : (v w : List ℕ) → drop Layout.keepsAt v ≡ drop Layout.keepsAt w → retains v ≡ retains w
 unfolding retains
 retains-same v w h =
-    ap (λ (n : ℕ). eqb n 1) (sym (getD-drop 496 v 1 0) ∙ ap (λ (t : List ℕ). getD t 1 0) h ∙ getD-drop 496 w 1 0)
+    ap (λ (n : ℕ). eqb n 1) (sym (getD-drop Layout.keepsAt v 1 0) ∙ ap (λ (t : List ℕ). getD t 1 0) h ∙ getD-drop Layout.keepsAt w 1 0)
 
-pub settings-behind : (v w : List ℕ) → drop 416 v ≡ drop 416 w → drop 496 v ≡ drop 496 w
-settings-behind v w h = sym (drop-drop 80 416 v) ∙ ap (drop 80) h ∙ drop-drop 80 416 w
+pub settings-behind : (v w : List ℕ) → drop Layout.linesAt v ≡ drop Layout.linesAt w → drop Layout.keepsAt v ≡ drop Layout.keepsAt w
+settings-behind v w h = sym (drop-drop lineWordsAll Layout.linesAt v) ∙ ap (drop lineWordsAll) h ∙ drop-drop lineWordsAll Layout.linesAt w
 
 -- ---- what a change leaves
 over-behind : (n a : ℕ) (row ws : List ℕ) → a + length row ≤ n → a ≤ length ws → drop n (take a ws ++ over row (drop a ws)) ≡ drop n ws
@@ -99,67 +105,84 @@ over-behind n a row ws h f =
     ∙ drop-drop (length row + m) a ws
     ∙ ap (λ (k : ℕ). drop k ws) s
 
-pub putRow-length : (words : List ℕ) (i : ℕ) (r : Record) → i < 32 → length words ≡ 498 → length (putRow 13 words i (recordWords r)) ≡ length words
-putRow-length words i r h l = put-length 13 32 words i (recordWords r) refl h (omega arith)
+pub putRow-length :
+    (words : List ℕ) (i : ℕ) (r : Record) → i < Layout.places → length words ≡ Layout.words →
+    length (putRow Layout.width words i (recordWords r)) ≡ length words
+putRow-length words i r h l = put-length Layout.width Layout.places words i (recordWords r) refl h (omega arith)
 
-pub putRow-behind : (words : List ℕ) (i : ℕ) (r : Record) → i < 32 → length words ≡ 498 → drop 416 (putRow 13 words i (recordWords r)) ≡ drop 416 words
+pub putRow-behind :
+    (words : List ℕ) (i : ℕ) (r : Record) → i < Layout.places → length words ≡ Layout.words →
+    drop Layout.linesAt (putRow Layout.width words i (recordWords r)) ≡ drop Layout.linesAt words
 unfolding putRow
-putRow-behind words i r h l = over-behind 416 (i * 13) (recordWords r) words (omega arith) (omega arith)
+putRow-behind words i r h l = over-behind Layout.linesAt (i * Layout.width) (recordWords r) words (omega arith) (omega arith)
 
-pub lines-putRow : (words : List ℕ) (i : ℕ) (r : Record) → i < 32 → length words ≡ 498 → lines (putRow 13 words i (recordWords r)) ≡ lines words
-lines-putRow words i r h l = lines-same (putRow 13 words i (recordWords r)) words (putRow-behind words i r h l)
+pub dropRow-length :
+    (words : List ℕ) (i : ℕ) → i < Layout.places → length words ≡ Layout.words → length (dropRow Layout.width Layout.places words i) ≡ length words
+dropRow-length words i h l = drop-length Layout.width Layout.places words i h (omega arith)
 
-pub dropRow-length : (words : List ℕ) (i : ℕ) → i < 32 → length words ≡ 498 → length (dropRow 13 32 words i) ≡ length words
-dropRow-length words i h l = drop-length 13 32 words i h (omega arith)
-
-pub dropRow-behind : (words : List ℕ) (i : ℕ) → i < 32 → length words ≡ 498 → drop 416 (dropRow 13 32 words i) ≡ drop 416 words
+pub dropRow-behind :
+    (words : List ℕ) (i : ℕ) → i < Layout.places → length words ≡ Layout.words →
+    drop Layout.linesAt (dropRow Layout.width Layout.places words i) ≡ drop Layout.linesAt words
 unfolding dropRow
 dropRow-behind words i h l =
-    let k = place-rest 13 32 i h in
-    let later = drop ((i + 1) * 13) words in
-    let n = (32 - (i + 1)) * 13 in
-    let a : length (take (i * 13) words) ≡ i * 13 = length-take-le (i * 13) words (omega arith) in
+    let k = place-rest Layout.width Layout.places i h in
+    let later = drop ((i + 1) * Layout.width) words in
+    let n = (Layout.places - (i + 1)) * Layout.width in
+    let a : length (take (i * Layout.width) words) ≡ i * Layout.width = length-take-le (i * Layout.width) words (omega arith) in
     let b : length (take n later) ≡ n = length-take-le n later (simp length-drop (omega arith)) in
-    drop-at (take (i * 13) words ++ take n later ++ blankRow 13) (drop 416 words) 416 (simp (length-append, a, b, length-replicate) (omega arith))
-
-pub lines-dropRow : (words : List ℕ) (i : ℕ) → i < 32 → length words ≡ 498 → lines (dropRow 13 32 words i) ≡ lines words
-lines-dropRow words i h l = lines-same (dropRow 13 32 words i) words (dropRow-behind words i h l)
+    drop-at (take (i * Layout.width) words ++ take n later ++ blankRow Layout.width) (drop Layout.linesAt words) Layout.linesAt
+    (simp (length-append, a, b, length-replicate) (omega arith))
 
 -- ---- a line put at a place
--- the words before the lines, and the row among the lines' words
-overLine-parts :
+-- as one part of the words is lent for it
+pub overLine-parts :
     (words : List ℕ) (k : ℕ) (line : Line) →
-    overLine words k line ≡ take 416 words ++ putRow 5 (drop 416 words) k (lineWords line)
+    overLine words k line
+    ≡ take (Layout.linesAt + k * Layout.lineWidth) words ++ over (lineWords line) (drop (Layout.linesAt + k * Layout.lineWidth) words)
 unfolding overLine putRow
 overLine-parts words k line =
-    rw (take-add 416 (k * 5) words, ← drop-drop (k * 5) 416 words)
-    (append-assoc (take 416 words) (take (k * 5) (drop 416 words)) (over (lineWords line) (drop (k * 5) (drop 416 words))))
+    let at = k * Layout.lineWidth in
+    let behind = drop Layout.linesAt words in
+    rw (take-add Layout.linesAt at words, ← drop-drop at Layout.linesAt words)
+    (sym (append-assoc (take Layout.linesAt words) (take at behind) (over (lineWords line) (drop at behind))))
 
-pub overLine-length : (words : List ℕ) (k : ℕ) (line : Line) → k < 16 → length words ≡ 498 → length (overLine words k line) ≡ length words
-unfolding overLine
-overLine-length words k line h l =
-    let a : length (take (416 + k * 5) words) ≡ 416 + k * 5 = length-take-le (416 + k * 5) words (omega arith) in
-    simp (length-append, a, length-drop) (omega arith)
+module _ (words : List ℕ) (k : ℕ) (line : Line) (h : k < Layout.linePlaces) (l : length words ≡ Layout.words) where
+  abbrev behind : List ℕ
+  behind = drop Layout.linesAt words
 
-pub overLine-front : (words : List ℕ) (k : ℕ) (line : Line) → k < 16 → length words ≡ 498 → take 416 (overLine words k line) ≡ take 416 words
-overLine-front words k line h l =
-    ap (take 416) (overLine-parts words k line)
-    ∙ take-at (take 416 words) (putRow 5 (drop 416 words) k (lineWords line)) 416 (length-take-le 416 words (omega arith))
+  front-length : length (take Layout.linesAt words) ≡ Layout.linesAt
+  front-length = length-take-le Layout.linesAt words (omega arith)
 
-pub overLine-behind : (words : List ℕ) (k : ℕ) (line : Line) → k < 16 → length words ≡ 498 → drop 496 (overLine words k line) ≡ drop 496 words
-unfolding overLine
-overLine-behind words k line h l = over-behind 496 (416 + k * 5) (lineWords line) words (omega arith) (omega arith)
+  behind-length : Layout.linePlaces * Layout.lineWidth ≤ length behind
+  behind-length = simp length-drop (omega arith)
 
-pub records-overLine : (words : List ℕ) (k : ℕ) (line : Line) → k < 16 → length words ≡ 498 → records (overLine words k line) ≡ records words
-records-overLine words k line h l = records-same (overLine words k line) words (overLine-front words k line h l)
+  overLine-lines : drop Layout.linesAt (overLine words k line) ≡ putRow Layout.lineWidth behind k (lineWords line)
+  unfolding overLine
+  overLine-lines = drop-at (take Layout.linesAt words) (putRow Layout.lineWidth behind k (lineWords line)) Layout.linesAt front-length
 
-pub lines-put : (words : List ℕ) (k : ℕ) (line : Line) → k < 16 → length words ≡ 498 → lines (overLine words k line) ≡ set (lines words) k line
-unfolding lines
-lines-put words k line h l =
-    let behind = drop 416 words in
-    let e : drop 416 (overLine words k line) ≡ putRow 5 behind k (lineWords line) =
-    ap (drop 416) (overLine-parts words k line) ∙ drop-at (take 416 words) (putRow 5 behind k (lineWords line)) 416 (length-take-le 416 words (omega arith)) in
-    ap (λ (t : List ℕ). map lineOf (rows 5 16 t)) e
-    ∙ ap (map lineOf) (rows-put 5 16 behind k (lineWords line) refl h (simp length-drop (omega arith)))
-    ∙ map-set lineOf (rows 5 16 behind) k (lineWords line)
-    ∙ ap (λ (x : Line). set (map lineOf (rows 5 16 behind)) k x) (line-back line)
+  pub overLine-length : length (overLine words k line) ≡ length words
+  unfolding overLine
+  overLine-length =
+      let a = put-length Layout.lineWidth Layout.linePlaces behind k (lineWords line) refl h behind-length in
+      length-append (take Layout.linesAt words) (putRow Layout.lineWidth behind k (lineWords line))
+      ∙ omega (arith, a, front-length, length-drop Layout.linesAt words)
+
+  pub overLine-behind : drop Layout.keepsAt (overLine words k line) ≡ drop Layout.keepsAt words
+  unfolding putRow
+  overLine-behind =
+      sym (drop-drop lineWordsAll Layout.linesAt (overLine words k line))
+      ∙ ap (drop lineWordsAll) overLine-lines
+      ∙ over-behind lineWordsAll (k * Layout.lineWidth) (lineWords line) behind (omega arith) (omega (arith, behind-length))
+      ∙ drop-drop lineWordsAll Layout.linesAt words
+
+  pub records-overLine : records (overLine words k line) ≡ records words
+  unfolding overLine
+  records-overLine =
+      records-same (overLine words k line) words
+      (take-at (take Layout.linesAt words) (putRow Layout.lineWidth behind k (lineWords line)) Layout.linesAt front-length)
+
+  pub lines-put : lines (overLine words k line) ≡ set (lines words) k line
+  unfolding lines
+  lines-put =
+      ap (λ (t : List ℕ). map lineOf (rows Layout.lineWidth Layout.linePlaces t)) overLine-lines
+      ∙ decoded-put Layout.lineWidth Layout.linePlaces lineOf behind (lineWords line) k line (line-back line) refl h behind-length

@@ -1,6 +1,6 @@
 -- What a planned change makes of the words of a line desk.
 use Prim.Native.Nat.{ℕ, zero, suc}
-use mathlib.Core.Bool.{Bool, true, false}
+use mathlib.Core.Bool.{Bool, true}
 use mathlib.Core.List.{List}
 use lib.ListN.{getD}
 use Rattle.lists.specs.Choice.{pick}
@@ -11,6 +11,7 @@ use Rattle.line_table.specs.Search.{marks}
 use Rattle.line_table.specs.declared.record.Record.{Record}
 use Rattle.line_table.specs.declared.record.Change.{Change}
 use Rattle.line_table.specs.declared.record.Change.the-variants.{Stay, Put, Remove, Report}
+use Rattle.line_records.specs.Layout.{places}
 use Rattle.line_records.specs.Records.{blank, records, putRecord, removed}
 use Rattle.line_records.specs.Lines.{noLine, lines, putLine}
 
@@ -30,12 +31,12 @@ marked number (suc n) words = markPlace number n (marked number n words)
 unfoldable pub statusStored : List ℕ → ℕ → Bool → List ℕ
 statusStored words k busy = putLine words k (withStatus (getD (lines words) k noLine) busy)
 
-unfoldable pub reported : List ℕ → ℕ → Words → Bool → List ℕ
-reported words k number busy = pick busy (marked number 32 (statusStored words k busy)) (statusStored words k busy)
+unfoldable pub withReport : List ℕ → ℕ → Words → Bool → List ℕ
+withReport words k number busy = pick busy (marked number places (statusStored words k busy)) (statusStored words k busy)
 
 -- ---- every change
 unfoldable pub applied : List ℕ → Change → List ℕ
 applied words Stay = words
 applied words (Put i r) = putRecord words i r
 applied words (Remove i) = removed words i
-applied words (Report k number busy) = reported words k number busy
+applied words (Report k number busy) = withReport words k number busy

@@ -1,4 +1,6 @@
 // A planned change of the desk, made in words that the caller lends.
+use crate::PLACES;
+use crate::WORDS;
 use crate::lines::load_line;
 use crate::lines::put_line;
 use crate::places::load;
@@ -11,7 +13,8 @@ use line_table::record::moved_to;
 use line_table::search::is_marked;
 use lists::words::Words;
 ghost use mathlib.Core.Path.{_≡_};
-ghost use Rattle.line_records.specs.Change.{activated, markPlace, marked, statusStored, reported, applied};
+ghost use Rattle.line_records.specs.Layout.{places};
+ghost use Rattle.line_records.specs.Change.{activated, markPlace, marked, statusStored, withReport, applied};
 
 // The record with its activity mark set.
 fn activated_record(r: Record) -> Record
@@ -22,7 +25,7 @@ fn activated_record(r: Record) -> Record
 }
 
 // The record of a place marked active, if a busy report of the line marks it.
-fn mark_place(words: &mut [u64; 498], i: usize, number: Words)
+fn mark_place(words: &mut [u64; WORDS], i: usize, number: Words)
     ensures { λ r. ⌜ now (words .exit) ≡ markPlace number i (now (words .entry)) ⌝ }
 {
     let r = load(words, i);
@@ -33,17 +36,17 @@ fn mark_place(words: &mut [u64; 498], i: usize, number: Words)
 }
 
 // Every record that a busy report of the line marks.
-fn mark_line(words: &mut [u64; 498], number: Words)
-    ensures { λ r. ⌜ now (words .exit) ≡ marked number 32 (now (words .entry)) ⌝ }
+fn mark_line(words: &mut [u64; WORDS], number: Words)
+    ensures { λ r. ⌜ now (words .exit) ≡ marked number places (now (words .entry)) ⌝ }
 {
     let mut i = 0;
-    while i < 32 {
+    while i < PLACES {
         mark_place(words, i, number);
         i += 1;
     }
 }
 
-fn store_status(words: &mut [u64; 498], k: usize, busy: bool)
+fn store_status(words: &mut [u64; WORDS], k: usize, busy: bool)
     ensures { λ r. ⌜ now (words .exit) ≡ statusStored (now (words .entry)) k busy ⌝ }
 {
     let before = load_line(words, k);
@@ -52,8 +55,8 @@ fn store_status(words: &mut [u64; 498], k: usize, busy: bool)
 }
 
 // A report of the line at a place, with its number: its status, and the marks that busy sets.
-fn report_line(words: &mut [u64; 498], k: usize, number: Words, busy: bool)
-    ensures { λ r. ⌜ now (words .exit) ≡ reported (now (words .entry)) k number busy ⌝ }
+fn report_line(words: &mut [u64; WORDS], k: usize, number: Words, busy: bool)
+    ensures { λ r. ⌜ now (words .exit) ≡ withReport (now (words .entry)) k number busy ⌝ }
 {
     store_status(words, k, busy);
     if busy {
@@ -62,7 +65,7 @@ fn report_line(words: &mut [u64; 498], k: usize, number: Words, busy: bool)
 }
 
 // A planned change, made in place.
-pub fn apply(words: &mut [u64; 498], change: Change)
+pub fn apply(words: &mut [u64; WORDS], change: Change)
     ensures { λ r. ⌜ now (words .exit) ≡ applied (now (words .entry)) change ⌝ }
 {
     match change {

@@ -1,145 +1,113 @@
 // The places of a line desk: a record is found, loaded, put and removed, in words that the caller lends.
+use crate::ACTIVE_AT;
+use crate::LAST_STATE;
+use crate::PLACES;
+use crate::STATE_AT;
+use crate::SUSPENDED_AT;
+use crate::WIDTH;
+use crate::WORDS;
 use crate::codes::state_code;
 use crate::codes::state_of;
 use line_table::record::Record;
 use lists::Found;
 use lists::words::Words;
-use terms::codes::connection_code;
-use terms::codes::connection_of;
 use terms::codes::flag_code;
-use terms::codes::keep_code;
-use terms::codes::keep_of;
-use terms::codes::kind_code;
-use terms::codes::kind_of;
+use terms::put_terms;
+use terms::terms_of;
 ghost use mathlib.Core.Path.{_≡_};
 ghost use Prim.Native.Nat.{_≤_, _<_};
 ghost use lib.ListN.{length, getD};
 ghost use Rattle.lists.specs.Parts.{over};
 ghost use Rattle.store.specs.Rows.{putRow};
+ghost use Rattle.line_records.specs.Layout.{width, places, linesAt};
 ghost use Rattle.line_records.specs.Records.{recordOf, recordWords, blank, records, meant, place, putRecord, removed};
 
 // The record of a row.
 fn record_of(row: &[u64]) -> Record
-    requires { ⌜ 13 ≤ length (now row) ⌝ }
+    requires { ⌜ width ≤ length (now row) ⌝ }
     ensures { λ r. ⌜ r ≡ recordOf (now (row .entry)) ⌝ }
 {
-    let identifier = Words {
-        low: row[0],
-        high: row[1],
-    };
-    let numberA = Words {
-        low: row[2],
-        high: row[3],
-    };
-    let numberB = Words {
-        low: row[4],
-        high: row[5],
-    };
-    let kind = kind_of(row[7]);
-    let state = state_of(row[8]);
-    let keep = keep_of(row[9]);
-    let connection = connection_of(row[10]);
+    let agreed = terms_of(row);
+    let state = state_of(row[STATE_AT]);
     Record {
-        identifier,
-        numberA,
-        numberB,
-        service: row[6],
-        kind,
+        terms: agreed,
         state,
-        keep,
-        connection,
-        active: row[11] == 1,
-        suspended: row[12] == 1,
+        active: row[ACTIVE_AT] == 1,
+        suspended: row[SUSPENDED_AT] == 1,
     }
 }
 
 // A record over the front of some words.
 fn put_words(row: &mut [u64], r: Record)
-    requires { ⌜ 13 ≤ length (now row) ⌝ }
+    requires { ⌜ width ≤ length (now row) ⌝ }
     ensures { λ q. ⌜ now (row .exit) ≡ over (recordWords r) (now (row .entry)) ⌝ }
 {
-    let identifier = r.identifier;
-    let numberA = r.numberA;
-    let numberB = r.numberB;
-    let kind = r.kind;
+    let agreed = r.terms;
     let state = r.state;
-    let keep = r.keep;
-    let connection = r.connection;
-    row[0] = identifier.low;
-    row[1] = identifier.high;
-    row[2] = numberA.low;
-    row[3] = numberA.high;
-    row[4] = numberB.low;
-    row[5] = numberB.high;
-    row[6] = r.service;
-    row[7] = kind_code(kind);
-    row[8] = state_code(state);
-    row[9] = keep_code(keep);
-    row[10] = connection_code(connection);
-    row[11] = flag_code(r.active);
-    row[12] = flag_code(r.suspended);
+    put_terms(row, agreed);
+    row[STATE_AT] = state_code(state);
+    row[ACTIVE_AT] = flag_code(r.active);
+    row[SUSPENDED_AT] = flag_code(r.suspended);
 }
 
 // The place of the record in use with that identifier.
-pub fn find_meant(words: &[u64; 498], identifier: Words) -> Found
+pub fn find_meant(words: &[u64; WORDS], identifier: Words) -> Found
     ensures { λ r. ⌜ r ≡ meant identifier (records (now (words .entry))) ⌝ }
 {
-    store::find(words, 13, 32, identifier, 3)
+    store::find(words, WIDTH, PLACES, identifier, LAST_STATE)
 }
 
 // The first place that is not used.
-pub fn find_place(words: &[u64; 498]) -> Found
+pub fn find_place(words: &[u64; WORDS]) -> Found
     ensures { λ r. ⌜ r ≡ place (records (now (words .entry))) ⌝ }
 {
-    store::find_free(words, 13, 32, 3)
+    store::find_free(words, WIDTH, PLACES, LAST_STATE)
 }
 
 fn load_in(words: &[u64], i: usize) -> Record
-    requires { ⌜ (i < 32) × (498 ≤ length (now words)) ⌝ }
+    requires { ⌜ (i < places) × (linesAt ≤ length (now words)) ⌝ }
     ensures { λ r. ⌜ r ≡ getD (records (now (words .entry))) i blank ⌝ }
 {
-    let at = i * 13;
+    let at = i * WIDTH;
     record_of(&words[at..])
 }
 
 fn blank_record() -> Record
     ensures { λ r. ⌜ r ≡ blank ⌝ }
 {
-    record_of(&[0u64; 13])
+    record_of(&[0u64; WIDTH])
 }
 
 // The record of a place; past the last place, the blank one.
-pub fn load(words: &[u64; 498], i: usize) -> Record
+pub fn load(words: &[u64; WORDS], i: usize) -> Record
     ensures { λ r. ⌜ r ≡ getD (records (now (words .entry))) i blank ⌝ }
 {
-    if i < 32 {
+    if i < PLACES {
         return load_in(words, i);
     }
     blank_record()
 }
 
 fn put_in(words: &mut [u64], i: usize, r: Record)
-    requires { ⌜ (i < 32) × (498 ≤ length (now words)) ⌝ }
-    ensures { λ q. ⌜ now (words .exit) ≡ putRow 13 (now (words .entry)) i (recordWords r) ⌝ }
+    requires { ⌜ (i < places) × (linesAt ≤ length (now words)) ⌝ }
+    ensures { λ q. ⌜ now (words .exit) ≡ putRow width (now (words .entry)) i (recordWords r) ⌝ }
 {
-    let at = i * 13;
+    let at = i * WIDTH;
     put_words(&mut words[at..], r);
 }
 
 // A record put at a place; a place that is not there changes nothing.
-pub fn put_record(words: &mut [u64; 498], i: usize, r: Record)
+pub fn put_record(words: &mut [u64; WORDS], i: usize, r: Record)
     ensures { λ q. ⌜ now (words .exit) ≡ putRecord (now (words .entry)) i r ⌝ }
 {
-    if i < 32 {
+    if i < PLACES {
         put_in(words, i, r);
     }
 }
 
 // The record of a place removed: the later ones move up.
-pub fn remove_record(words: &mut [u64; 498], i: usize)
+pub fn remove_record(words: &mut [u64; WORDS], i: usize)
     ensures { λ r. ⌜ now (words .exit) ≡ removed (now (words .entry)) i ⌝ }
 {
-    if i < 32 {
-        store::remove(words, 13, 32, i);
-    }
+    store::remove(words, WIDTH, PLACES, i);
 }

@@ -9,19 +9,7 @@ use Rattle.line_table.specs.declared.record.Change.the-variants.{Stay}
 use Rattle.line_table.specs.declared.record.Plan.{Plan}
 
 abbrev pub moved : Record → State → Bool → Bool → Record
-moved r state active suspended =
-    record {
-      identifier = r .identifier;
-      numberA = r .numberA;
-      numberB = r .numberB;
-      service = r .service;
-      kind = r .kind;
-      state = state;
-      keep = r .keep;
-      connection = r .connection;
-      active = active;
-      suspended = suspended;
-    }
+moved r state active suspended = record { terms = r .terms; state = state; active = active; suspended = suspended }
 
 abbrev pub refusedPlan : ℕ → Sending → Plan
 refusedPlan number reply = record { change = Stay; outcome = refusedWith number reply }

@@ -7,7 +7,7 @@ use Rattle.lists.specs.declared.words.Words.{Words}
 use Rattle.message.specs.declared.Kind.{Kind}
 use Rattle.message.specs.declared.Kind.the-variants.{Ccbs, Ccnr}
 use Rattle.desk.specs.Sends.{noNumber}
-use Rattle.desk.specs.declared.letter.Letter.{Letter}
+use Rattle.terms.specs.declared.request.Names.{Names}
 use Rattle.line_table.specs.declared.table.State.{State}
 use Rattle.line_table.specs.declared.table.State.the-variants.{Free, Invoked, Await, Alert}
 use Rattle.line_table.specs.declared.record.Record.{Record}
@@ -32,11 +32,11 @@ invoked Alert = false
 
 -- the records of a line
 abbrev pub ofLine : Words → Record → Bool
-ofLine number r = both (used r) (sameWords (r .numberB) number)
+ofLine number r = both (used r) (sameWords (r .terms .numberB) number)
 
 -- the line's Invoked records
 abbrev pub invokedOn : Words → Record → Bool
-invokedOn number r = both (invoked (r .state)) (sameWords (r .numberB) number)
+invokedOn number r = both (invoked (r .state)) (sameWords (r .terms .numberB) number)
 
 -- ---- a busy report sets the activity mark of that line's Invoked records
 abbrev pub marks : Words → Record → Bool
@@ -50,7 +50,7 @@ waits Await suspended = not suspended
 waits Alert suspended = true
 
 abbrev pub blocks : Words → Record → Bool
-blocks number r = both (waits (r .state) (r .suspended)) (sameWords (r .numberB) number)
+blocks number r = both (waits (r .state) (r .suspended)) (sameWords (r .terms .numberB) number)
 
 -- ---- a record fits if Invoked and CCBS, or Invoked, CCNR and marked active (8.2.1.1, 8.2.1.2, 8.2.1.4)
 abbrev pub fitsKind : Kind → Bool → Bool
@@ -58,24 +58,21 @@ fitsKind Ccbs active = true
 fitsKind Ccnr active = active
 
 abbrev pub fits : Words → Record → Bool
-fits number r = both (invokedOn number r) (fitsKind (r .kind) (r .active))
+fits number r = both (invokedOn number r) (fitsKind (r .terms .kind) (r .active))
 
 -- ---- a duplicate has the identifier of a live record, or both numberA are given and equal and numberB is equal, either kind
 abbrev pub given : Words → Bool
 given number = not (sameWords number noNumber)
 
 abbrev pub sameNumbers : Words → Words → Record → Bool
-sameNumbers numberA numberB r = both (given (r .numberA)) (both (sameWords (r .numberA) numberA) (sameWords (r .numberB) numberB))
+sameNumbers numberA numberB r = both (given (r .terms .numberA)) (both (sameWords (r .terms .numberA) numberA) (sameWords (r .terms .numberB) numberB))
 
-abbrev pub duplicates : Words → Words → Words → Record → Bool
-duplicates identifier numberA numberB r =
-    both (used r) (pick (sameWords (r .identifier) identifier) true (sameNumbers numberA numberB r))
+abbrev pub duplicates : Names → Record → Bool
+duplicates names r =
+    both (used r) (pick (sameWords (r .terms .identifier) (names .identifier)) true (sameNumbers (names .numberA) (names .numberB) r))
 
 -- ---- what is looked for
 abbrev pub passes : Sought → Record → Bool
 passes (Blocking number) r = blocks number r
 passes (Fitting number) r = fits number r
-passes (Duplicate identifier numberA numberB) r = duplicates identifier numberA numberB r
-
-abbrev pub duplicateOf : Letter → Sought
-duplicateOf l = Duplicate (l .identifier) (l .numberA) (l .numberB)
+passes (Duplicate names) r = duplicates names r

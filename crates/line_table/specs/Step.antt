@@ -10,7 +10,7 @@ use Rattle.line_table.specs.declared.table.Row.{Row}
 use Rattle.line_table.specs.declared.table.Next.{Next}
 use Rattle.line_table.specs.declared.table.Next.the-variants.{Gone, To}
 use Rattle.line_table.specs.declared.table.Mark.{Mark}
-use Rattle.line_table.specs.declared.table.Mark.the-variants.{Stays, Sets, Clears}
+use Rattle.line_table.specs.declared.table.Mark.the-variants.{Nothing, Sets, Clears}
 use Rattle.line_table.specs.declared.record.Record.{Record}
 use Rattle.line_table.specs.declared.record.Change.{Change}
 use Rattle.line_table.specs.declared.record.Change.the-variants.{Put, Remove}
@@ -21,7 +21,7 @@ abbrev pub guard : Timers
 guard = record { t1 = false; t2 = false; t3 = false; guard = true }
 
 abbrev pub markedBy : Mark → Bool → Bool
-markedBy Stays before = before
+markedBy Nothing before = before
 markedBy Sets before = true
 markedBy Clears before = false
 
@@ -34,9 +34,9 @@ abbrev pub stopped : Next → Timers
 stopped Gone = guard
 stopped (To state) = noTimers
 
-unfoldable pub taken : ℕ → Record → Row → Plan
-taken place r row =
+unfoldable pub rowTaken : ℕ → Record → Row → Plan
+rowTaken place r row =
     record {
       change = changed (effectOf row .next) place r (markedBy (effectOf row .active) (r .active)) (markedBy (effectOf row .suspended) (r .suspended));
-      outcome = doneWith (sent (effectOf row .sends) (r .identifier) (r .connection)) noTimers (stopped (effectOf row .next));
+      outcome = doneWith (sent (effectOf row .sends) (r .terms .identifier) (r .terms .connection)) noTimers (stopped (effectOf row .next));
     }

@@ -1,9 +1,9 @@
--- The line's table: document 01, "Steps at the line desk", with the clause of H.450.9 beside each row.
+-- The line's table: document 01, "Steps at the line desk", as mended (M5). Over each row stands when it is taken, with the clause of H.450.9, and behind the dot document 01's words for what it does.
 use mathlib.Core.Bool.{Bool, true, false}
 use Rattle.message.specs.declared.Body.{Body}
 use Rattle.message.specs.declared.Body.the-variants.{CcExecPossible, RingoutError, CallAlerts, CallFailed, CcCancel}
 use Rattle.desk.specs.declared.sends.Sends.{Sends}
-use Rattle.desk.specs.declared.sends.Sends.the-variants as Sending
+use Rattle.desk.specs.declared.sends.Sends.the-variants as Sends
 use Rattle.line_table.specs.declared.table.State.{State}
 use Rattle.line_table.specs.declared.table.State.the-variants.{Free, Invoked, Await, Alert}
 use Rattle.line_table.specs.declared.table.Row.{Row}
@@ -13,43 +13,68 @@ use Rattle.line_table.specs.declared.table.Home.the-variants.{InInvoked,
 use Rattle.line_table.specs.declared.table.Next.{Next}
 use Rattle.line_table.specs.declared.table.Next.the-variants.{Gone, To}
 use Rattle.line_table.specs.declared.table.Mark.{Mark}
-use Rattle.line_table.specs.declared.table.Mark.the-variants.{Stays, Sets, Clears}
+use Rattle.line_table.specs.declared.table.Mark.the-variants as Mark
 use Rattle.line_table.specs.declared.table.Effect.{Effect}
 
--- what is sent, by short names
-abbrev nothing : Sends
-nothing = Sending.Nothing
+-- ---- the words of the table: what stands in a column, and one word for nothing in all of them
+pub data Column : Type 0 where
+  sending marking : Column
 
-abbrev sends : Body → Sends
-sends body = Sending.One body
+pub data Cell : Column → Type 0 where
+  nothing : {column : Column} → Cell column
+  sends : Body → Cell sending
+  sets : Cell marking
+  clears : Cell marking
 
--- where a row is taken; the state afterwards or gone; what is sent; the activity mark; the suspended mark
-abbrev row : Home → Next → Sends → Mark → Mark → Effect
-row home next sends active suspended = record { home = home; next = next; sends = sends; active = active; suspended = suspended }
+abbrev sent : Cell sending → Sends
+sent nothing = Sends.Nothing
+sent (sends body) = Sends.One body
+
+abbrev marked : Cell marking → Mark
+marked nothing = Mark.Nothing
+marked sets = Mark.Sets
+marked clears = Mark.Clears
+
+-- a row of the table: where it is taken, and what it does
+pub record Rule : Type 0 where
+  pub home : Home
+  pub effect : Effect
+
+abbrev row : Home → Next → Cell sending → Cell marking → Cell marking → Rule
+row home next message activity suspension =
+    record { home = home; effect = record { next = next; sends = sent message; active = marked activity; suspended = marked suspension } }
+
+-- ---- the table
+-- taken in · then · sends · activity mark · suspended mark
+abbrev pub ruleOf : Row → Rule
+-- Look: the record is offered (8.2.1.4) · offering sends ccExecPossible; Await
+ruleOf Offers = row InInvoked (To Await) (sends CcExecPossible) nothing nothing
+-- ccSuspend in Await (8.2.1.6, first paragraph) · set the suspended mark
+ruleOf Suspends = row InAwait (To Await) nothing nothing sets
+-- ccResume in Await (8.2.1.6, second and third paragraphs: mend M5) · clear that mark, Invoked; the activity mark stays
+ruleOf Resumes = row InAwait (To Invoked) nothing nothing clears
+-- ccRingout in Await, line free (8.2.1.5) · clear the suspended mark, Alert
+ruleOf RingsOut = row InAwait (To Alert) nothing nothing clears
+-- ccRingout in Await, line busy, keep chosen (8.2.2.3) · busy again: send remoteUserBusyAgain; Invoked with activity marked and the suspended mark cleared
+ruleOf BusyAgainKept = row InAwait (To Invoked) (sends (RingoutError 1)) sets clears
+-- ccRingout in Await, line busy, keep not chosen (8.2.2.3) · busy again: send remoteUserBusyAgain; delete
+ruleOf BusyAgainEnded = row InAwait Gone (sends (RingoutError 1)) nothing nothing
+-- act alerted in Alert (8.2.1.5, last paragraph) · send type 11, call alerts, in Alerting; delete
+ruleOf Alerts = row InAlert Gone (sends CallAlerts) nothing nothing
+-- act call failed in Alert (8.2.2.4; type 12 is document 01's) · send type 12, call failed; delete
+ruleOf CallFails = row InAlert Gone (sends CallFailed) nothing nothing
+-- ccCancel received (8.2.1.7 a) · in any state: delete
+ruleOf ClerkCancels = row Always Gone nothing nothing nothing
+-- act cancel (8.2.1.7 b) · send ccCancel, delete
+ruleOf LineCancels = row Always Gone (sends CcCancel) nothing nothing
+-- guard reported (8.2.1.4, note; 8.2.1.7 b; ours, as 11.4.2 names no timer) · the guard running out: send ccCancel, delete
+ruleOf GuardRunsOut = row Always Gone (sends CcCancel) nothing nothing
+
+abbrev pub homeOf : Row → Home
+homeOf row = ruleOf row .home
 
 abbrev pub effectOf : Row → Effect
--- Look: the record is offered (8.2.1.4)
-effectOf Offers = row InInvoked (To Await) (sends CcExecPossible) Stays Stays
--- ccSuspend in Await (8.2.1.6, first paragraph)
-effectOf Suspends = row InAwait (To Await) nothing Stays Sets
--- ccResume in Await (8.2.1.6, second and third paragraphs: mend M5)
-effectOf Resumes = row InAwait (To Invoked) nothing Stays Clears
--- ccRingout in Await, line free (8.2.1.5)
-effectOf RingsOut = row InAwait (To Alert) nothing Stays Clears
--- ccRingout in Await, line busy, keep chosen (8.2.2.3)
-effectOf BusyAgainKept = row InAwait (To Invoked) (sends (RingoutError 1)) Sets Clears
--- ccRingout in Await, line busy, keep not chosen (8.2.2.3)
-effectOf BusyAgainEnded = row InAwait Gone (sends (RingoutError 1)) Stays Stays
--- act alerted in Alert (8.2.1.5, last paragraph)
-effectOf Alerts = row InAlert Gone (sends CallAlerts) Stays Stays
--- act call failed in Alert (8.2.2.4; type 12 is document 01's)
-effectOf CallFails = row InAlert Gone (sends CallFailed) Stays Stays
--- ccCancel received (8.2.1.7 a)
-effectOf ClerkCancels = row Always Gone nothing Stays Stays
--- act cancel (8.2.1.7 b)
-effectOf LineCancels = row Always Gone (sends CcCancel) Stays Stays
--- guard reported (8.2.1.4, note; 8.2.1.7 b; ours, as 11.4.2 names no timer)
-effectOf GuardRunsOut = row Always Gone (sends CcCancel) Stays Stays
+effectOf row = ruleOf row .effect
 
 -- the states in which a row is taken; a free place has no row
 abbrev pub holdsIn : Home → State → Bool

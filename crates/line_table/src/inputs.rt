@@ -1,24 +1,40 @@
-// What an input means: the row of each message and act, the replies that go with a refusal, and the choices that a request brings.
+// The inputs of the line desk, and what each means: whom it names, the row of each message and act, the replies that go with a refusal, and the choices that a
+// request brings.
 use crate::table::Row;
 use desk::Connection;
 use desk::Keep;
-use desk::outcome::Sending;
-use desk::sends::reply_with;
+use desk::letter::Letter;
+use desk::sends::Sends;
 use lists::words::Words;
 use message::Body;
 use message::Kind;
+use terms::request::Names;
+use terms::request::Request;
+use terms::request::can_keep_sent;
+use terms::request::letter_names;
+use terms::request::only_identifier;
+use terms::request::only_line;
 ghost use mathlib.Core.Path.{_≡_};
-ghost use Rattle.line_table.specs.Inputs.{meantBy, ringoutRow, rowFor, rowOfAct, replyMissed, keepChosen, connectionChosen, keepSent};
+ghost use Rattle.line_table.specs.Inputs.{namesOf, messageFor, ringoutRow, rowFor, rowOfAct, replyMissed, keepChosen, connectionChosen, keepSent};
 
-// What a request asks for, behind its numbers.
-pub struct Request {
-    pub kind: Kind,
-    pub service: u16,
-    pub flags: u8,
+// The acts at the line's end.
+pub enum Act {
+    Alerted,
+    CallFailed,
+    Cancel,
+}
+
+// An input in range: a message; an act, and the guard reported, by the request's identifier; a line reported busy or free, and a Look at a line, by its number.
+pub enum Input {
+    Message(Letter),
+    Act(Words, Act),
+    Guard(Words),
+    Report(Words, bool),
+    Look(Words),
 }
 
 // A message about a record.
-pub enum Input {
+pub enum RecordMessage {
     Suspend,
     Resume,
     Ringout,
@@ -28,20 +44,26 @@ pub enum Input {
 // What a message is: a request, a message about a record, or of a type that isn't for this end.
 pub enum Meant {
     Request(Request),
-    Record(Input),
+    Record(RecordMessage),
     NotHere,
 }
 
-// The acts at the line's end.
-pub enum Act {
-    Alerted,
-    CallFailed,
-    Cancel,
+// Whom an input names.
+pub fn names_of(input: Input) -> Names
+    ensures { λ r. ⌜ r ≡ namesOf input ⌝ }
+{
+    match input {
+        Input::Message(l) => letter_names(l),
+        Input::Act(identifier, _) => only_identifier(identifier),
+        Input::Guard(identifier) => only_identifier(identifier),
+        Input::Report(number, _) => only_line(number),
+        Input::Look(number) => only_line(number),
+    }
 }
 
 // Types 3, 4, 5, 7, 11 and 12 go to the clerk.
-pub fn meant_by(body: Body) -> Meant
-    ensures { λ r. ⌜ r ≡ meantBy body ⌝ }
+pub fn message_for(body: Body) -> Meant
+    ensures { λ r. ⌜ r ≡ messageFor body ⌝ }
 {
     match body {
         Body::CcbsRequest { service, flags } => Meant::Request(Request {
@@ -57,11 +79,11 @@ pub fn meant_by(body: Body) -> Meant
         Body::RequestResult { keep: _ } => Meant::NotHere,
         Body::RequestError { error: _ } => Meant::NotHere,
         Body::CcExecPossible => Meant::NotHere,
-        Body::CcRingout => Meant::Record(Input::Ringout),
+        Body::CcRingout => Meant::Record(RecordMessage::Ringout),
         Body::RingoutError { error: _ } => Meant::NotHere,
-        Body::CcSuspend => Meant::Record(Input::Suspend),
-        Body::CcResume => Meant::Record(Input::Resume),
-        Body::CcCancel => Meant::Record(Input::Cancel),
+        Body::CcSuspend => Meant::Record(RecordMessage::Suspend),
+        Body::CcResume => Meant::Record(RecordMessage::Resume),
+        Body::CcCancel => Meant::Record(RecordMessage::Cancel),
         Body::CallAlerts => Meant::NotHere,
         Body::CallFailed => Meant::NotHere,
     }
@@ -81,14 +103,14 @@ fn ringout_row(takes: bool, keep: Keep) -> Row
 }
 
 // The row of a message about a record, by whether its line can take a call and by its keep choice.
-pub fn row_for(input: Input, takes: bool, keep: Keep) -> Row
-    ensures { λ r. ⌜ r ≡ rowFor input takes keep ⌝ }
+pub fn row_for(message: RecordMessage, takes: bool, keep: Keep) -> Row
+    ensures { λ r. ⌜ r ≡ rowFor message takes keep ⌝ }
 {
-    match input {
-        Input::Suspend => Row::Suspends,
-        Input::Resume => Row::Resumes,
-        Input::Ringout => ringout_row(takes, keep),
-        Input::Cancel => Row::ClerkCancels,
+    match message {
+        RecordMessage::Suspend => Row::Suspends,
+        RecordMessage::Resume => Row::Resumes,
+        RecordMessage::Ringout => ringout_row(takes, keep),
+        RecordMessage::Cancel => Row::ClerkCancels,
     }
 }
 
@@ -104,14 +126,14 @@ pub fn row_of_act(act: Act) -> Row
 }
 
 // The reply to a message that has no record, or whose record has no row for it: to a ccRingout and to a ccResume.
-pub fn reply_missed(input: Input, identifier: Words) -> Sending
-    ensures { λ r. ⌜ r ≡ replyMissed input identifier ⌝ }
+pub fn reply_missed(message: RecordMessage) -> Sends
+    ensures { λ r. ⌜ r ≡ replyMissed message ⌝ }
 {
-    match input {
-        Input::Suspend => Sending::Nothing,
-        Input::Resume => reply_with(identifier, Body::CcCancel),
-        Input::Ringout => reply_with(identifier, Body::RingoutError { error: 2 }),
-        Input::Cancel => Sending::Nothing,
+    match message {
+        RecordMessage::Suspend => Sends::Nothing,
+        RecordMessage::Resume => Sends::One(Body::CcCancel),
+        RecordMessage::Ringout => Sends::One(Body::RingoutError { error: 2 }),
+        RecordMessage::Cancel => Sends::Nothing,
     }
 }
 
@@ -119,7 +141,7 @@ pub fn reply_missed(input: Input, identifier: Words) -> Sending
 pub fn keep_chosen(flags: u8, keeps: bool) -> Keep
     ensures { λ r. ⌜ r ≡ keepChosen flags keeps ⌝ }
 {
-    if flags % 2 == 1 {
+    if can_keep_sent(flags) {
         if keeps {
             return Keep::Keeps;
         }

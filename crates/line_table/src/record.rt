@@ -1,26 +1,32 @@
-// A record of the line desk in flight (document 01, "The two desks" and "Steps at the line desk"), and what a step plans.
+// A record of the line desk in flight (document 01, "The two desks" and "Steps at the line desk"): its terms, its state and its own marks; what a step decides, and
+// what it plans.
+use crate::table::Row;
 use crate::table::State;
-use desk::Connection;
-use desk::Keep;
 use desk::outcome::Outcome;
 use desk::outcome::Sending;
 use desk::outcome::refused;
+use desk::sends::Sends;
 use lists::words::Words;
-use message::Kind;
+use terms::Terms;
+use terms::request::Request;
 ghost use mathlib.Core.Path.{_≡_};
 ghost use Rattle.line_table.specs.Record.{moved, refusedPlan};
 
 pub struct Record {
-    pub identifier: Words,
-    pub numberA: Words,
-    pub numberB: Words,
-    pub service: u64,
-    pub kind: Kind,
+    pub terms: Terms,
     pub state: State,
-    pub keep: Keep,
-    pub connection: Connection,
     pub active: bool,
     pub suspended: bool,
+}
+
+// What a step decides, of its input and the desk: a refusal, by its number, with its reply or none; a request denied by its error, 1 short or 2 long, which stores
+// nothing; a row taken for the record of a place; a request stored at a place, its line busy or not; the line of a place reported busy or free.
+pub enum Decision {
+    Refuse(u8, Sends),
+    Deny(u8),
+    Take(usize, Row),
+    Store(usize, Request, bool),
+    Report(usize, bool),
 }
 
 // What becomes of the desk: nothing; a record put at a place; the record of a place removed; the status of the line at a place, with its
@@ -41,21 +47,10 @@ pub struct Plan {
 pub fn moved_to(r: Record, state: State, active: bool, suspended: bool) -> Record
     ensures { λ q. ⌜ q ≡ moved r state active suspended ⌝ }
 {
-    let identifier = r.identifier;
-    let numberA = r.numberA;
-    let numberB = r.numberB;
-    let kind = r.kind;
-    let keep = r.keep;
-    let connection = r.connection;
+    let terms = r.terms;
     Record {
-        identifier,
-        numberA,
-        numberB,
-        service: r.service,
-        kind,
+        terms,
         state,
-        keep,
-        connection,
         active,
         suspended,
     }

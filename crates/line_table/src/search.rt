@@ -1,18 +1,18 @@
 // Which records a search is for: those that block a line, those that fit a Look, and those that a request would duplicate.
 use crate::record::Record;
 use crate::table::State;
-use desk::letter::Letter;
 use lists::words::Words;
 use lists::words::same_words;
 use message::Kind;
+use terms::request::Names;
 ghost use mathlib.Core.Path.{_≡_};
-ghost use Rattle.line_table.specs.Search.{inUse, waits, invoked, invokedOn, ofLine, marks, blocks, fitsKind, fits, given, sameNumbers, duplicates, passes, duplicateOf};
+ghost use Rattle.line_table.specs.Search.{inUse, waits, invoked, invokedOn, ofLine, marks, blocks, fitsKind, fits, given, sameNumbers, duplicates, passes};
 
-// What is looked for; the words are a line's number, or identifier, numberA and numberB of a request.
+// What is looked for: by a line's number, or by whom a request names.
 pub enum Sought {
     Blocking(Words),
     Fitting(Words),
-    Duplicate(Words, Words, Words),
+    Duplicate(Names),
 }
 
 fn in_use(state: State) -> bool
@@ -54,7 +54,8 @@ pub fn of_line(number: Words, r: Record) -> bool
     ensures { λ q. ⌜ q ≡ ofLine number r ⌝ }
 {
     let state = r.state;
-    let own = r.numberB;
+    let terms = r.terms;
+    let own = terms.numberB;
     if in_use(state) {
         return same_words(own, number);
     }
@@ -66,7 +67,8 @@ fn is_invoked_on(number: Words, r: Record) -> bool
     ensures { λ q. ⌜ q ≡ invokedOn number r ⌝ }
 {
     let state = r.state;
-    let own = r.numberB;
+    let terms = r.terms;
+    let own = terms.numberB;
     if is_invoked(state) {
         return same_words(own, number);
     }
@@ -85,7 +87,8 @@ fn is_blocking(number: Words, r: Record) -> bool
     ensures { λ q. ⌜ q ≡ blocks number r ⌝ }
 {
     let state = r.state;
-    let own = r.numberB;
+    let terms = r.terms;
+    let own = terms.numberB;
     if is_waiting(state, r.suspended) {
         return same_words(own, number);
     }
@@ -105,7 +108,8 @@ fn fits_kind(kind: Kind, active: bool) -> bool
 fn is_fitting(number: Words, r: Record) -> bool
     ensures { λ q. ⌜ q ≡ fits number r ⌝ }
 {
-    let kind = r.kind;
+    let terms = r.terms;
+    let kind = terms.kind;
     if is_invoked_on(number, r) {
         return fits_kind(kind, r.active);
     }
@@ -125,8 +129,9 @@ fn is_given(number: Words) -> bool
 fn same_numbers(numberA: Words, numberB: Words, r: Record) -> bool
     ensures { λ q. ⌜ q ≡ sameNumbers numberA numberB r ⌝ }
 {
-    let a = r.numberA;
-    let b = r.numberB;
+    let terms = r.terms;
+    let a = terms.numberA;
+    let b = terms.numberB;
     if is_given(a) {
         if same_words(a, numberA) {
             return same_words(b, numberB);
@@ -137,11 +142,15 @@ fn same_numbers(numberA: Words, numberB: Words, r: Record) -> bool
 }
 
 // A live record with the identifier, or with the two numbers, of a request.
-fn is_duplicate(identifier: Words, numberA: Words, numberB: Words, r: Record) -> bool
-    ensures { λ q. ⌜ q ≡ duplicates identifier numberA numberB r ⌝ }
+fn is_duplicate(names: Names, r: Record) -> bool
+    ensures { λ q. ⌜ q ≡ duplicates names r ⌝ }
 {
     let state = r.state;
-    let own = r.identifier;
+    let terms = r.terms;
+    let own = terms.identifier;
+    let identifier = names.identifier;
+    let numberA = names.numberA;
+    let numberB = names.numberB;
     if in_use(state) {
         if same_words(own, identifier) {
             return true;
@@ -158,21 +167,6 @@ pub fn is_sought(sought: Sought, r: Record) -> bool
     match sought {
         Sought::Blocking(number) => is_blocking(number, r),
         Sought::Fitting(number) => is_fitting(number, r),
-        Sought::Duplicate(identifier, numberA, numberB) => is_duplicate(
-            identifier,
-            numberA,
-            numberB,
-            r,
-        ),
+        Sought::Duplicate(names) => is_duplicate(names, r),
     }
-}
-
-// What a request would duplicate.
-pub fn duplicate_of(l: Letter) -> Sought
-    ensures { λ r. ⌜ r ≡ duplicateOf l ⌝ }
-{
-    let identifier = l.identifier;
-    let numberA = l.numberA;
-    let numberB = l.numberB;
-    Sought::Duplicate(identifier, numberA, numberB)
 }

@@ -12,7 +12,7 @@ use desk::outcome::done;
 use desk::outcome::no_timers;
 use desk::sends::sent_for;
 ghost use mathlib.Core.Path.{_≡_};
-ghost use Rattle.line_table.specs.Step.{guard, markedBy, changed, stopped, taken};
+ghost use Rattle.line_table.specs.Step.{guard, markedBy, changed, stopped, rowTaken};
 
 // The guard alone.
 pub fn only_guard() -> Timers
@@ -30,7 +30,7 @@ fn marked_by(mark: Mark, before: bool) -> bool
     ensures { λ r. ⌜ r ≡ markedBy mark before ⌝ }
 {
     match mark {
-        Mark::Stays => before,
+        Mark::Nothing => before,
         Mark::Sets => true,
         Mark::Clears => false,
     }
@@ -57,15 +57,16 @@ fn timers_stopped(next: Next) -> Timers
 
 // A row that is taken for the record of a place.
 pub fn take_row(place: usize, r: Record, row: Row) -> Plan
-    ensures { λ q. ⌜ q ≡ taken place r row ⌝ }
+    ensures { λ q. ⌜ q ≡ rowTaken place r row ⌝ }
 {
     let effect = effect_of(row);
     let next = effect.next;
     let sends = effect.sends;
     let activity = effect.active;
     let suspension = effect.suspended;
-    let identifier = r.identifier;
-    let connection = r.connection;
+    let terms = r.terms;
+    let identifier = terms.identifier;
+    let connection = terms.connection;
     let active = marked_by(activity, r.active);
     let suspended = marked_by(suspension, r.suspended);
     let change = changed_to(next, place, r, active, suspended);

@@ -2,3 +2,4 @@ pub mod Reading
 pub mod NumberLaws
 pub mod NumberBack
 pub mod RangeLaws
+pub mod CopiedLaws

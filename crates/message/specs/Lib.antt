@@ -3,4 +3,5 @@ pub mod Number
 pub mod Format
 pub mod Equality
 pub mod Wire
+pub mod Copied
 pub mod Answers

@@ -1,16 +1,14 @@
 -- What is read stands within the bytes: each field ends behind where it starts, a number of digits takes at most sixteen bytes.
-use Prim.Native.Nat.{ℕ, _+_, _-_, _≤_, _<_}
-use mathlib.Core.Path.{_≡_, refl, sym, _∙_, ap}
-use mathlib.Core.Bool.{Bool, true, false}
-use mathlib.Core.List.{List, [], _++_, append-nil}
-use lib.ListN.{length, take, drop, replicate, length-drop}
-use lib.Seq.{length-take-le}
+use Prim.Native.Nat.{ℕ, _+_, _≤_}
+use mathlib.Core.Path.{_≡_}
+use mathlib.Core.List.{List}
+use lib.ListN.{length}
 use lib.Dec.{eqb}
 use native.Mathlib.Omega.{arith}
 use Rattle.lists.proofs.Choice.{pick-elim}
 use Rattle.message.specs.Reading.{Read, took, refused, andThen}
 use Rattle.message.specs.Number.{fieldAt, digitsAt}
-use Rattle.message.specs.Wire.{Fields, requestTail, requestAt, fieldsAt, plainAt, between}
+use Rattle.message.specs.Wire.{Fields, requestTail, requestAt, fieldsAt, plainAt}
 use Rattle.message.specs.declared.Kind.{Kind}
 use Rattle.message.specs.declared.Kind.the-variants.{Ccbs, Ccnr}
 use Rattle.message.specs.declared.Body.{Body}
@@ -87,10 +85,3 @@ fields-places type s at h =
     pick-elim P (eqb type 9) (λ t. here _) (λ t.
     pick-elim P (eqb type 10) (λ t. here _) (λ t.
     pick-elim P (eqb type 11) (λ t. here _) (λ t. here _)))))))))))
-
--- sixteen bytes leave nothing to be filled up
-pub whole-between : (s : List ℕ) (at : ℕ) → at + 16 ≤ length s → between s at (at + 16) ≡ take 16 (drop at s)
-whole-between s at h =
-    let k : at + 16 - at ≡ 16 = omega arith in
-    let t : length (take 16 (drop at s)) ≡ 16 = length-take-le 16 (drop at s) (omega (arith, length-drop at s)) in
-    rw (k, t) (append-nil (take 16 (drop at s)))

@@ -1,4 +1,4 @@
--- Each field is the request's, but for the choices.
+-- The request's terms, with the two choices.
 use borrow.Author.Needs.{needs}
 use Rattle.line_plan.proofs.new_record.Statement.{statement}
 use Rattle.line_plan.proofs.new_record.Tie as tie
@@ -15,11 +15,11 @@ desk-retains-requires c κs = search needs
 connection-chosen-requires : tie.Need-connection-chosen-requires
 connection-chosen-requires c κs = search needs
 
-cast-t12 : tie.Need-cast-t12
-cast-t12 c = search needs
+request-terms-requires : tie.Need-request-terms-requires
+request-terms-requires c κs = search needs
 
 returns : tie.Need-returns
-returns c = rw (c .before .connection-chosen .ensures, c .before .before .desk-retains .ensures, c .before .before .before .keep-chosen .ensures, c .before .before .before .before .desk-keeps .ensures)
+returns c = rw (c .request-terms .ensures, c .before .connection-chosen .ensures, c .before .before .desk-retains .ensures, c .before .before .before .keep-chosen .ensures, c .before .before .before .before .desk-keeps .ensures)
 
 pub new-record-spec : {M : Type 1} → statement M
 new-record-spec =
@@ -29,5 +29,5 @@ new-record-spec =
     keep-chosen-requires
     desk-retains-requires
     connection-chosen-requires
-    cast-t12
+    request-terms-requires
     returns)

@@ -1,13 +1,14 @@
--- The fields stand within the bytes, so their numbers can be copied; sixteen bytes are the identifier.
+-- The fields stand within the bytes, and each number in sixteen of them, so the copies are whole; sixteen bytes are the identifier.
 use Prim.Native.Nat.{_+_}
 use native.Mathlib.Omega.{arith}
-use mathlib.Core.Path.{_≡_, sym, _∙_, ap}
+use mathlib.Core.Path.{sym, _∙_, ap}
 use lib.ListN.{length}
 use denote.Ref.{now}
 use borrow.Author.Tests.{le-ltb, lt-ltb}
 use Rattle.message.specs.Wire.{behindHead, identifierAt}
 use Rattle.reader.specs.Answers.{fieldsTold}
-use Rattle.reader.proofs.Within.{fields-places, whole-between}
+use Rattle.message.proofs.CopiedLaws.{copied-between, copied-whole}
+use Rattle.reader.proofs.Within.{fields-places}
 use borrow.Author.Needs.{needs}
 use Rattle.reader.proofs.behind_head.Statement.{statement}
 use Rattle.reader.proofs.behind_head.Tie as tie
@@ -41,10 +42,10 @@ copy-between-requires : tie.Need-copy-between-requires
 copy-between-requires c κs = search needs
 
 copy-between-requires-2 : tie.Need-copy-between-requires-2
-copy-between-requires-2 c κs = let p = fields-places _ _ _ (omega arith) _ _ (sym (c .before .before .before .before .fields .ensures) ∙ ap fieldsTold (c .before .before .behindA .given .1)) in (p .startA, (p .sixteenA, omega (arith, p .startB, p .last, p .ends)))
+copy-between-requires-2 c κs = search needs
 
 copy-between-requires-3 : tie.Need-copy-between-requires-3
-copy-between-requires-3 c κs = let p = fields-places _ _ _ (omega arith) _ _ (sym (c .before .before .before .before .before .fields .ensures) ∙ ap fieldsTold (c .before .before .before .behindA .given .1)) in (p .startB, (p .sixteenB, omega (arith, p .last, p .ends)))
+copy-between-requires-3 c κs = search needs
 
 returns-2 : tie.Need-returns-2
 unfolding behindHead identifierAt
@@ -52,7 +53,21 @@ returns-2 c = let a = c .before .before .before .before .before .before .before 
 
 returns-3 : tie.Need-returns-3
 unfolding behindHead identifierAt
-returns-3 c = let a = c .before .before .before .before .before .before .before .before .before .args in rw (le-ltb (length (now (a .s))) (a .at + 16) (omega arith), sym (c .before .before .before .before .before .before .fields .ensures) ∙ ap fieldsTold (c .before .before .before .before .behindA .given .1), c .before .before .copy-between .ensures, c .before .copy-between2 .ensures, c .copy-between3 .ensures, whole-between (now (a .s)) (a .at) (omega arith))
+returns-3 c =
+    let a = c .before .before .before .before .before .before .before .before .before .args in
+    let s = now (a .s) in
+    let whole = sym (c .before .before .before .before .before .before .fields .ensures) ∙ ap fieldsTold (c .before .before .before .before .behindA .given .1) in
+    let p = fields-places _ s _ (omega arith) _ _ whole in
+    rw (
+      le-ltb (length s) (a .at + 16) (omega arith),
+      whole,
+      c .before .before .copy-between .ensures,
+      c .before .copy-between2 .ensures,
+      c .copy-between3 .ensures,
+      copied-whole s (a .at) (omega arith),
+      copied-between s _ _ (p .sixteenA),
+      copied-between s _ _ (p .sixteenB),
+    )
 
 pub behind-head-spec : {M : Type 1} → statement M
 behind-head-spec =

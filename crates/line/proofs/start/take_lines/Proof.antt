@@ -1,11 +1,11 @@
 -- Before each turn the rest of the lines, from the place reached on, makes what all of them make from the start.
-use Prim.Native.Nat.{ℕ, _+_, _-_, _*_, _≤_}
+use Prim.Native.Nat.{_+_, _*_}
 use mathlib.Core.Bool.{Bool, true, false, not}
-use mathlib.Core.Path.{_≡_, refl, sym, _∙_, ap}
+use mathlib.Core.Path.{_≡_, refl, sym, _∙_}
 use native.Mathlib.Omega.{arith}
 use denote.Ref.{now}
-use lib.ListN.{length, drop}
-use Rattle.line.specs.Start.{takeLines, bad}
+use lib.ListN.{drop}
+use Rattle.line.specs.Start.{givenWidth, takeLines, bad}
 use Rattle.line.proofs.StartLaws.{take-good, take-bad, take-end}
 use borrow.Author.Needs.{needs}
 use Rattle.line.proofs.start.take_lines.Statement.{statement}
@@ -21,7 +21,7 @@ not-false false e = sym e
 
 abbrev Inv-loop : tie.InvT-loop
 Inv-loop words₀ given count left₀ k₀ at₀ words left k at =
-    (k + left ≡ count) × ((at ≡ k * 17) × (takeLines left k (drop at given) words ≡ takeLines count 0 given words₀))
+    (k + left ≡ count) × ((at ≡ k * givenWidth) × (takeLines left k (drop at given) words ≡ takeLines count 0 given words₀))
 
 abbrev μ-loop : tie.MeasureT-loop
 μ-loop words₀ given count left₀ k₀ at₀ words left k at = left
@@ -33,7 +33,7 @@ add-copy-between : tie.Need-add-copy-between Inv-loop μ-loop
 add-copy-between c = omega arith
 
 copy-between-requires : tie.Need-copy-between-requires Inv-loop μ-loop
-copy-between-requires c κs = (omega arith, (omega arith, omega arith))
+copy-between-requires c κs = search needs
 
 add-kinds : tie.Need-add-kinds Inv-loop μ-loop
 add-kinds c = omega arith

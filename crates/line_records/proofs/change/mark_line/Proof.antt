@@ -4,15 +4,16 @@ use mathlib.Core.Path.{_≡_, refl}
 use native.Mathlib.Omega.{arith}
 use native.Mathlib.Numerals.{add-one}
 use borrow.Author.Needs.{needs}
+use Rattle.line_records.specs.Layout.{places}
 use Rattle.line_records.specs.Change.{marked}
 use Rattle.line_records.proofs.change.mark_line.Statement.{statement}
 use Rattle.line_records.proofs.change.mark_line.Tie as tie
 
 abbrev Inv-loop : tie.InvT-loop
-Inv-loop words₀ number i₀ words i = (i ≤ 32) × (words ≡ marked number i words₀)
+Inv-loop words₀ number i₀ words i = (i ≤ places) × (words ≡ marked number i words₀)
 
 abbrev μ-loop : tie.MeasureT-loop
-μ-loop words₀ number i₀ words i = 32 - i
+μ-loop words₀ number i₀ words i = places - i
 
 loop-holds : tie.Need-loop-holds Inv-loop μ-loop
 unfolding marked
@@ -32,7 +33,7 @@ unfolding marked
 loop-again c = (omega arith, rw (add-one, ← c .before .before .before .loop .inv .1) (c .mark-place .ensures))
 
 returns : tie.Need-returns Inv-loop μ-loop
-returns c = let e : c .before .loop .i ≡ 32 = omega arith in rw e at (c .before .loop .inv .1)
+returns c = let e : c .before .loop .i ≡ places = omega arith in rw e at (c .before .loop .inv .1)
 
 pub mark-line-spec : {M : Type 1} → statement M
 mark-line-spec =

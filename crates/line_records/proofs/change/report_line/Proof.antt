@@ -1,5 +1,5 @@
 -- The status first; busy sets the marks.
-use Rattle.line_records.specs.Change.{reported}
+use Rattle.line_records.specs.Change.{withReport}
 use borrow.Author.Needs.{needs}
 use Rattle.line_records.proofs.change.report_line.Statement.{statement}
 use Rattle.line_records.proofs.change.report_line.Tie as tie
@@ -11,11 +11,11 @@ mark-line-requires : tie.Need-mark-line-requires
 mark-line-requires c κs = search needs
 
 returns : tie.Need-returns
-unfolding reported
+unfolding withReport
 returns c = rw (← c .before .before .before .store-status .ensures, c .before .before .if1 .taken) (c .mark-line .ensures)
 
 returns-2 : tie.Need-returns-2
-unfolding reported
+unfolding withReport
 returns-2 c = rw (← c .before .store-status .ensures, c .if1 .left)
 
 pub report-line-spec : {M : Type 1} → statement M

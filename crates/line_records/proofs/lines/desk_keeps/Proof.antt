@@ -1,4 +1,4 @@
--- The first setting is word 496.
+-- The word of the first setting, by its place.
 use mathlib.Core.Path.{refl}
 use Rattle.line_records.specs.Lines.{keeps}
 use borrow.Author.Needs.{needs}

@@ -1,4 +1,4 @@
--- The second setting is word 497.
+-- The word of the second setting, by its place.
 use mathlib.Core.Path.{refl}
 use Rattle.line_records.specs.Lines.{retains}
 use borrow.Author.Needs.{needs}

@@ -7,16 +7,17 @@ use denote.Ref.{now}
 use lib.ListN.{drop}
 use Rattle.lists.specs.Lists.{firstFrom}
 use Rattle.lists.proofs.Lists.{first-hit, first-miss, first-end}
+use Rattle.line_records.specs.Layout.{linePlaces}
 use Rattle.line_records.specs.Lines.{lines, hasNumber, lineAt, noLine}
 use Rattle.line_records.proofs.LinesLaws.{lines-length}
 use Rattle.line_records.proofs.lines.find_line.Statement.{statement}
 use Rattle.line_records.proofs.lines.find_line.Tie as tie
 
 abbrev Inv-loop : tie.InvT-loop
-Inv-loop words number i₀ i = (i ≤ 16) × (lineAt number (lines words) ≡ firstFrom (hasNumber number) i (drop i (lines words)))
+Inv-loop words number i₀ i = (i ≤ linePlaces) × (lineAt number (lines words) ≡ firstFrom (hasNumber number) i (drop i (lines words)))
 
 abbrev μ-loop : tie.MeasureT-loop
-μ-loop words number i₀ i = 16 - i
+μ-loop words number i₀ i = linePlaces - i
 
 loop-holds : tie.Need-loop-holds Inv-loop μ-loop
 unfolding lineAt

@@ -2,6 +2,7 @@
 use Prim.Native.Nat.{_+_, _*_}
 use denote.Ref.{now}
 use Rattle.lists.proofs.Parts.{tail-of}
+use Rattle.line_records.specs.Layout.{lineWidth, linesAt}
 use Rattle.line_records.proofs.LinesLaws.{line-at}
 use borrow.Author.Needs.{needs}
 use Rattle.line_records.proofs.lines.load_line_in.Statement.{statement}
@@ -31,7 +32,7 @@ line-of-requires c κs = search needs
 returns : tie.Need-returns
 returns c =
     let a = c .before .before .before .args in
-    rw (line-at (now (a .words)) (a .k) (c .before .before .before .pre .0), c .line-of .ensures, tail-of (416 + a .k * 5) (now (a .words)))
+    rw (line-at (now (a .words)) (a .k) (c .before .before .before .pre .0), c .line-of .ensures, tail-of (linesAt + a .k * lineWidth) (now (a .words)))
 
 pub load-line-in-spec : {M : Type 1} → statement M
 load-line-in-spec =

@@ -1,11 +1,12 @@
 -- The part from the line's first word on is lent whole.
 use Prim.Native.Nat.{ℕ, _+_, _*_}
-use mathlib.Core.Path.{_∙_, ap}
+use mathlib.Core.Path.{sym, _∙_, ap}
 use mathlib.Core.List.{List, _++_}
 use lib.ListN.{take}
 use denote.Ref.{now}
 use Rattle.lists.proofs.Parts.{tail-of, mid-tail}
-use Rattle.line_records.specs.Lines.{overLine}
+use Rattle.line_records.specs.Layout.{lineWidth, linesAt}
+use Rattle.line_records.proofs.LinesLaws.{overLine-parts}
 use borrow.Author.Needs.{needs}
 use Rattle.line_records.proofs.lines.put_line_in.Statement.{statement}
 use Rattle.line_records.proofs.lines.put_line_in.Tie as tie
@@ -35,11 +36,13 @@ same-length : tie.Need-same-length
 same-length c = search needs
 
 returns : tie.Need-returns
-unfolding overLine
 returns c =
-    let words = now (c .before .before .before .before .before .args .words) in
-    let at = 416 + c .before .before .before .before .before .args .k * 5 in
-    mid-tail at words (c .before .before .put-line-words .last .0) ∙ ap (λ (t : List ℕ). take at words ++ t) (rw (tail-of at words) at (c .before .before .put-line-words .ensures))
+    let a = c .before .before .before .before .before .args in
+    let words = now (a .words) in
+    let at = linesAt + a .k * lineWidth in
+    mid-tail at words (c .before .before .put-line-words .last .0)
+    ∙ ap (λ (t : List ℕ). take at words ++ t) (rw (tail-of at words) at (c .before .before .put-line-words .ensures))
+    ∙ sym (overLine-parts words (a .k) (a .line))
 
 pub put-line-in-spec : {M : Type 1} → statement M
 put-line-in-spec =

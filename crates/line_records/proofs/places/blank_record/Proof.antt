@@ -1,4 +1,5 @@
 -- A row of zeros reads as the blank record.
+use Rattle.terms.specs.Terms.{termsOf}
 use Rattle.line_records.specs.Records.{recordOf}
 use borrow.Author.Needs.{needs}
 use Rattle.line_records.proofs.places.blank_record.Statement.{statement}
@@ -11,7 +12,7 @@ record-of-requires : tie.Need-record-of-requires
 record-of-requires c κs = search needs
 
 returns : tie.Need-returns
-unfolding recordOf
+unfolding recordOf termsOf
 returns c = rw (c .record-of .ensures)
 
 pub blank-record-spec : {M : Type 1} → statement M

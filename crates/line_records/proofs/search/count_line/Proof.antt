@@ -9,16 +9,17 @@ use lib.ListN.{drop}
 use Rattle.lists.specs.Lists.{count}
 use Rattle.lists.proofs.Lists.{count-hit, count-miss, count-end}
 use Rattle.line_table.specs.Search.{ofLine}
+use Rattle.line_records.specs.Layout.{places}
 use Rattle.line_records.specs.Records.{records, blank}
 use Rattle.line_records.proofs.RecordsLaws.{records-length}
 use Rattle.line_records.proofs.search.count_line.Statement.{statement}
 use Rattle.line_records.proofs.search.count_line.Tie as tie
 
 abbrev Inv-loop : tie.InvT-loop
-Inv-loop words number i₀ found₀ i found = (i ≤ 32) × ((found ≤ i) × (count (ofLine number) (records words) ≡ found + count (ofLine number) (drop i (records words))))
+Inv-loop words number i₀ found₀ i found = (i ≤ places) × ((found ≤ i) × (count (ofLine number) (records words) ≡ found + count (ofLine number) (drop i (records words))))
 
 abbrev μ-loop : tie.MeasureT-loop
-μ-loop words number i₀ found₀ i found = 32 - i
+μ-loop words number i₀ found₀ i found = places - i
 
 loop-holds : tie.Need-loop-holds Inv-loop μ-loop
 loop-holds c = (omega arith, (omega arith, omega arith))

@@ -8,16 +8,17 @@ use lib.ListN.{drop}
 use Rattle.lists.specs.Lists.{first, firstFrom}
 use Rattle.lists.proofs.Lists.{first-hit, first-miss, first-end}
 use Rattle.line_table.specs.Search.{passes}
+use Rattle.line_records.specs.Layout.{places}
 use Rattle.line_records.specs.Records.{records, blank}
 use Rattle.line_records.proofs.RecordsLaws.{records-length}
 use Rattle.line_records.proofs.search.find_record.Statement.{statement}
 use Rattle.line_records.proofs.search.find_record.Tie as tie
 
 abbrev Inv-loop : tie.InvT-loop
-Inv-loop words sought i₀ i = (i ≤ 32) × (first (passes sought) (records words) ≡ firstFrom (passes sought) i (drop i (records words)))
+Inv-loop words sought i₀ i = (i ≤ places) × (first (passes sought) (records words) ≡ firstFrom (passes sought) i (drop i (records words)))
 
 abbrev μ-loop : tie.MeasureT-loop
-μ-loop words sought i₀ i = 32 - i
+μ-loop words sought i₀ i = places - i
 
 loop-holds : tie.Need-loop-holds Inv-loop μ-loop
 loop-holds c = (omega arith, refl)

@@ -9,14 +9,8 @@ enum-told c = search needs
 enum-told-2 : tie.Need-enum-told-2
 enum-told-2 c = search needs
 
-reply-with-requires : tie.Need-reply-with-requires
-reply-with-requires c κs = search needs
-
 enum-told-3 : tie.Need-enum-told-3
 enum-told-3 c = search needs
-
-reply-with-requires-2 : tie.Need-reply-with-requires-2
-reply-with-requires-2 c κs = search needs
 
 enum-told-4 : tie.Need-enum-told-4
 enum-told-4 c = search needs
@@ -25,10 +19,10 @@ returns : tie.Need-returns
 returns c = search needs
 
 returns-2 : tie.Need-returns-2
-returns-2 c = rw (c .before .enum-told2 .given .1, c .reply-with .ensures)
+returns-2 c = rw (c .enum-told2 .given .1)
 
 returns-3 : tie.Need-returns-3
-returns-3 c = rw (c .before .enum-told3 .given .1, c .reply-with2 .ensures)
+returns-3 c = rw (c .enum-told3 .given .1)
 
 returns-4 : tie.Need-returns-4
 returns-4 c = search needs
@@ -36,14 +30,4 @@ returns-4 c = search needs
 pub reply-missed-spec : {M : Type 1} → statement M
 reply-missed-spec =
     tie.close
-    (tie.spec
-    enum-told
-    enum-told-2
-    reply-with-requires
-    enum-told-3
-    reply-with-requires-2
-    enum-told-4
-    returns
-    returns-2
-    returns-3
-    returns-4)
+    (tie.spec enum-told enum-told-2 enum-told-3 enum-told-4 returns returns-2 returns-3 returns-4)

@@ -1,5 +1,5 @@
 -- Each part of the plan is what the effect of the row means.
-use Rattle.line_table.specs.Step.{taken}
+use Rattle.line_table.specs.Step.{rowTaken}
 use borrow.Author.Needs.{needs}
 use Rattle.line_table.proofs.step.take_row.Statement.{statement}
 use Rattle.line_table.proofs.step.take_row.Tie as tie
@@ -29,8 +29,8 @@ done-requires : tie.Need-done-requires
 done-requires c κs = search needs
 
 returns : tie.Need-returns
-unfolding taken
-returns c = rw (c .done .ensures, c .before .before .before .before .changed-to .ensures, c .before .before .before .sent-for .ensures, c .before .before .timers-stopped .ensures, c .before .no-timers .ensures, c .before .before .before .before .before .before .marked-by .ensures, c .before .before .before .before .before .marked-by2 .ensures, c .before .before .before .before .before .before .before .before .effect-of .ensures)
+unfolding rowTaken
+returns c = rw (c .done .ensures, c .before .before .before .before .changed-to .ensures, c .before .before .before .sent-for .ensures, c .before .before .timers-stopped .ensures, c .before .no-timers .ensures, c .before .before .before .before .before .before .marked-by .ensures, c .before .before .before .before .before .marked-by2 .ensures, c .before .before .before .before .before .before .before .before .before .effect-of .ensures)
 
 pub take-row-spec : {M : Type 1} → statement M
 take-row-spec =

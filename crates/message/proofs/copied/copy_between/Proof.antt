@@ -1,69 +1,18 @@
--- The invariant: the first i bytes are copied, the rest are still 0.
-use Prim.Native.Nat.{ℕ, _+_, _-_, _≤_, _<_}
-use mathlib.Core.Path.{_≡_, refl, sym, _∙_, ap}
-use mathlib.Core.List.{_++_}
-use native.Mathlib.Omega.{arith}
-use lib.ListN.{length, take, drop, replicate, length-drop}
-use lib.Seq.{getD-drop, length-take-le}
+-- So many bytes as there are to copy.
 use denote.Ref.{now}
-use Rattle.lists.proofs.Parts.{front-step}
+use Rattle.message.proofs.CopiedLaws.{copied-count}
+use borrow.Author.Needs.{needs}
 use Rattle.message.proofs.copied.copy_between.Statement.{statement}
 use Rattle.message.proofs.copied.copy_between.Tie as tie
 
-abbrev Inv-loop : tie.InvT-loop
-Inv-loop s from to count copy₀ i₀ copy i = (i ≤ to - from) × (copy ≡ take i (drop from s) ++ drop i (replicate 16 0))
+count-copied-requires : tie.Need-count-copied-requires
+count-copied-requires c κs = search needs
 
-abbrev μ-loop : tie.MeasureT-loop
-μ-loop s from to count copy₀ i₀ copy i = to - from - i
+copy-in-requires : tie.Need-copy-in-requires
+copy-in-requires c κs = search needs
 
-sub-count : tie.Need-sub-count Inv-loop μ-loop
-sub-count c = omega arith
-
-loop-holds : tie.Need-loop-holds Inv-loop μ-loop
-loop-holds c = (omega arith, refl)
-
-add-copy : tie.Need-add-copy Inv-loop μ-loop
-add-copy c = omega arith
-
-shared-slice-read-copy : tie.Need-shared-slice-read-copy Inv-loop μ-loop
-shared-slice-read-copy c = omega arith
-
-array-write-copy : tie.Need-array-write-copy Inv-loop μ-loop
-array-write-copy c = omega arith
-
-add-i : tie.Need-add-i Inv-loop μ-loop
-add-i c = omega arith
-
-loop-less : tie.Need-loop-less Inv-loop μ-loop
-loop-less c = omega arith
-
-loop-again : tie.Need-loop-again Inv-loop μ-loop
-loop-again c =
-    let a = c .before .before .before .args in
-    let l = c .before .before .loop in
-    let hz : l .i < length {A = ℕ} (replicate 16 0) = omega arith in
-    let ht : l .i < length (drop (a .from) (now (a .s))) = simp length-drop (omega arith) in
-    (omega arith, rw (l .inv .1, ← getD-drop (a .from) (now (a .s)) (l .i) 0) (front-step (replicate 16 0) (drop (a .from) (now (a .s))) (l .i) hz ht))
-
-returns : tie.Need-returns Inv-loop μ-loop
-returns c =
-    let a = c .before .before .args in
-    let e : c .before .loop .i ≡ a .to - a .from = omega arith in
-    let t : length (take (a .to - a .from) (drop (a .from) (now (a .s)))) ≡ a .to - a .from = length-take-le (a .to - a .from) (drop (a .from) (now (a .s))) (omega (arith, length-drop (a .from) (now (a .s)))) in
-    rw (c .before .loop .inv .1, e, t)
+returns : tie.Need-returns
+returns c = rw (c .copy-in .ensures, c .before .count-copied .ensures) (copied-count (now (c .before .before .before .args .s)) (c .before .before .before .args .from) (c .before .before .before .args .to))
 
 pub copy-between-spec : {M : Type 1} → statement M
-copy-between-spec =
-    tie.close
-    (tie.spec
-    Inv-loop
-    μ-loop
-    sub-count
-    loop-holds
-    add-copy
-    shared-slice-read-copy
-    array-write-copy
-    add-i
-    loop-less
-    loop-again
-    returns)
+copy-between-spec = tie.close (tie.spec count-copied-requires copy-in-requires returns)

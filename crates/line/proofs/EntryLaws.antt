@@ -1,0 +1,18 @@
+-- A message that was read is in range and its own normal form, so its entry is its letter as it stands.
+use Prim.Native.Nat.{ℕ}
+use mathlib.Core.Path.{_≡_}
+use mathlib.Core.List.{List}
+use Rattle.lists.specs.Words.{Bytes}
+use Rattle.message.specs.Reading.{took}
+use Rattle.message.specs.Wire.{messageAt}
+use Rattle.message.specs.declared.Message.{Message}
+use Rattle.writer.proofs.Claims.{read-is-written}
+use Rattle.desk.specs.Letter.{readLetter}
+use Rattle.desk.proofs.LetterLaws.{letter-read}
+use Rattle.line_table.specs.declared.inputs.Input.the-variants as Input
+use Rattle.line.specs.Entry.{messageEntry}
+use Rattle.line.specs.declared.entry.Entry.the-variants.{Given}
+
+pub read-entry : (s : List ℕ) (m : Message) (next : ℕ) → Bytes s → messageAt s ≡ took m next → messageEntry m ≡ Given (Input.Message (readLetter m))
+unfolding messageEntry
+read-entry s m next bytes e = let w = read-is-written s m next bytes e in rw (w .ranged, letter-read m (w .normalised))

@@ -1,0 +1,20 @@
+-- The step of the entry that was read, and the place behind it.
+use mathlib.Core.Path.{ap}
+use Rattle.line.specs.Steps.{withNext, step, receivedBytes}
+use Rattle.line.specs.declared.steps.Stepped.{Stepped}
+use borrow.Author.Needs.{needs}
+use Rattle.line.proofs.on_words.step_bytes.Statement.{statement}
+use Rattle.line.proofs.on_words.step_bytes.Tie as tie
+
+bytes-entry-requires : tie.Need-bytes-entry-requires
+bytes-entry-requires c κs = search needs
+
+step-requires : tie.Need-step-requires
+step-requires c κs = search needs
+
+returns : tie.Need-returns
+unfolding receivedBytes
+returns c = rw (← c .before .before .bytes-entry .ensures) (ap (λ (step : Stepped). withNext step (c .before .before .bytes-entry .result .next)) (c .step .ensures))
+
+pub step-bytes-spec : {M : Type 1} → statement M
+step-bytes-spec = tie.close (tie.spec bytes-entry-requires step-requires returns)

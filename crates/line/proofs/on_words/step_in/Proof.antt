@@ -1,0 +1,18 @@
+-- What is planned is applied to the lent words.
+use Rattle.line.specs.Steps.{step}
+use borrow.Author.Needs.{needs}
+use Rattle.line.proofs.on_words.step_in.Statement.{statement}
+use Rattle.line.proofs.on_words.step_in.Tie as tie
+
+plan-for-requires : tie.Need-plan-for-requires
+plan-for-requires c κs = search needs
+
+apply-requires : tie.Need-apply-requires
+apply-requires c κs = search needs
+
+returns : tie.Need-returns
+unfolding step
+returns c = rw (c .apply .ensures, c .before .before .before .plan-for .ensures)
+
+pub step-in-spec : {M : Type 1} → statement M
+step-in-spec = tie.close (tie.spec plan-for-requires apply-requires returns)

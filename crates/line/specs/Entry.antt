@@ -1,0 +1,43 @@
+-- What is put in at the line desk, as a message, bytes or arrays, is made an input of the desk, or is refused with 1, 2 or 10: here and nowhere else.
+use Prim.Native.Nat.{ℕ}
+use mathlib.Core.Bool.{Bool}
+use mathlib.Core.List.{List}
+use Rattle.lists.specs.Choice.{pick}
+use Rattle.lists.specs.Words.{wordsOf}
+use Rattle.message.specs.Reading.{Read, took, refused}
+use Rattle.message.specs.Number.{digitsInRange}
+use Rattle.message.specs.Format.{inRange}
+use Rattle.message.specs.Wire.{messageAt}
+use Rattle.message.specs.declared.Message.{Message}
+use Rattle.desk.specs.Letter.{letterOf, numberWords}
+use Rattle.line_table.specs.declared.inputs.Act.{Act}
+use Rattle.line_table.specs.declared.inputs.Input.the-variants as Input
+use Rattle.line.specs.declared.entry.Entry.{Entry}
+use Rattle.line.specs.declared.entry.Entry.the-variants.{Refused, Given}
+use Rattle.line.specs.declared.entry.BytesEntry.{BytesEntry}
+
+-- ---- a message: 2 for a field out of range
+unfoldable pub messageEntry : Message → Entry
+messageEntry m = pick (inRange m) (Given (Input.Message (letterOf m))) (Refused 2)
+
+-- ---- an act, and the guard: any sixteen bytes are an identifier
+unfoldable pub actEntry : List ℕ → Act → Entry
+actEntry identifier act = Given (Input.Act (wordsOf identifier) act)
+
+unfoldable pub guardEntry : List ℕ → Entry
+guardEntry identifier = Given (Input.Guard (wordsOf identifier))
+
+-- ---- a line report, and a Look: 10 for bad digits
+unfoldable pub reportEntry : List ℕ → Bool → Entry
+reportEntry digits busy = pick (digitsInRange 1 digits) (Given (Input.Report (numberWords digits) busy)) (Refused 10)
+
+unfoldable pub lookEntry : List ℕ → Entry
+lookEntry digits = pick (digitsInRange 1 digits) (Given (Input.Look (numberWords digits))) (Refused 10)
+
+-- ---- bytes: the reader's 1 and 2; else the message that is read, and the first unread place
+abbrev pub readEntry : Read Message → BytesEntry
+readEntry (took m next) = record { entry = messageEntry m; next = next }
+readEntry (refused number) = record { entry = Refused number; next = 0 }
+
+unfoldable pub bytesEntry : List ℕ → BytesEntry
+bytesEntry bytes = readEntry (messageAt bytes)

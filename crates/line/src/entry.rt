@@ -1,0 +1,97 @@
+// What is put in, as a message, bytes or arrays, made an input of the desk, or refused with 1, 2 or 10: here and nowhere else. What is behind this room has ranges
+// no more.
+use desk::letter::letter_of;
+use desk::letter::number_words;
+use desk::letter::read_letter;
+use line_table::inputs::Act;
+use line_table::inputs::Input;
+use lists::words::words_of;
+use message::Message;
+use message::digits::PlaceRead;
+use message::digits::digits_in_range;
+use message::range::in_range;
+ghost use mathlib.Core.Path.{_≡_};
+ghost use Rattle.line.specs.Entry.{messageEntry, actEntry, guardEntry, reportEntry, lookEntry, bytesEntry};
+
+// An input, or the number of the refusal.
+pub enum Entry {
+    Refused(u8),
+    Given(Input),
+}
+
+// The same for bytes, with the first unread place; on a refusal of the bytes, 0.
+pub struct BytesEntry {
+    pub entry: Entry,
+    pub next: usize,
+}
+
+// A message: 2.
+pub fn message_entry(m: Message) -> Entry
+    ensures { λ r. ⌜ r ≡ messageEntry m ⌝ }
+{
+    if in_range(m) {
+        let l = letter_of(m);
+        return Entry::Given(Input::Message(l));
+    }
+    Entry::Refused(2)
+}
+
+// An act at the line's end: alerted, call failed, cancel.
+pub fn act_entry(identifier: [u8; 16], act: Act) -> Entry
+    ensures { λ r. ⌜ r ≡ actEntry identifier act ⌝ }
+{
+    let id = words_of(identifier);
+    Entry::Given(Input::Act(id, act))
+}
+
+// A guard that ran out at the host.
+pub fn guard_entry(identifier: [u8; 16]) -> Entry
+    ensures { λ r. ⌜ r ≡ guardEntry identifier ⌝ }
+{
+    let id = words_of(identifier);
+    Entry::Given(Input::Guard(id))
+}
+
+// A line report, busy or free, by the line's digits: 10.
+pub fn report_entry(digits: [u8; 16], busy: bool) -> Entry
+    ensures { λ r. ⌜ r ≡ reportEntry digits busy ⌝ }
+{
+    if digits_in_range(digits, 1) {
+        let number = number_words(digits);
+        return Entry::Given(Input::Report(number, busy));
+    }
+    Entry::Refused(10)
+}
+
+// A Look at a line, by its digits: 10.
+pub fn look_entry(digits: [u8; 16]) -> Entry
+    ensures { λ r. ⌜ r ≡ lookEntry digits ⌝ }
+{
+    if digits_in_range(digits, 1) {
+        let number = number_words(digits);
+        return Entry::Given(Input::Look(number));
+    }
+    Entry::Refused(10)
+}
+
+// Raw bytes: the reader's 1 and 2. What was read is in range and its own normal form, so it is neither tested nor normalised again.
+pub fn bytes_entry(s: &[u8]) -> BytesEntry
+    ensures { λ r. ⌜ r ≡ bytesEntry (now (s .entry)) ⌝ }
+{
+    let answer = reader::read(s);
+    let verdict = answer.verdict;
+    match verdict {
+        PlaceRead::Refused(refusal) => BytesEntry {
+            entry: Entry::Refused(refusal),
+            next: 0,
+        },
+        PlaceRead::Taken(next) => {
+            let m = answer.message;
+            let l = read_letter(m);
+            BytesEntry {
+                entry: Entry::Given(Input::Message(l)),
+                next,
+            }
+        }
+    }
+}

@@ -1,0 +1,49 @@
+// A step on the desk's words, lent: what stands there afterwards and the outcome are those of the step. No word is copied but those that change. An inner room of the
+// line desk: its functions are no public operations.
+use crate::entry::Entry;
+use crate::entry::bytes_entry;
+use desk::outcome::BytesOutcome;
+use desk::outcome::Outcome;
+use desk::outcome::Sending;
+use desk::outcome::refused;
+use line_plan::plan_for;
+use line_records::WORDS;
+use line_records::change::apply;
+use line_table::inputs::Input;
+ghost use mathlib.Core.Path.{_≡_};
+ghost use Rattle.line.specs.Steps as Steps;
+ghost use Rattle.line.specs.Steps.{deskOf, answered, answeredBytes, entered, receivedBytes};
+
+// An input's plan, made on the lent words.
+fn step_in(words: &mut [u64; WORDS], input: Input) -> Outcome
+    ensures { λ r. ⌜ answered (deskOf (now (words .exit))) r ≡ Steps.step (deskOf (now (words .entry))) input ⌝ }
+{
+    let plan = plan_for(words, input);
+    let change = plan.change;
+    let outcome = plan.outcome;
+    apply(words, change);
+    outcome
+}
+
+// A step: what the entry refused is told, and changes nothing.
+pub fn step(words: &mut [u64; WORDS], entry: Entry) -> Outcome
+    ensures { λ r. ⌜ answered (deskOf (now (words .exit))) r ≡ entered (deskOf (now (words .entry))) entry ⌝ }
+{
+    match entry {
+        Entry::Refused(number) => refused(number, Sending::Nothing),
+        Entry::Given(input) => step_in(words, input),
+    }
+}
+
+// A step of raw bytes, and the first unread place.
+pub fn step_bytes(words: &mut [u64; WORDS], s: &[u8]) -> BytesOutcome
+    ensures { λ r. ⌜ answeredBytes (deskOf (now (words .exit))) r ≡ receivedBytes (deskOf (now (words .entry))) (now (s .entry)) ⌝ }
+{
+    let read = bytes_entry(s);
+    let entry = read.entry;
+    let outcome = step(words, entry);
+    BytesOutcome {
+        outcome,
+        next: read.next,
+    }
+}
