@@ -1,7 +1,7 @@
 pub mod Refusals
 pub mod Starting
 pub mod Changes
-pub mod Plans
+pub mod Decisions
 pub mod Ranges
 pub mod Reaching
 pub mod Queue

@@ -5,6 +5,7 @@ use mathlib.Core.List.{List, map}
 use Rattle.lists.proofs.Choice.{pick-elim}
 use Rattle.places.specs.Places.{names, Queued, same, last}
 use Rattle.places.proofs.Ordering.{names-put, names-add, names-remove, names-change}
+use Rattle.terms.specs.declared.Terms.{Terms}
 use Rattle.line_table.specs.declared.record.Record.{Record}
 use Rattle.line_table.specs.declared.record.Change.{Change}
 use Rattle.line_records.specs.Records.{records, place}
@@ -13,8 +14,8 @@ use Rattle.line_records.proofs.ChangeLaws.{applied-stay, records-applied-put, r
 use Rattle.line.specs.declared.Desk.{Desk}
 use Rattle.line_sound.specs.Sound.{lineView, Sound, Reached, InOrder, OrderOfAcceptance}
 use Rattle.line_sound.proofs.Starting.{blank-unused}
-use Rattle.line_sound.proofs.Changes.{marking, marking-used, marking-name, Fair, stays, turns, stores, removes, reports}
-use Rattle.line_sound.proofs.Reaching.{FairStep, fair-received, fair-bytes, fair-reported, fair-looked, fair-acted, fair-guarded, reached-sound}
+use Rattle.line_sound.proofs.Changes.{marking, marking-used, marking-name, FairChange, stays, turns, stores, removes, reports}
+use Rattle.line_sound.proofs.Reaching.{FairStep, fair-step, fair-bytes, reached-sound}
 
 -- the queue of some records
 abbrev From : List Record → List Record → Type 0
@@ -23,15 +24,15 @@ From before after = Queued (names lineView before) (names lineView after)
 same-names : (before after : List Record) → names lineView after ≡ names lineView before → From before after
 same-names before after e = subst (Queued (names lineView before)) (sym e) same
 
-fair-queued : (ws : List ℕ) → Sound ws → {c : Change} → Fair ws c → From (records ws) (records (applied ws c))
+fair-queued : (ws : List ℕ) → Sound ws → {c : Change} → FairChange ws c → From (records ws) (records (applied ws c))
 unfolding place
 fair-queued ws sound stays = same-names (records ws) (records (applied ws _)) (ap (λ (x : List ℕ). names lineView (records x)) (applied-stay ws))
-fair-queued ws sound (turns i r was is e line whole) =
+fair-queued ws sound (turns i r was is e whole) =
     subst (From (records ws)) (sym (records-applied-put ws i r (sound .full)))
-    (same-names (records ws) _ (names-put lineView (records ws) i r was is e))
+    (same-names (records ws) _ (names-put lineView (records ws) i r was is (ap (λ (t : Terms). t .identifier) e)))
 fair-queued ws sound (stores i r free new is few whole) =
     subst (From (records ws)) (sym (records-applied-put ws i r (sound .full)))
-    (subst (Queued (names lineView (records ws))) (sym (names-add lineView (records ws) i r (sound .placed) free is)) (last (r .identifier)))
+    (subst (Queued (names lineView (records ws))) (sym (names-add lineView (records ws) i r (sound .placed) free is)) (last (r .terms .identifier)))
 fair-queued ws sound (removes i) =
     subst (From (records ws)) (sym (records-applied-remove ws i (sound .full))) (names-remove lineView (records ws) i blank-unused)
 fair-queued ws sound (reports k number busy) =
@@ -50,10 +51,6 @@ step-order d after reached step =
 pub order-of-acceptance : OrderOfAcceptance
 order-of-acceptance =
     record {
-      messages = λ d reached m typed. step-order d _ reached (fair-received d (reached-sound d reached) m typed);
+      steps = λ d reached input fair. step-order d _ reached (fair-step d (reached-sound d reached) fair);
       bytes = λ d reached bytes b. step-order d _ reached (fair-bytes d (reached-sound d reached) bytes b);
-      reports = λ d reached digits busy. step-order d _ reached (fair-reported d (reached-sound d reached) digits busy);
-      looks = λ d reached digits. step-order d _ reached (fair-looked d (reached-sound d reached) digits);
-      acts = λ d reached identifier act. step-order d _ reached (fair-acted d (reached-sound d reached) identifier act);
-      guards = λ d reached identifier. step-order d _ reached (fair-guarded d (reached-sound d reached) identifier);
     }
