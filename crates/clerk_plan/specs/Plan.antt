@@ -1,106 +1,114 @@
--- What each input plans at the clerk's desk, by the list of records: the refusals in document 01's order, then the row of the table.
+-- What the clerk's desk decides about each input, by the list of records: the refusals in document 01's order, then the row of the table. And what it plans: the change and the outcome that a decision means.
 use Prim.Native.Nat.{ℕ}
-use mathlib.Core.Bool.{Bool, false}
+use mathlib.Core.Bool.{Bool}
 use mathlib.Core.List.{List}
 use lib.ListN.{getD}
 use Rattle.lists.specs.Choice.{pick}
 use Rattle.lists.specs.declared.Found.{Found}
 use Rattle.lists.specs.declared.Found.the-variants.{At, Nothing}
 use Rattle.lists.specs.declared.words.Words.{Words}
-use Rattle.message.specs.declared.Kind.{Kind}
 use Rattle.desk.specs.Carriers.{carrierFits}
-use Rattle.desk.specs.Outcome.{noTimers}
+use Rattle.desk.specs.Outcome.{noTimers, doneWith}
+use Rattle.desk.specs.Sends.{answered}
 use Rattle.desk.specs.declared.Connection.the-variants as Connection
 use Rattle.desk.specs.declared.Keep.the-variants as Keep
 use Rattle.desk.specs.declared.letter.Letter.{Letter}
 use Rattle.desk.specs.declared.outcome.Sending.the-variants as Sending
-use Rattle.desk.specs.declared.outcome.Notice.the-variants.{Silent}
-use Rattle.clerk_table.specs.Table.{effectOf, holdsIn}
+use Rattle.desk.specs.declared.sends.Sends.the-variants as Sends
+use Rattle.terms.specs.Request.{canKeepSent, requestTerms, requestLetter}
+use Rattle.terms.specs.declared.request.Names.{Names}
+use Rattle.terms.specs.declared.request.Request.{Request}
+use Rattle.clerk_table.specs.Table.{homeOf, holdsIn}
 use Rattle.clerk_table.specs.Record.{refusedPlan}
-use Rattle.clerk_table.specs.Step.{taken, only}
-use Rattle.clerk_table.specs.Inputs.{forClerk, rowOf, rowOfAct, rowOfTimer, replyUnmatched, replyUnfit, settled}
+use Rattle.clerk_table.specs.Step.{rowTaken, only}
+use Rattle.clerk_table.specs.Inputs.{namesOf, messageFor, rowFor, rowOfAct, rowOfTimer, replyUnmatched, replyUnfit, settledBy}
 use Rattle.clerk_table.specs.declared.table.State.the-variants.{WaitAck}
 use Rattle.clerk_table.specs.declared.table.Row.{Row}
 use Rattle.clerk_table.specs.declared.table.Timer.{Timer}
 use Rattle.clerk_table.specs.declared.table.Timer.the-variants.{T1}
 use Rattle.clerk_table.specs.declared.record.Record.{Record}
+use Rattle.clerk_table.specs.declared.record.Decision.{Decision}
+use Rattle.clerk_table.specs.declared.record.Decision.the-variants.{Refuse, Take, Store}
 use Rattle.clerk_table.specs.declared.record.Change.the-variants.{Put}
 use Rattle.clerk_table.specs.declared.record.Plan.{Plan}
 use Rattle.clerk_table.specs.declared.inputs.Act.{Act}
+use Rattle.clerk_table.specs.declared.inputs.Input.{Input}
+use Rattle.clerk_table.specs.declared.inputs.Input.the-variants as Input
+use Rattle.clerk_table.specs.declared.inputs.RecordMessage.{RecordMessage}
 use Rattle.clerk_table.specs.declared.inputs.Meant.{Meant}
 use Rattle.clerk_table.specs.declared.inputs.Meant.the-variants as Meant
 use Rattle.clerk_records.specs.Records.{blank, meant, place}
 
 abbrev pub holdsFor : Row → Record → Bool
-holdsFor row r = holdsIn (effectOf row .home) (r .state)
+holdsFor row r = holdsIn (homeOf row) (r .state)
+
+-- ---- ask: 4, 5, then stored at the first place that is not used
+abbrev pub askPlace : Request → Found → Decision
+askPlace q Nothing = Refuse 5 Sends.Nothing
+askPlace q (At i) = Store i q
+
+abbrev pub askFound : List Record → Request → Found → Decision
+askFound rs q (At i) = Refuse 4 Sends.Nothing
+askFound rs q Nothing = askPlace q (place rs)
+
+abbrev pub askDecision : List Record → Names → Request → Decision
+askDecision rs names q = askFound rs q (meant (names .identifier) rs)
 
 -- ---- messages: 3, 6, 7, 8
 -- the record's state has no row for this input: 7; then the carrier isn't allowed for this type and record: 8
-abbrev pub rowPlan : ℕ → Record → Letter → Row → Plan
-rowPlan i r l row =
+abbrev pub rowDecision : ℕ → Record → Letter → RecordMessage → Row → Decision
+rowDecision i r l message row =
     pick (holdsFor row r)
-    (pick (carrierFits (l .body) (r .connection) (l .carrier))
-    (taken i (settled r l) row)
-    (refusedPlan 8 (replyUnfit l)))
-    (refusedPlan 7 (replyUnfit l))
+    (pick (carrierFits (l .body) (r .terms .connection) (l .carrier))
+    (Take i row)
+    (Refuse 8 (replyUnfit message (l .carrier))))
+    (Refuse 7 (replyUnfit message (l .carrier)))
 
-abbrev pub meantBy : ℕ → Record → Letter → Meant → Plan
-meantBy i r l (Meant.Row row) = rowPlan i r l row
-meantBy i r l Meant.NotHere = refusedPlan 3 Sending.Nothing
+abbrev pub recordDecision : ℕ → Record → Letter → Bool → RecordMessage → Decision
+recordDecision i r l busy message = rowDecision i r l message (rowFor message busy (r .terms .keep))
 
-abbrev pub meantPlan : ℕ → Record → Letter → Bool → Plan
-meantPlan i r l busy = meantBy i r l (rowOf (l .body) busy (r .keep))
+abbrev pub messageFound : List Record → Letter → Bool → RecordMessage → Found → Decision
+messageFound rs l busy message Nothing = Refuse 6 (replyUnmatched message)
+messageFound rs l busy message (At i) = recordDecision i (getD rs i blank) l busy message
 
-abbrev pub foundPlan : List Record → Letter → Bool → Found → Plan
-foundPlan rs l busy Nothing = refusedPlan 6 (replyUnmatched l)
-foundPlan rs l busy (At i) = meantPlan i (getD rs i blank) l busy
+abbrev pub messageMeant : List Record → Letter → Bool → Found → Meant → Decision
+messageMeant rs l busy found Meant.NotHere = Refuse 3 Sends.Nothing
+messageMeant rs l busy found (Meant.Record message) = messageFound rs l busy message found
 
-unfoldable pub messagePlan : List Record → Letter → Bool → Plan
-messagePlan rs l busy = pick (forClerk (l .body)) (foundPlan rs l busy (meant (l .identifier) rs)) (refusedPlan 3 Sending.Nothing)
+abbrev pub messageDecision : List Record → Letter → Bool → Decision
+messageDecision rs l busy = messageMeant rs l busy (meant (l .identifier) rs) (messageFor (l .body))
 
 -- ---- acts: 6, 7; timers: 6, 9
-abbrev pub ownFound : List Record → Row → ℕ → Found → Plan
-ownFound rs row refusal Nothing = refusedPlan 6 Sending.Nothing
-ownFound rs row refusal (At i) = pick (holdsFor row (getD rs i blank)) (taken i (getD rs i blank) row) (refusedPlan refusal Sending.Nothing)
+abbrev pub ownFound : List Record → Row → ℕ → Found → Decision
+ownFound rs row refusal Nothing = Refuse 6 Sends.Nothing
+ownFound rs row refusal (At i) = pick (holdsFor row (getD rs i blank)) (Take i row) (Refuse refusal Sends.Nothing)
 
-unfoldable pub ownPlan : List Record → Words → Row → ℕ → Plan
-ownPlan rs identifier row refusal = ownFound rs row refusal (meant identifier rs)
+abbrev pub actDecision : List Record → Words → Act → Decision
+actDecision rs identifier act = ownFound rs (rowOfAct act) 7 (meant identifier rs)
 
-abbrev pub actPlan : List Record → Words → Act → Plan
-actPlan rs identifier act = ownPlan rs identifier (rowOfAct act) 7
+abbrev pub timerDecision : List Record → Words → Timer → Decision
+timerDecision rs identifier timer = ownFound rs (rowOfTimer timer) 9 (meant identifier rs)
 
-abbrev pub timerPlan : List Record → Words → Timer → Plan
-timerPlan rs identifier timer = ownPlan rs identifier (rowOfTimer timer) 9
+-- ---- every input
+unfoldable pub decided : List Record → Input → Decision
+decided rs (Input.Ask names q) = askDecision rs names q
+decided rs (Input.Message l busy) = messageDecision rs l busy
+decided rs (Input.Act identifier act) = actDecision rs identifier act
+decided rs (Input.Timer identifier timer) = timerDecision rs identifier timer
 
--- ---- ask: 4, 5, then stored in Wait-Ack at the first place that is not used; the request is sent, T1 starts (8.1.1.1 to 8.1.1.3, 11.4.1)
-abbrev pub newRecord : Letter → Kind → ℕ → Bool → Record
-newRecord l kind service canKeep =
-    record {
-      identifier = l .identifier;
-      numberA = l .numberA;
-      numberB = l .numberB;
-      service = service;
-      kind = kind;
-      state = WaitAck;
-      keep = Keep.Empty;
-      connection = Connection.Empty;
-      canKeep = canKeep;
-    }
+-- ---- what a decision means
+-- a new record is in Wait-Ack, its choices empty, with the can-keep that is sent
+abbrev pub newRecord : Names → Request → Record
+newRecord names q = record { terms = requestTerms names q Keep.Empty Connection.Empty; state = WaitAck; canKeep = canKeepSent (q .flags) }
 
-abbrev pub storedPlan : ℕ → Record → Letter → Plan
-storedPlan i r l =
-    record {
-      change = Put i r;
-      outcome = record { refusal = 0; sending = Sending.Send l; starts = only T1; stops = noTimers; notice = Silent; clear = false };
-    }
+-- the request is sent, T1 starts (8.1.1.1 to 8.1.1.3, 11.4.1)
+abbrev pub storedPlan : ℕ → Names → Request → Plan
+storedPlan i names q = record { change = Put i (newRecord names q); outcome = doneWith (Sending.Send (requestLetter names q)) (only T1) noTimers }
 
-abbrev pub askPlace : Letter → Kind → ℕ → Bool → Found → Plan
-askPlace l kind service canKeep Nothing = refusedPlan 5 Sending.Nothing
-askPlace l kind service canKeep (At i) = storedPlan i (newRecord l kind service canKeep) l
+unfoldable pub planOf : List Record → Input → Decision → Plan
+planOf rs input (Refuse number reply) = refusedPlan number (answered (namesOf input .identifier) reply)
+planOf rs input (Take i row) = rowTaken i (settledBy input (getD rs i blank)) row
+planOf rs input (Store i q) = storedPlan i (namesOf input) q
 
-abbrev pub askFound : List Record → Letter → Kind → ℕ → Bool → Found → Plan
-askFound rs l kind service canKeep (At i) = refusedPlan 4 Sending.Nothing
-askFound rs l kind service canKeep Nothing = askPlace l kind service canKeep (place rs)
-
-unfoldable pub askPlan : List Record → Letter → Kind → ℕ → Bool → Plan
-askPlan rs l kind service canKeep = askFound rs l kind service canKeep (meant (l .identifier) rs)
+unfoldable pub planFor : List Record → Input → Plan
+planFor rs input = planOf rs input (decided rs input)

@@ -1,181 +1,191 @@
-// What each input plans at the clerk's desk, on words that are lent for reading: the refusals in document 01's order, then the row of the
-// table. An inner room of the clerk's desk: its functions are no public operations.
+// What the clerk's desk decides about an input, on words that are lent for reading: the refusals in document 01's order, then the row of the table. The change and the
+// outcome are made of the decision in one place. An inner room of the clerk's desk: its functions are no public operations.
+use clerk_records::WORDS;
 use clerk_records::places::find_meant;
 use clerk_records::places::find_place;
 use clerk_records::places::load;
-use clerk_table::inputs::Act;
+use clerk_table::inputs::Input;
 use clerk_table::inputs::Meant;
-use clerk_table::inputs::for_clerk;
+use clerk_table::inputs::RecordMessage;
+use clerk_table::inputs::message_for;
+use clerk_table::inputs::names_of;
 use clerk_table::inputs::reply_unfit;
 use clerk_table::inputs::reply_unmatched;
-use clerk_table::inputs::row_of;
+use clerk_table::inputs::row_for;
 use clerk_table::inputs::row_of_act;
 use clerk_table::inputs::row_of_timer;
-use clerk_table::inputs::settled_record;
+use clerk_table::inputs::settle_by;
 use clerk_table::record::Change;
+use clerk_table::record::Decision;
 use clerk_table::record::Plan;
 use clerk_table::record::Record;
 use clerk_table::record::refused_plan;
 use clerk_table::step::take_row;
 use clerk_table::table::Row;
 use clerk_table::table::State;
-use clerk_table::table::Timer;
-use clerk_table::table::effect_of;
 use clerk_table::table::holds_in;
+use clerk_table::table::home_of;
 use desk::Connection;
 use desk::Keep;
 use desk::carriers::carrier_fits;
 use desk::letter::Letter;
-use desk::outcome::Notice;
-use desk::outcome::Outcome;
 use desk::outcome::Sending;
 use desk::outcome::Timers;
+use desk::outcome::done;
 use desk::outcome::no_timers;
+use desk::sends::Sends;
+use desk::sends::answer_with;
 use lists::Found;
-use lists::words::Words;
-use message::Kind;
+use terms::request::Names;
+use terms::request::Request;
+use terms::request::can_keep_sent;
+use terms::request::request_letter;
+use terms::request::request_terms;
 ghost use mathlib.Core.Path.{_≡_};
 ghost use Rattle.clerk_records.specs.Records.{records};
-ghost use Rattle.clerk_plan.specs.Plan.{holdsFor, rowPlan, meantPlan, messagePlan, ownPlan, actPlan, timerPlan, newRecord, storedPlan, askPlan};
+ghost use Rattle.clerk_table.specs.Inputs.{messageFor};
+ghost use Rattle.clerk_plan.specs.Plan.{holdsFor, askFound, rowDecision, recordDecision, messageMeant, ownFound, decided, newRecord, storedPlan, planOf, planFor};
 
 // Whether a row is taken for a record.
 fn holds_for(row: Row, r: Record) -> bool
     ensures { λ q. ⌜ q ≡ holdsFor row r ⌝ }
 {
-    let effect = effect_of(row);
-    let home = effect.home;
     let state = r.state;
-    holds_in(home, state)
+    holds_in(home_of(row), state)
+}
+
+// An ask, by the record with its identifier: 4, 5.
+fn decide_ask(words: &[u64; WORDS], q: Request, found: Found) -> Decision
+    ensures { λ r. ⌜ r ≡ askFound (records (now (words .entry))) q found ⌝ }
+{
+    match found {
+        Found::At(_) => Decision::Refuse(4, Sends::Nothing),
+        Found::Nothing => match find_place(words) {
+            Found::Nothing => Decision::Refuse(5, Sends::Nothing),
+            Found::At(place) => Decision::Store(place, q),
+        },
+    }
 }
 
 // A message's row, for the record of a place: 7, then 8.
-fn plan_row(place: usize, r: Record, l: Letter, row: Row) -> Plan
-    ensures { λ q. ⌜ q ≡ rowPlan place r l row ⌝ }
+fn decide_row(place: usize, r: Record, l: Letter, message: RecordMessage, row: Row) -> Decision
+    ensures { λ q. ⌜ q ≡ rowDecision place r l message row ⌝ }
 {
+    let carrier = l.carrier;
     if holds_for(row, r) {
         let body = l.body;
-        let carrier = l.carrier;
-        let connection = r.connection;
+        let terms = r.terms;
+        let connection = terms.connection;
         if carrier_fits(body, connection, carrier) {
-            return take_row(place, settled_record(r, l), row);
+            return Decision::Take(place, row);
         }
-        return refused_plan(8, reply_unfit(l));
+        return Decision::Refuse(8, reply_unfit(message, carrier));
     }
-    refused_plan(7, reply_unfit(l))
+    Decision::Refuse(7, reply_unfit(message, carrier))
 }
 
-fn plan_meant(place: usize, r: Record, l: Letter, busy: bool) -> Plan
-    ensures { λ q. ⌜ q ≡ meantPlan place r l busy ⌝ }
+// A message about the record of a place.
+fn decide_record(place: usize, r: Record, l: Letter, busy: bool, message: RecordMessage) -> Decision
+    ensures { λ q. ⌜ q ≡ recordDecision place r l busy message ⌝ }
+{
+    let terms = r.terms;
+    let keep = terms.keep;
+    decide_row(place, r, l, message, row_for(message, busy, keep))
+}
+
+// A message, by the record with its identifier: 3, 6, 7, 8.
+fn decide_message(words: &[u64; WORDS], l: Letter, busy: bool, found: Found) -> Decision
+    ensures { λ r. ⌜ r ≡ messageMeant (records (now (words .entry))) l busy found (messageFor (l .body)) ⌝ }
 {
     let body = l.body;
-    let keep = r.keep;
-    match row_of(body, busy, keep) {
-        Meant::Row(row) => plan_row(place, r, l, row),
-        Meant::NotHere => refused_plan(3, Sending::Nothing),
+    match message_for(body) {
+        Meant::NotHere => Decision::Refuse(3, Sends::Nothing),
+        Meant::Record(message) => match found {
+            Found::Nothing => Decision::Refuse(6, reply_unmatched(message)),
+            Found::At(place) => decide_record(place, load(words, place), l, busy, message),
+        },
     }
 }
 
-// A message in range: 3, 6, 7, 8.
-pub fn plan_message(words: &[u64; 192], l: Letter, busy: bool) -> Plan
-    ensures { λ r. ⌜ r ≡ messagePlan (records (now (words .entry))) l busy ⌝ }
+// User A's own row, of an act or a timer, by the record with its identifier: 6, or the number given.
+fn decide_own(words: &[u64; WORDS], row: Row, refusal: u8, found: Found) -> Decision
+    ensures { λ r. ⌜ r ≡ ownFound (records (now (words .entry))) row refusal found ⌝ }
 {
-    let body = l.body;
-    let identifier = l.identifier;
-    if for_clerk(body) {
-        let Found::At(place) = find_meant(words, identifier) else {
-            return refused_plan(6, reply_unmatched(l));
-        };
-        let r = load(words, place);
-        return plan_meant(place, r, l, busy);
-    }
-    refused_plan(3, Sending::Nothing)
-}
-
-// User A's own row, of an act or a timer: taken, or refused with the number given.
-fn plan_own(words: &[u64; 192], identifier: Words, row: Row, refusal: u8) -> Plan
-    ensures { λ r. ⌜ r ≡ ownPlan (records (now (words .entry))) identifier row refusal ⌝ }
-{
-    let Found::At(place) = find_meant(words, identifier) else {
-        return refused_plan(6, Sending::Nothing);
+    let Found::At(place) = found else {
+        return Decision::Refuse(6, Sends::Nothing);
     };
-    let r = load(words, place);
-    if holds_for(row, r) {
-        return take_row(place, r, row);
+    if holds_for(row, load(words, place)) {
+        return Decision::Take(place, row);
     }
-    refused_plan(refusal, Sending::Nothing)
+    Decision::Refuse(refusal, Sends::Nothing)
 }
 
-// An act: 6, 7.
-pub fn plan_act(words: &[u64; 192], identifier: Words, act: Act) -> Plan
-    ensures { λ r. ⌜ r ≡ actPlan (records (now (words .entry))) identifier act ⌝ }
+// What the desk decides. Every input names a request, so its record is looked for once, here.
+fn decide(words: &[u64; WORDS], input: Input) -> Decision
+    ensures { λ r. ⌜ r ≡ decided (records (now (words .entry))) input ⌝ }
 {
-    plan_own(words, identifier, row_of_act(act), 7)
+    let names = names_of(input);
+    let identifier = names.identifier;
+    let found = find_meant(words, identifier);
+    match input {
+        Input::Ask(_, q) => decide_ask(words, q, found),
+        Input::Message(l, busy) => decide_message(words, l, busy, found),
+        Input::Act(_, act) => decide_own(words, row_of_act(act), 7, found),
+        Input::Timer(_, timer) => decide_own(words, row_of_timer(timer), 9, found),
+    }
 }
 
-// A timer reported: 6, 9.
-pub fn plan_timer(words: &[u64; 192], identifier: Words, timer: Timer) -> Plan
-    ensures { λ r. ⌜ r ≡ timerPlan (records (now (words .entry))) identifier timer ⌝ }
+// In Wait-Ack, its choices empty, with the can-keep that is sent.
+fn new_record(names: Names, q: Request) -> Record
+    ensures { λ r. ⌜ r ≡ newRecord names q ⌝ }
 {
-    plan_own(words, identifier, row_of_timer(timer), 9)
-}
-
-fn new_record(l: Letter, kind: Kind, service: u64, canKeep: bool) -> Record
-    ensures { λ r. ⌜ r ≡ newRecord l kind service canKeep ⌝ }
-{
-    let identifier = l.identifier;
-    let numberA = l.numberA;
-    let numberB = l.numberB;
+    let terms = request_terms(names, q, Keep::Empty, Connection::Empty);
     Record {
-        identifier,
-        numberA,
-        numberB,
-        service,
-        kind,
+        terms,
         state: State::WaitAck,
-        keep: Keep::Empty,
-        connection: Connection::Empty,
-        canKeep,
+        canKeep: can_keep_sent(q.flags),
     }
 }
 
 // The request is sent and T1 starts.
-fn plan_stored(place: usize, r: Record, l: Letter) -> Plan
-    ensures { λ q. ⌜ q ≡ storedPlan place r l ⌝ }
+fn plan_stored(place: usize, names: Names, q: Request) -> Plan
+    ensures { λ r. ⌜ r ≡ storedPlan place names q ⌝ }
 {
-    let none = no_timers();
+    let record = new_record(names, q);
+    let letter = request_letter(names, q);
     let started = Timers {
         t1: true,
         t2: false,
         t3: false,
         guard: false,
     };
-    let outcome = Outcome {
-        refusal: 0,
-        sending: Sending::Send(l),
-        starts: started,
-        stops: none,
-        notice: Notice::Silent,
-        clear: false,
-    };
+    let none = no_timers();
+    let outcome = done(Sending::Send(letter), started, none);
     Plan {
-        change: Change::Put(place, r),
+        change: Change::Put(place, record),
         outcome,
     }
 }
 
-// An ask in range: 4, 5.
-pub fn plan_ask(words: &[u64; 192], l: Letter, kind: Kind, service: u64, canKeep: bool) -> Plan
-    ensures { λ r. ⌜ r ≡ askPlan (records (now (words .entry))) l kind service canKeep ⌝ }
+// What a decision about an input means: the one place that makes a change or an outcome.
+fn plan_of(words: &[u64; WORDS], input: Input, decision: Decision) -> Plan
+    ensures { λ r. ⌜ r ≡ planOf (records (now (words .entry))) input decision ⌝ }
 {
-    let identifier = l.identifier;
-    match find_meant(words, identifier) {
-        Found::At(_) => refused_plan(4, Sending::Nothing),
-        Found::Nothing => match find_place(words) {
-            Found::Nothing => refused_plan(5, Sending::Nothing),
-            Found::At(place) => {
-                let r = new_record(l, kind, service, canKeep);
-                plan_stored(place, r, l)
-            }
-        },
+    match decision {
+        Decision::Refuse(refusal, reply) => {
+            let names = names_of(input);
+            let identifier = names.identifier;
+            refused_plan(refusal, answer_with(identifier, reply))
+        }
+        Decision::Take(place, row) => take_row(place, settle_by(input, load(words, place)), row),
+        Decision::Store(place, q) => plan_stored(place, names_of(input), q),
     }
+}
+
+// What the desk plans for an input.
+pub fn plan_for(words: &[u64; WORDS], input: Input) -> Plan
+    ensures { λ r. ⌜ r ≡ planFor (records (now (words .entry))) input ⌝ }
+{
+    let decision = decide(words, input);
+    plan_of(words, input, decision)
 }

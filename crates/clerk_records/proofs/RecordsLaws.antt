@@ -1,27 +1,34 @@
--- The words of a desk and its list of records are one thing: each search, each store and each delete in words is the same in records.
+-- The words of a desk and its list of records are one thing: each search and each change of words is the same of records, by the laws of decoded rows.
 use Prim.Native.Nat.{ℕ, zero, suc, _*_, _≤_, _<_}
 use mathlib.Core.Path.{_≡_, refl, sym, _∙_, ap}
 use mathlib.Core.Bool.{Bool, true, false, not}
-use mathlib.Core.List.{List, [], _∷_, map}
-use lib.ListN.{length, getD, take, drop, set, length-map, List·getD-map}
-use lib.Seq.{getD-take}
+use mathlib.Core.List.{List, map}
+use lib.ListN.{length, getD, take, drop, set}
+use lib.Seq.{getD-take, set-out}
 use lib.Dec.{ltb, leb, eqb}
 use native.Mathlib.Omega.{arith}
-use borrow.Author.Tests.{eqb-true, eqb-false, ltb-true, lt-leb}
+use borrow.Author.Tests.{ne-eqb, lt-ltb, lt-leb, ltb-true, ltb-false}
 use Rattle.lists.specs.Choice.{pick}
-use Rattle.lists.specs.Lists.{both, first, without}
+use Rattle.lists.specs.Lists.{both, without}
 use Rattle.lists.specs.Words.{sameWords}
 use Rattle.lists.specs.declared.words.Words.{Words}
 use Rattle.lists.proofs.Choice.{pick-elim}
-use Rattle.lists.proofs.Lists.{first-map, first-same, map-set, map-without}
-use Rattle.store.specs.Rows.{live, free, hasIdentifier, rows, putRow, dropRow, blankRow}
-use Rattle.store.proofs.RowsLaws.{rows-length, rows-at, rows-put, rows-drop}
-use Rattle.terms.proofs.CodesLaws.{kind-back, keep-back, connection-back, flag-back}
+use Rattle.lists.proofs.Lists.{without-past}
+use Rattle.store.specs.Rows.{stateWord, live, free, hasIdentifier, rows, blankRow, rowsFit, found, removedRow}
+use Rattle.store.proofs.RowsLaws.{fit-from, put-length, drop-length}
+use Rattle.store.proofs.Decoded.{decoded-length, decoded-past, decoded-found, decoded-at, decoded-put, decoded-drop}
+use Rattle.terms.specs.Terms as Terms
+use Rattle.terms.specs.Terms.{termsOf}
+use Rattle.terms.proofs.CodesLaws.{flag-back}
+use Rattle.terms.proofs.TermsLaws.{terms-back, terms-front}
 use Rattle.clerk_table.specs.declared.table.State.{State}
 use Rattle.clerk_table.specs.declared.table.State.the-variants.{Free, WaitAck, Invoked, WaitAnswer, Ringout, Suspended}
 use Rattle.clerk_table.specs.declared.record.Record.{Record}
+use Rattle.clerk_table.specs.declared.record.Change.{Change}
+use Rattle.clerk_table.specs.declared.record.Change.the-variants.{Stay, Put, Remove}
 use Rattle.clerk_records.specs.Codes.{stateOf, stateCode}
-use Rattle.clerk_records.specs.Records.{recordOf, recordWords, blank, records, inUse, used, unused, identified, meant, place}
+use Rattle.clerk_records.specs.Layout.{width, canKeepAt, places, words, lastState}
+use Rattle.clerk_records.specs.Records.{recordOf, recordWords, blank, records, inUse, used, unused, identified, meant, place, applied}
 
 -- ---- codes: what is stored is read back
 state-back : (s : State) → stateOf (stateCode s) ≡ s
@@ -35,46 +42,37 @@ state-back Suspended = refl
 
 pub record-back : (r : Record) → recordOf (recordWords r) ≡ r
 unfolding recordOf
-record-back r = rw (state-back (r .state), kind-back (r .kind), keep-back (r .keep), connection-back (r .connection), flag-back (r .canKeep))
+record-back r = rw (terms-back (r .terms) _, state-back (r .state), flag-back (r .canKeep))
 
--- a state word from 1 to 5 is a record in use
-state-live : (w : ℕ) → both (ltb 0 w) (leb w 5) ≡ inUse (stateOf w)
+-- a state word from 1 to the last is a record in use
+state-live : (w : ℕ) → both (ltb 0 w) (leb w lastState) ≡ inUse (stateOf w)
 unfolding stateOf
-state-live w =
-    let P : State → Type 0 = λ s. both (ltb 0 w) (leb w 5) ≡ inUse s in
-    pick-elim P (eqb w 1) (λ t. rw (eqb-true w 1 t)) (λ t1.
-    pick-elim P (eqb w 2) (λ t. rw (eqb-true w 2 t)) (λ t2.
-    pick-elim P (eqb w 3) (λ t. rw (eqb-true w 3 t)) (λ t3.
-    pick-elim P (eqb w 4) (λ t. rw (eqb-true w 4 t)) (λ t4.
-    pick-elim P (eqb w 5) (λ t. rw (eqb-true w 5 t)) (λ t5.
-    outside w (eqb-false w 1 t1) (eqb-false w 2 t2) (eqb-false w 3 t3) (eqb-false w 4 t4) (eqb-false w 5 t5) (ltb 0 w) refl)))))
-  where
-    outside : (w : ℕ) → (w ≡ 1 → ⊥) → (w ≡ 2 → ⊥) → (w ≡ 3 → ⊥) → (w ≡ 4 → ⊥) → (w ≡ 5 → ⊥) → (b : Bool) → ltb 0 w ≡ b → both b (leb w 5) ≡ false
-    outside w n1 n2 n3 n4 n5 false e = refl
-    outside w n1 n2 n3 n4 n5 true e =
-        let g1 : 1 ≤ w = omega (arith, ltb-true 0 w e) in
-        let g2 : 2 ≤ w = omega (arith, n1) in
-        let g3 : 3 ≤ w = omega (arith, n2) in
-        let g4 : 4 ≤ w = omega (arith, n3) in
-        let g5 : 5 ≤ w = omega (arith, n4) in
-        let g6 : 6 ≤ w = omega (arith, n5) in
-        lt-leb w 5 g6
+state-live zero = refl
+state-live (suc zero) = refl
+state-live (suc (suc zero)) = refl
+state-live (suc (suc (suc zero))) = refl
+state-live (suc (suc (suc (suc zero)))) = refl
+state-live (suc (suc (suc (suc (suc zero))))) = refl
+state-live (suc (suc (suc (suc (suc (suc w)))))) =
+    let n : ℕ = suc (suc (suc (suc (suc (suc w))))) in
+    let past : (k : ℕ) → k ≤ lastState → eqb n k ≡ false = λ k h. ne-eqb n k (λ e. omega (arith, e)) in
+    rw (past 1 (omega arith), past 2 (omega arith), past 3 (omega arith), past 4 (omega arith), past 5 (omega arith), lt-ltb 0 n (omega arith), lt-leb n lastState (omega arith))
 
-pub used-row : (row : List ℕ) → live 5 row ≡ used (recordOf row)
+pub used-row : (row : List ℕ) → live lastState row ≡ used (recordOf row)
 unfolding live recordOf
-used-row row = state-live (getD row 8 0)
+used-row row = state-live (stateWord row)
 
 both-both : (a b c : Bool) → both a (both b c) ≡ both (both a b) c
 both-both true b c = refl
 both-both false b c = refl
 
-identified-row : (identifier : Words) (row : List ℕ) → hasIdentifier 5 identifier row ≡ identified identifier (recordOf row)
-unfolding hasIdentifier recordOf sameWords
+identified-row : (identifier : Words) (row : List ℕ) → hasIdentifier lastState identifier row ≡ identified identifier (recordOf row)
+unfolding hasIdentifier recordOf termsOf sameWords
 identified-row identifier row =
-    both-both (eqb (getD row 0 0) (identifier .low)) (eqb (getD row 1 0) (identifier .high)) (live 5 row)
-    ∙ ap (λ (b : Bool). both (both (eqb (getD row 0 0) (identifier .low)) (eqb (getD row 1 0) (identifier .high))) b) (used-row row)
+    both-both (eqb (getD row 0 0) (identifier .low)) (eqb (getD row 1 0) (identifier .high)) (live lastState row)
+    ∙ ap (both (both (eqb (getD row 0 0) (identifier .low)) (eqb (getD row 1 0) (identifier .high)))) (used-row row)
 
-unused-row : (row : List ℕ) → free 5 row ≡ unused (recordOf row)
+unused-row : (row : List ℕ) → free lastState row ≡ unused (recordOf row)
 unfolding free
 unused-row row = rw (used-row row) (not-used (used (recordOf row)))
   where
@@ -82,59 +80,70 @@ unused-row row = rw (used-row row) (not-used (used (recordOf row)))
     not-used true = refl
     not-used false = refl
 
--- ---- searches
-pub meant-rows : (identifier : Words) (words : List ℕ) → first (hasIdentifier 5 identifier) (rows 12 16 words) ≡ meant identifier (records words)
-unfolding meant records
-meant-rows identifier words =
-    first-same (hasIdentifier 5 identifier) (λ row. identified identifier (recordOf row)) (rows 12 16 words) (identified-row identifier)
-    ∙ sym (first-map recordOf (identified identifier) (rows 12 16 words))
-
-pub place-rows : (words : List ℕ) → first (free 5) (rows 12 16 words) ≡ place (records words)
-unfolding place records
-place-rows words =
-    first-same (free 5) (λ row. unused (recordOf row)) (rows 12 16 words) unused-row
-    ∙ sym (first-map recordOf unused (rows 12 16 words))
-
 -- ---- places
-pub records-length : (words : List ℕ) → length (records words) ≡ 16
+pub records-length : (ws : List ℕ) → length (records ws) ≡ places
 unfolding records
-records-length words = length-map (rows 12 16 words) recordOf ∙ rows-length 12 16 words
+records-length ws = decoded-length width places recordOf ws
 
--- a record reads its own twelve words
-pub record-front : (row : List ℕ) → recordOf (take 12 row) ≡ recordOf row
+-- a desk's words have room for its rows
+rows-room : (ws : List ℕ) → words ≤ length ws → rowsFit width places (length ws) ≡ true
+rows-room ws l = fit-from width places (length ws) (omega arith) (omega arith) (omega arith) l
+
+-- a record reads its own words alone
+record-front : (row : List ℕ) → recordOf (take width row) ≡ recordOf row
 unfolding recordOf
 record-front row =
-    let same : (k : ℕ) → k < 12 → getD (take 12 row) k 0 ≡ getD row k 0 = λ k h. getD-take 12 row k 0 h in
-    rw (same 0 (omega arith), same 1 (omega arith), same 2 (omega arith), same 3 (omega arith), same 4 (omega arith), same 5 (omega arith), same 6 (omega arith), same 7 (omega arith), same 8 (omega arith), same 9 (omega arith), same 10 (omega arith), same 11 (omega arith))
+    rw (terms-front width row (omega arith), getD-take width row Terms.width 0 (omega arith), getD-take width row canKeepAt 0 (omega arith))
 
-pub record-at : (words : List ℕ) (i : ℕ) → i < 16 → getD (records words) i blank ≡ recordOf (drop (i * 12) words)
+pub record-at : (ws : List ℕ) (i : ℕ) → i < places → getD (records ws) i blank ≡ recordOf (drop (i * width) ws)
 unfolding records
-record-at words i h =
-    List·getD-map recordOf (rows 12 16 words) i [] ∙ ap recordOf (rows-at 12 16 words i [] h) ∙ record-front (drop (i * 12) words)
+record-at ws i h = decoded-at width places recordOf record-front ws i h
 
-pub record-past : (words : List ℕ) (i : ℕ) → 16 ≤ i → getD (records words) i blank ≡ blank
-record-past words i h = getD-past (records words) i blank (omega (arith, records-length words))
-  where
-    getD-past : {A : Type 0} (xs : List A) (i : ℕ) (d : A) → length xs ≤ i → getD xs i d ≡ d
-    getD-past [] i d h = refl
-    getD-past (x ∷ xs) zero d h = absurd (omega (arith, h))
-    getD-past (x ∷ xs) (suc i) d h = getD-past xs i d (omega (arith, h))
-
--- ---- changes
-pub records-put : (words : List ℕ) (i : ℕ) (r : Record) → i < 16 → length words ≡ 192 → records (putRow 12 words i (recordWords r)) ≡ set (records words) i r
+pub record-past : (ws : List ℕ) (i : ℕ) → places ≤ i → getD (records ws) i blank ≡ blank
 unfolding records
-records-put words i r h l =
-    ap (map recordOf) (rows-put 12 16 words i (recordWords r) refl h (omega arith))
-    ∙ map-set recordOf (rows 12 16 words) i (recordWords r)
-    ∙ ap (λ (x : Record). set (map recordOf (rows 12 16 words)) i x) (record-back r)
+record-past ws i h = decoded-past width places recordOf ws i h
 
-blank-row : recordOf (blankRow 12) ≡ blank
-unfolding recordOf
+-- ---- searches
+pub meant-found : (identifier : Words) (ws : List ℕ) → words ≤ length ws → found (hasIdentifier lastState identifier) width places ws ≡ meant identifier (records ws)
+unfolding meant records
+meant-found identifier ws l =
+    decoded-found width places recordOf (hasIdentifier lastState identifier) (identified identifier) (identified-row identifier) ws (rows-room ws l)
+
+pub place-found : (ws : List ℕ) → words ≤ length ws → found (free lastState) width places ws ≡ place (records ws)
+unfolding place records
+place-found ws l = decoded-found width places recordOf (free lastState) unused unused-row ws (rows-room ws l)
+
+-- ---- changes: a change that is applied, of records
+pub applied-length : (ws : List ℕ) → length ws ≡ words → (c : Change) → length (applied ws c) ≡ words
+unfolding applied removedRow
+applied-length ws l Stay = l
+applied-length ws l (Put i r) =
+    pick-elim (λ (x : List ℕ). length x ≡ words) (ltb i places)
+    (λ t. put-length width places ws i (recordWords r) refl (ltb-true i places t) (omega arith) ∙ l)
+    (λ f. l)
+applied-length ws l (Remove i) =
+    pick-elim (λ (x : List ℕ). length x ≡ words) (rowsFit width places (length ws))
+    (λ u.
+    pick-elim (λ (x : List ℕ). length x ≡ words) (ltb i places)
+    (λ t. drop-length width places ws i (ltb-true i places t) (omega arith) ∙ l)
+    (λ f. l))
+    (λ u. l)
+
+blank-row : recordOf (blankRow width) ≡ blank
+unfolding recordOf termsOf
 blank-row = refl
 
-pub records-drop : (words : List ℕ) (i : ℕ) → i < 16 → length words ≡ 192 → records (dropRow 12 16 words i) ≡ without blank (records words) i
-unfolding records
-records-drop words i h l =
-    ap (map recordOf) (rows-drop 12 16 words i h (omega arith))
-    ∙ map-without recordOf (blankRow 12) (rows 12 16 words) i
-    ∙ ap (λ (x : Record). without x (map recordOf (rows 12 16 words)) i) blank-row
+pub records-applied-put : (ws : List ℕ) (i : ℕ) (r : Record) → length ws ≡ words → records (applied ws (Put i r)) ≡ set (records ws) i r
+unfolding applied records
+records-applied-put ws i r l =
+    pick-elim (λ (x : List ℕ). map recordOf (rows width places x) ≡ set (map recordOf (rows width places ws)) i r) (ltb i places)
+    (λ t. decoded-put width places recordOf ws (recordWords r) i r (record-back r) refl (ltb-true i places t) (omega arith))
+    (λ f. sym (set-out (map recordOf (rows width places ws)) i r (omega (arith, ltb-false i places f, decoded-length width places recordOf ws))))
+
+pub records-applied-remove : (ws : List ℕ) (i : ℕ) → length ws ≡ words → records (applied ws (Remove i)) ≡ without blank (records ws) i
+unfolding applied removedRow records
+records-applied-remove ws i l =
+    rw (rows-room ws (omega arith))
+    (pick-elim (λ (x : List ℕ). map recordOf (rows width places x) ≡ without blank (map recordOf (rows width places ws)) i) (ltb i places)
+    (λ t. decoded-drop width places recordOf blank-row ws i (ltb-true i places t) (omega arith))
+    (λ f. sym (without-past blank (map recordOf (rows width places ws)) i (omega (arith, ltb-false i places f, decoded-length width places recordOf ws)))))

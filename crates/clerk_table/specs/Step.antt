@@ -15,9 +15,9 @@ use Rattle.clerk_table.specs.declared.table.Next.the-variants.{Gone, To}
 use Rattle.clerk_table.specs.declared.table.Timer.{Timer}
 use Rattle.clerk_table.specs.declared.table.Timer.the-variants.{T1, T2, T3}
 use Rattle.clerk_table.specs.declared.table.Starts.{Starts}
-use Rattle.clerk_table.specs.declared.table.Starts.the-variants as Starting
+use Rattle.clerk_table.specs.declared.table.Starts.the-variants as Starts
 use Rattle.clerk_table.specs.declared.table.Stops.{Stops}
-use Rattle.clerk_table.specs.declared.table.Stops.the-variants as Stopping
+use Rattle.clerk_table.specs.declared.table.Stops.the-variants as Stops
 use Rattle.clerk_table.specs.declared.record.Record.{Record}
 use Rattle.clerk_table.specs.declared.record.Change.{Change}
 use Rattle.clerk_table.specs.declared.record.Change.the-variants.{Put, Remove}
@@ -33,8 +33,8 @@ only T2 = record { t1 = false; t2 = true; t3 = false; guard = false }
 only T3 = record { t1 = false; t2 = false; t3 = true; guard = false }
 
 abbrev pub started : Starts → Timers
-started Starting.Nothing = noTimers
-started (Starting.One timer) = only timer
+started Starts.Nothing = noTimers
+started (Starts.One timer) = only timer
 
 -- T1 runs in Wait-Ack, T3 in Wait-Answer, T2 in the last four
 abbrev pub running : State → Timers
@@ -46,9 +46,9 @@ running Ringout = only T2
 running Suspended = only T2
 
 abbrev pub stopped : Stops → State → Timers
-stopped Stopping.Nothing state = noTimers
-stopped (Stopping.One timer) state = only timer
-stopped Stopping.Running state = running state
+stopped Stops.Nothing state = noTimers
+stopped (Stops.One timer) state = only timer
+stopped Stops.Running state = running state
 
 -- the host is told to clear the call only in Ringout
 abbrev pub inRingout : State → Bool
@@ -62,13 +62,13 @@ inRingout Suspended = false
 abbrev pub cleared : Bool → State → Bool
 cleared clears state = pick clears (inRingout state) false
 
-unfoldable pub taken : ℕ → Record → Row → Plan
-taken place r row =
+unfoldable pub rowTaken : ℕ → Record → Row → Plan
+rowTaken place r row =
     record {
       change = changed (effectOf row .next) place r;
       outcome = record {
         refusal = 0;
-        sending = sent (effectOf row .sends) (r .identifier) (r .connection);
+        sending = sent (effectOf row .sends) (r .terms .identifier) (r .terms .connection);
         starts = started (effectOf row .starts);
         stops = stopped (effectOf row .stops) (r .state);
         notice = effectOf row .notice;

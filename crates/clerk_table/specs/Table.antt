@@ -5,7 +5,7 @@ use Rattle.message.specs.declared.Body.the-variants.{CcSuspend, CcRingout, CcRe
 use Rattle.desk.specs.declared.outcome.Notice.{Notice}
 use Rattle.desk.specs.declared.outcome.Notice.the-variants as Says
 use Rattle.desk.specs.declared.sends.Sends.{Sends}
-use Rattle.desk.specs.declared.sends.Sends.the-variants as Sending
+use Rattle.desk.specs.declared.sends.Sends.the-variants as Sends
 use Rattle.clerk_table.specs.declared.table.State.{State}
 use Rattle.clerk_table.specs.declared.table.Row.{Row}
 use Rattle.clerk_table.specs.declared.table.Home.{Home}
@@ -19,73 +19,102 @@ use Rattle.clerk_table.specs.declared.table.Row.the-variants.{Accepted, 
 use Rattle.clerk_table.specs.declared.table.Home.the-variants.{InWaitAck, InInvoked, InWaitAnswer, InRingout, InSuspended, WhereT2Counts, Always}
 use Rattle.clerk_table.specs.declared.table.Next.the-variants.{Gone, To}
 use Rattle.clerk_table.specs.declared.table.Timer.the-variants.{T1, T2, T3}
-use Rattle.clerk_table.specs.declared.table.Starts.the-variants as Starting
-use Rattle.clerk_table.specs.declared.table.Stops.the-variants as Stopping
+use Rattle.clerk_table.specs.declared.table.Starts.the-variants as Starts
+use Rattle.clerk_table.specs.declared.table.Stops.the-variants as Stops
 
--- what is sent, started and stopped, by short names
-abbrev nothing : Sends
-nothing = Sending.Nothing
+-- ---- the words of the table: what stands in a column, and one word for nothing in all of them
+pub data Column : Type 0 where
+  sending starting stopping noticing clearing : Column
 
-abbrev sends : Body → Sends
-sends body = Sending.One body
+pub data Cell : Column → Type 0 where
+  nothing : {column : Column} → Cell column
+  sends : Body → Cell sending
+  starts : Timer → Cell starting
+  stops : Timer → Cell stopping
+  -- every timer that runs, as a delete does
+  all : Cell stopping
+  says : Notice → Cell noticing
+  -- the host is told to clear the call, where the record was in Ringout
+  clears : Cell clearing
 
-abbrev none : Starts
-none = Starting.Nothing
+abbrev sent : Cell sending → Sends
+sent nothing = Sends.Nothing
+sent (sends body) = Sends.One body
 
-abbrev starts : Timer → Starts
-starts timer = Starting.One timer
+abbrev started : Cell starting → Starts
+started nothing = Starts.Nothing
+started (starts timer) = Starts.One timer
 
-abbrev no : Stops
-no = Stopping.Nothing
+abbrev stopped : Cell stopping → Stops
+stopped nothing = Stops.Nothing
+stopped (stops timer) = Stops.One timer
+stopped all = Stops.Running
 
-abbrev stops : Timer → Stops
-stops timer = Stopping.One timer
+abbrev noticed : Cell noticing → Notice
+noticed nothing = Says.Silent
+noticed (says notice) = notice
 
--- a delete stops every timer that runs
-abbrev all : Stops
-all = Stopping.Running
+abbrev cleared : Cell clearing → Bool
+cleared nothing = false
+cleared clears = true
 
-abbrev row : Home → Next → Sends → Starts → Stops → Notice → Bool → Effect
-row home next sends starts stops notice clears =
-    record { home = home; next = next; sends = sends; starts = starts; stops = stops; notice = notice; clears = clears }
+-- a row of the table: where it is taken, and what it does
+pub record Rule : Type 0 where
+  pub home : Home
+  pub effect : Effect
+
+abbrev row : Home → Next → Cell sending → Cell starting → Cell stopping → Cell noticing → Cell clearing → Rule
+row home next message start stop notice call =
+    record {
+      home = home;
+      effect = record { next = next; sends = sent message; starts = started start; stops = stopped stop; notice = noticed notice; clears = cleared call };
+    }
+
+-- ---- the table
+-- taken in · then · sends · starts · stops · notice · clears the call
+abbrev pub ruleOf : Row → Rule
+-- type 3, result, in Wait-Ack (8.1.1.3; T2 by 8.1.1.1 and 8.1.1.2)
+ruleOf Accepted = row InWaitAck (To Invoked) nothing (starts T2) (stops T1) (says Says.Accepted) nothing
+-- type 4, request error 1 (short), in Wait-Ack (8.1.2.1)
+ruleOf DeniedShort = row InWaitAck Gone nothing nothing all (says Says.DeniedShort) nothing
+-- type 4, request error 2 (long), in Wait-Ack (8.1.2.1)
+ruleOf DeniedLong = row InWaitAck Gone nothing nothing all (says Says.DeniedLong) nothing
+-- type 5, ccExecPossible, in Invoked, User A not busy (8.1.1.4)
+ruleOf Recalls = row InInvoked (To WaitAnswer) nothing (starts T3) nothing (says Says.Recall) nothing
+-- type 5, ccExecPossible, in Invoked, User A busy (8.1.1.5)
+ruleOf Suspends = row InInvoked (To Suspended) (sends CcSuspend) nothing nothing nothing nothing
+-- accept in Wait-Answer (8.1.1.4)
+ruleOf RingsOut = row InWaitAnswer (To Ringout) (sends CcRingout) nothing (stops T3) nothing nothing
+-- User A free in Suspended: resume (8.1.1.5, of RLS too: the connection choice is for life)
+ruleOf Resumes = row InSuspended (To Invoked) (sends CcResume) nothing nothing nothing nothing
+-- User A free in Suspended: go on to recall (8.1.1.5, last paragraph)
+ruleOf GoesOn = row InSuspended (To WaitAnswer) nothing (starts T3) nothing (says Says.Recall) nothing
+-- type 11, call alerts, in Ringout (8.1.1.4)
+ruleOf Completes = row InRingout Gone nothing nothing all (says Says.Completed) nothing
+-- type 12, call failed, in Ringout (8.1.2.4, last paragraph, and 8.1.1.6 a: mend M2)
+ruleOf CallFails = row InRingout Gone (sends CcCancel) nothing all (says Says.Failed) nothing
+-- type 7, ringout error 1 (busy again), in Ringout, keep chosen (8.1.2.4)
+ruleOf BusyAgainKept = row InRingout (To Invoked) nothing nothing nothing (says Says.BusyAgainKept) nothing
+-- type 7, ringout error 1 (busy again), in Ringout, keep not chosen (8.1.2.4)
+ruleOf BusyAgainEnded = row InRingout Gone nothing nothing all (says Says.BusyAgainEnded) nothing
+-- type 7, ringout error 2 (failureToMatch), in Ringout (8.1.2.4)
+ruleOf NotMatched = row InRingout Gone nothing nothing all (says Says.Failed) nothing
+-- type 10, ccCancel, received (8.1.1.6 b: mend M4)
+ruleOf LineCancels = row Always Gone nothing nothing all (says Says.Failed) clears
+-- user's cancel (8.1.1.6 a)
+ruleOf UserCancels = row Always Gone (sends CcCancel) nothing all (says Says.Cancelled) clears
+-- T1 reported (8.1.2.1; the ccCancel is document 01's)
+ruleOf T1RunsOut = row InWaitAck Gone (sends CcCancel) nothing all (says Says.Failed) nothing
+-- T2 reported (8.1.2.2; not in Ringout: mend M1)
+ruleOf T2RunsOut = row WhereT2Counts Gone (sends CcCancel) nothing all (says Says.Failed) nothing
+-- T3 reported (8.1.2.3)
+ruleOf T3RunsOut = row InWaitAnswer Gone (sends CcCancel) nothing all (says Says.Failed) nothing
+
+abbrev pub homeOf : Row → Home
+homeOf row = ruleOf row .home
 
 abbrev pub effectOf : Row → Effect
--- result in Wait-Ack (8.1.1.3; T2 by 8.1.1.1 and 8.1.1.2)
-effectOf Accepted = row InWaitAck (To Invoked) nothing (starts T2) (stops T1) Says.Accepted false
--- request error 1 in Wait-Ack (8.1.2.1)
-effectOf DeniedShort = row InWaitAck Gone nothing none all Says.DeniedShort false
--- request error 2 in Wait-Ack (8.1.2.1)
-effectOf DeniedLong = row InWaitAck Gone nothing none all Says.DeniedLong false
--- ccExecPossible in Invoked, User A not busy (8.1.1.4)
-effectOf Recalls = row InInvoked (To WaitAnswer) nothing (starts T3) no Says.Recall false
--- ccExecPossible in Invoked, User A busy (8.1.1.5)
-effectOf Suspends = row InInvoked (To Suspended) (sends CcSuspend) none no Says.Silent false
--- accept in Wait-Answer (8.1.1.4)
-effectOf RingsOut = row InWaitAnswer (To Ringout) (sends CcRingout) none (stops T3) Says.Silent false
--- User A free in Suspended: resume (8.1.1.5, of RLS too: the connection choice is for life)
-effectOf Resumes = row InSuspended (To Invoked) (sends CcResume) none no Says.Silent false
--- User A free in Suspended: go on to recall (8.1.1.5, last paragraph)
-effectOf GoesOn = row InSuspended (To WaitAnswer) nothing (starts T3) no Says.Recall false
--- call alerts in Ringout (8.1.1.4)
-effectOf Completes = row InRingout Gone nothing none all Says.Completed false
--- call failed in Ringout (8.1.2.4, last paragraph, and 8.1.1.6 a: mend M2)
-effectOf CallFails = row InRingout Gone (sends CcCancel) none all Says.Failed false
--- ringout error 1 in Ringout, keep chosen (8.1.2.4)
-effectOf BusyAgainKept = row InRingout (To Invoked) nothing none no Says.BusyAgainKept false
--- ringout error 1 in Ringout, keep not chosen (8.1.2.4)
-effectOf BusyAgainEnded = row InRingout Gone nothing none all Says.BusyAgainEnded false
--- ringout error 2 in Ringout (8.1.2.4)
-effectOf NotMatched = row InRingout Gone nothing none all Says.Failed false
--- ccCancel received (8.1.1.6 b: mend M4)
-effectOf LineCancels = row Always Gone nothing none all Says.Failed true
--- user's cancel (8.1.1.6 a)
-effectOf UserCancels = row Always Gone (sends CcCancel) none all Says.Cancelled true
--- T1 reported (8.1.2.1; the ccCancel is document 01's)
-effectOf T1RunsOut = row InWaitAck Gone (sends CcCancel) none all Says.Failed false
--- T2 reported (8.1.2.2; not in Ringout: mend M1)
-effectOf T2RunsOut = row WhereT2Counts Gone (sends CcCancel) none all Says.Failed false
--- T3 reported (8.1.2.3)
-effectOf T3RunsOut = row InWaitAnswer Gone (sends CcCancel) none all Says.Failed false
+effectOf row = ruleOf row .effect
 
 -- the states in which a row is taken; a free place has no row
 abbrev pub holdsIn : Home → State → Bool

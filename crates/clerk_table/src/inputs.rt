@@ -1,17 +1,23 @@
-// What an input means: the row of each message, act and timer report, the replies that go with a refusal, and the choices that a result brings.
+// The inputs of the clerk's desk and what each means: whom it names, the row of each message, act and timer report, the replies that go with a refusal,
+// and the choices that a result brings.
 use crate::record::Record;
-use crate::record::with_choices;
+use crate::record::with_terms;
 use crate::table::Row;
 use crate::table::Timer;
 use desk::Connection;
 use desk::Keep;
 use desk::letter::Letter;
-use desk::outcome::Sending;
-use desk::sends::reply_with;
+use desk::sends::Sends;
+use lists::words::Words;
 use message::Body;
 use message::Carrier;
+use terms::request::Names;
+use terms::request::Request;
+use terms::request::letter_names;
+use terms::request::only_identifier;
+use terms::with_choices;
 ghost use mathlib.Core.Path.{_≡_};
-ghost use Rattle.clerk_table.specs.Inputs.{forClerk, rowOf, rowOfAct, rowOfTimer, errorRow, possibleRow, busyAgainRow, ringoutErrorRow, cancelReply, replyUnmatched, replyInSetup, replyUnfit, keepChosen, connectionMeant, settled};
+ghost use Rattle.clerk_table.specs.Inputs.{namesOf, messageFor, rowFor, rowOfAct, rowOfTimer, errorRow, possibleRow, busyAgainRow, ringoutErrorRow, replyUnmatched, replyInSetup, replyUnfit, keepChosen, connectionMeant, acknowledged, settled, settledBy};
 
 // User A's acts. User A free is two of them, as the host chooses.
 pub enum Act {
@@ -21,35 +27,67 @@ pub enum Act {
     Cancel,
 }
 
-// A message's row, or that its type isn't for this end.
+// All that the desk takes in: an ask, whom it names and what it asks for; a message in range, with the host's word on User A; User A's act, and a timer that
+// ran out, each on the request of an identifier.
+pub enum Input {
+    Ask(Names, Request),
+    Message(Letter, bool),
+    Act(Words, Act),
+    Timer(Words, Timer),
+}
+
+// A message about a record: a result with its keep, a request error or a ringout error with its number, ..
+pub enum RecordMessage {
+    Result(u8),
+    Error(u8),
+    ExecPossible,
+    RingoutError(u8),
+    Cancel,
+    Alerts,
+    Failed,
+}
+
+// What a message is: one about a record, or of a type that isn't for this end.
 pub enum Meant {
-    Row(Row),
+    Record(RecordMessage),
     NotHere,
 }
 
+// Whom an input names.
+pub fn names_of(input: Input) -> Names
+    ensures { λ r. ⌜ r ≡ namesOf input ⌝ }
+{
+    match input {
+        Input::Ask(names, _) => names,
+        Input::Message(l, _) => letter_names(l),
+        Input::Act(identifier, _) => only_identifier(identifier),
+        Input::Timer(identifier, _) => only_identifier(identifier),
+    }
+}
+
 // Types 1, 2, 6, 8 and 9 go to the line.
-pub fn for_clerk(body: Body) -> bool
-    ensures { λ r. ⌜ r ≡ forClerk body ⌝ }
+pub fn message_for(body: Body) -> Meant
+    ensures { λ r. ⌜ r ≡ messageFor body ⌝ }
 {
     match body {
         Body::CcbsRequest {
             service: _,
             flags: _,
-        } => false,
+        } => Meant::NotHere,
         Body::CcnrRequest {
             service: _,
             flags: _,
-        } => false,
-        Body::RequestResult { keep: _ } => true,
-        Body::RequestError { error: _ } => true,
-        Body::CcExecPossible => true,
-        Body::CcRingout => false,
-        Body::RingoutError { error: _ } => true,
-        Body::CcSuspend => false,
-        Body::CcResume => false,
-        Body::CcCancel => true,
-        Body::CallAlerts => true,
-        Body::CallFailed => true,
+        } => Meant::NotHere,
+        Body::RequestResult { keep } => Meant::Record(RecordMessage::Result(keep)),
+        Body::RequestError { error } => Meant::Record(RecordMessage::Error(error)),
+        Body::CcExecPossible => Meant::Record(RecordMessage::ExecPossible),
+        Body::CcRingout => Meant::NotHere,
+        Body::RingoutError { error } => Meant::Record(RecordMessage::RingoutError(error)),
+        Body::CcSuspend => Meant::NotHere,
+        Body::CcResume => Meant::NotHere,
+        Body::CcCancel => Meant::Record(RecordMessage::Cancel),
+        Body::CallAlerts => Meant::Record(RecordMessage::Alerts),
+        Body::CallFailed => Meant::Record(RecordMessage::Failed),
     }
 }
 
@@ -90,29 +128,18 @@ fn ringout_error_row(error: u8, keep: Keep) -> Row
     Row::NotMatched
 }
 
-// The row of a message, by the host's word on User A and by the record's keep choice.
-pub fn row_of(body: Body, busy: bool, keep: Keep) -> Meant
-    ensures { λ r. ⌜ r ≡ rowOf body busy keep ⌝ }
+// The row of a message about a record, by the host's word on User A and by the record's keep choice.
+pub fn row_for(message: RecordMessage, busy: bool, keep: Keep) -> Row
+    ensures { λ r. ⌜ r ≡ rowFor message busy keep ⌝ }
 {
-    match body {
-        Body::CcbsRequest {
-            service: _,
-            flags: _,
-        } => Meant::NotHere,
-        Body::CcnrRequest {
-            service: _,
-            flags: _,
-        } => Meant::NotHere,
-        Body::RequestResult { keep: _ } => Meant::Row(Row::Accepted),
-        Body::RequestError { error } => Meant::Row(error_row(error)),
-        Body::CcExecPossible => Meant::Row(possible_row(busy)),
-        Body::CcRingout => Meant::NotHere,
-        Body::RingoutError { error } => Meant::Row(ringout_error_row(error, keep)),
-        Body::CcSuspend => Meant::NotHere,
-        Body::CcResume => Meant::NotHere,
-        Body::CcCancel => Meant::Row(Row::LineCancels),
-        Body::CallAlerts => Meant::Row(Row::Completes),
-        Body::CallFailed => Meant::Row(Row::CallFails),
+    match message {
+        RecordMessage::Result(_) => Row::Accepted,
+        RecordMessage::Error(error) => error_row(error),
+        RecordMessage::ExecPossible => possible_row(busy),
+        RecordMessage::RingoutError(error) => ringout_error_row(error, keep),
+        RecordMessage::Cancel => Row::LineCancels,
+        RecordMessage::Alerts => Row::Completes,
+        RecordMessage::Failed => Row::CallFails,
     }
 }
 
@@ -139,79 +166,46 @@ pub fn row_of_timer(timer: Timer) -> Row
     }
 }
 
-// ccCancel in Release Complete, with the refused message's identifier.
-fn cancel_reply(l: Letter) -> Sending
-    ensures { λ r. ⌜ r ≡ cancelReply l ⌝ }
-{
-    let identifier = l.identifier;
-    reply_with(identifier, Body::CcCancel)
-}
-
 // The reply to a message that no record has the identifier of: to a result and to a ccExecPossible.
-pub fn reply_unmatched(l: Letter) -> Sending
-    ensures { λ r. ⌜ r ≡ replyUnmatched l ⌝ }
+pub fn reply_unmatched(message: RecordMessage) -> Sends
+    ensures { λ r. ⌜ r ≡ replyUnmatched message ⌝ }
 {
-    let body = l.body;
-    match body {
-        Body::CcbsRequest {
-            service: _,
-            flags: _,
-        } => Sending::Nothing,
-        Body::CcnrRequest {
-            service: _,
-            flags: _,
-        } => Sending::Nothing,
-        Body::RequestResult { keep: _ } => cancel_reply(l),
-        Body::RequestError { error: _ } => Sending::Nothing,
-        Body::CcExecPossible => cancel_reply(l),
-        Body::CcRingout => Sending::Nothing,
-        Body::RingoutError { error: _ } => Sending::Nothing,
-        Body::CcSuspend => Sending::Nothing,
-        Body::CcResume => Sending::Nothing,
-        Body::CcCancel => Sending::Nothing,
-        Body::CallAlerts => Sending::Nothing,
-        Body::CallFailed => Sending::Nothing,
+    match message {
+        RecordMessage::Result(_) => Sends::One(Body::CcCancel),
+        RecordMessage::Error(_) => Sends::Nothing,
+        RecordMessage::ExecPossible => Sends::One(Body::CcCancel),
+        RecordMessage::RingoutError(_) => Sends::Nothing,
+        RecordMessage::Cancel => Sends::Nothing,
+        RecordMessage::Alerts => Sends::Nothing,
+        RecordMessage::Failed => Sends::Nothing,
     }
 }
 
-fn reply_in_setup(l: Letter) -> Sending
-    ensures { λ r. ⌜ r ≡ replyInSetup l ⌝ }
+fn reply_in_setup(carrier: Carrier) -> Sends
+    ensures { λ r. ⌜ r ≡ replyInSetup carrier ⌝ }
 {
-    let carrier = l.carrier;
     match carrier {
-        Carrier::Setup => cancel_reply(l),
-        Carrier::Connect => Sending::Nothing,
-        Carrier::Facility => Sending::Nothing,
-        Carrier::ReleaseComplete => Sending::Nothing,
-        Carrier::Alerting => Sending::Nothing,
+        Carrier::Setup => Sends::One(Body::CcCancel),
+        Carrier::Connect => Sends::Nothing,
+        Carrier::Facility => Sends::Nothing,
+        Carrier::ReleaseComplete => Sends::Nothing,
+        Carrier::Alerting => Sends::Nothing,
     }
 }
 
 // The reply to a message that its record has no row for, or that came in a carrier that isn't allowed: to a ccExecPossible in
 // Setup (mend M3).
-pub fn reply_unfit(l: Letter) -> Sending
-    ensures { λ r. ⌜ r ≡ replyUnfit l ⌝ }
+pub fn reply_unfit(message: RecordMessage, carrier: Carrier) -> Sends
+    ensures { λ r. ⌜ r ≡ replyUnfit message carrier ⌝ }
 {
-    let body = l.body;
-    match body {
-        Body::CcbsRequest {
-            service: _,
-            flags: _,
-        } => Sending::Nothing,
-        Body::CcnrRequest {
-            service: _,
-            flags: _,
-        } => Sending::Nothing,
-        Body::RequestResult { keep: _ } => Sending::Nothing,
-        Body::RequestError { error: _ } => Sending::Nothing,
-        Body::CcExecPossible => reply_in_setup(l),
-        Body::CcRingout => Sending::Nothing,
-        Body::RingoutError { error: _ } => Sending::Nothing,
-        Body::CcSuspend => Sending::Nothing,
-        Body::CcResume => Sending::Nothing,
-        Body::CcCancel => Sending::Nothing,
-        Body::CallAlerts => Sending::Nothing,
-        Body::CallFailed => Sending::Nothing,
+    match message {
+        RecordMessage::Result(_) => Sends::Nothing,
+        RecordMessage::Error(_) => Sends::Nothing,
+        RecordMessage::ExecPossible => reply_in_setup(carrier),
+        RecordMessage::RingoutError(_) => Sends::Nothing,
+        RecordMessage::Cancel => Sends::Nothing,
+        RecordMessage::Alerts => Sends::Nothing,
+        RecordMessage::Failed => Sends::Nothing,
     }
 }
 
@@ -241,34 +235,45 @@ fn connection_meant(carrier: Carrier) -> Connection
     }
 }
 
-// The record with the choices that a result brings; any other message brings none.
-pub fn settled_record(r: Record, l: Letter) -> Record
-    ensures { λ q. ⌜ q ≡ settled r l ⌝ }
+fn acknowledge(r: Record, keep: u8, carrier: Carrier) -> Record
+    ensures { λ q. ⌜ q ≡ acknowledged r keep carrier ⌝ }
 {
-    let body = l.body;
-    let carrier = l.carrier;
-    match body {
-        Body::CcbsRequest {
-            service: _,
-            flags: _,
-        } => r,
-        Body::CcnrRequest {
-            service: _,
-            flags: _,
-        } => r,
-        Body::RequestResult { keep } => with_choices(
-            r,
-            keep_chosen(r.canKeep, keep),
-            connection_meant(carrier),
-        ),
-        Body::RequestError { error: _ } => r,
-        Body::CcExecPossible => r,
-        Body::CcRingout => r,
-        Body::RingoutError { error: _ } => r,
-        Body::CcSuspend => r,
-        Body::CcResume => r,
-        Body::CcCancel => r,
-        Body::CallAlerts => r,
-        Body::CallFailed => r,
+    let terms = r.terms;
+    let chosen = keep_chosen(r.canKeep, keep);
+    let connection = connection_meant(carrier);
+    with_terms(r, with_choices(terms, chosen, connection))
+}
+
+// The record with the choices that a result brings; any other message brings none.
+fn settle(meant: Meant, carrier: Carrier, r: Record) -> Record
+    ensures { λ q. ⌜ q ≡ settled meant carrier r ⌝ }
+{
+    match meant {
+        Meant::Record(message) => match message {
+            RecordMessage::Result(keep) => acknowledge(r, keep, carrier),
+            RecordMessage::Error(_) => r,
+            RecordMessage::ExecPossible => r,
+            RecordMessage::RingoutError(_) => r,
+            RecordMessage::Cancel => r,
+            RecordMessage::Alerts => r,
+            RecordMessage::Failed => r,
+        },
+        Meant::NotHere => r,
+    }
+}
+
+// The record as an input's row finds it: with the choices, where the input is a result.
+pub fn settle_by(input: Input, r: Record) -> Record
+    ensures { λ q. ⌜ q ≡ settledBy input r ⌝ }
+{
+    match input {
+        Input::Ask(_, _) => r,
+        Input::Message(l, _) => {
+            let body = l.body;
+            let carrier = l.carrier;
+            settle(message_for(body), carrier, r)
+        }
+        Input::Act(_, _) => r,
+        Input::Timer(_, _) => r,
     }
 }

@@ -1,25 +1,28 @@
-// A clerk's record in flight (document 01, "The two desks"), and what a step plans for it.
+// A clerk's record in flight (document 01, "The two desks"); what a desk decides about an input, and what it plans: the change and the outcome.
+use crate::table::Row;
 use crate::table::State;
-use desk::Connection;
-use desk::Keep;
 use desk::outcome::Outcome;
 use desk::outcome::Sending;
 use desk::outcome::refused;
-use lists::words::Words;
-use message::Kind;
+use desk::sends::Sends;
+use terms::Terms;
+use terms::request::Request;
 ghost use mathlib.Core.Path.{_≡_};
-ghost use Rattle.clerk_table.specs.Record.{withState, withChoices, refusedPlan};
+ghost use Rattle.clerk_table.specs.Record.{withState, withTerms, refusedPlan};
 
+// The terms, the state, and the can-keep that was sent.
 pub struct Record {
-    pub identifier: Words,
-    pub numberA: Words,
-    pub numberB: Words,
-    pub service: u64,
-    pub kind: Kind,
+    pub terms: Terms,
     pub state: State,
-    pub keep: Keep,
-    pub connection: Connection,
     pub canKeep: bool,
+}
+
+// What the desk decides about an input: a refusal's number and the body of the reply that goes with it; a row of the table for the record of a place; or
+// a request stored at a place.
+pub enum Decision {
+    Refuse(u8, Sends),
+    Take(usize, Row),
+    Store(usize, Request),
 }
 
 // What becomes of the desk: nothing, a record put at a place, or the record of a place removed.
@@ -38,43 +41,22 @@ pub struct Plan {
 pub fn with_state(r: Record, state: State) -> Record
     ensures { λ q. ⌜ q ≡ withState r state ⌝ }
 {
-    let identifier = r.identifier;
-    let numberA = r.numberA;
-    let numberB = r.numberB;
-    let kind = r.kind;
-    let keep = r.keep;
-    let connection = r.connection;
+    let terms = r.terms;
     Record {
-        identifier,
-        numberA,
-        numberB,
-        service: r.service,
-        kind,
+        terms,
         state,
-        keep,
-        connection,
         canKeep: r.canKeep,
     }
 }
 
-// The record with its two choices.
-pub fn with_choices(r: Record, keep: Keep, connection: Connection) -> Record
-    ensures { λ q. ⌜ q ≡ withChoices r keep connection ⌝ }
+// The record with other terms.
+pub fn with_terms(r: Record, terms: Terms) -> Record
+    ensures { λ q. ⌜ q ≡ withTerms r terms ⌝ }
 {
-    let identifier = r.identifier;
-    let numberA = r.numberA;
-    let numberB = r.numberB;
-    let kind = r.kind;
     let state = r.state;
     Record {
-        identifier,
-        numberA,
-        numberB,
-        service: r.service,
-        kind,
+        terms,
         state,
-        keep,
-        connection,
         canKeep: r.canKeep,
     }
 }

@@ -15,7 +15,7 @@ use desk::outcome::Timers;
 use desk::outcome::no_timers;
 use desk::sends::sent_for;
 ghost use mathlib.Core.Path.{_≡_};
-ghost use Rattle.clerk_table.specs.Step.{changed, only, started, running, stopped, cleared, taken};
+ghost use Rattle.clerk_table.specs.Step.{changed, only, started, running, stopped, cleared, rowTaken};
 
 fn changed_to(next: Next, place: usize, r: Record) -> Change
     ensures { λ q. ⌜ q ≡ changed next place r ⌝ }
@@ -107,7 +107,7 @@ fn call_cleared(clears: bool, state: State) -> bool
 
 // A row that is taken for the record of a place.
 pub fn take_row(place: usize, r: Record, row: Row) -> Plan
-    ensures { λ q. ⌜ q ≡ taken place r row ⌝ }
+    ensures { λ q. ⌜ q ≡ rowTaken place r row ⌝ }
 {
     let effect = effect_of(row);
     let next = effect.next;
@@ -116,8 +116,9 @@ pub fn take_row(place: usize, r: Record, row: Row) -> Plan
     let stops = effect.stops;
     let notice = effect.notice;
     let state = r.state;
-    let identifier = r.identifier;
-    let connection = r.connection;
+    let terms = r.terms;
+    let identifier = terms.identifier;
+    let connection = terms.connection;
     let change = changed_to(next, place, r);
     let sending = sent_for(sends, identifier, connection);
     let started = timers_started(starts);

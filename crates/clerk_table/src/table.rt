@@ -4,7 +4,7 @@ use desk::outcome::Notice;
 use desk::sends::Sends;
 use message::Body;
 ghost use mathlib.Core.Path.{_≡_};
-ghost use Rattle.clerk_table.specs.Table.{effectOf, holdsIn};
+ghost use Rattle.clerk_table.specs.Table.{homeOf, effectOf, holdsIn};
 
 // Free is a place with no record, CC-Idle. Invoked stands for CC-Invoked-User-A-RET or -RLS, by the connection choice.
 pub enum State {
@@ -17,15 +17,15 @@ pub enum State {
 }
 
 pub enum Row {
-    // result in Wait-Ack (8.1.1.3; T2 by 8.1.1.1 and 8.1.1.2)
+    // type 3, result, in Wait-Ack (8.1.1.3; T2 by 8.1.1.1 and 8.1.1.2)
     Accepted,
-    // request error 1 in Wait-Ack (8.1.2.1)
+    // type 4, request error 1 (short), in Wait-Ack (8.1.2.1)
     DeniedShort,
-    // request error 2 in Wait-Ack (8.1.2.1)
+    // type 4, request error 2 (long), in Wait-Ack (8.1.2.1)
     DeniedLong,
-    // ccExecPossible in Invoked, User A not busy (8.1.1.4)
+    // type 5, ccExecPossible, in Invoked, User A not busy (8.1.1.4)
     Recalls,
-    // ccExecPossible in Invoked, User A busy (8.1.1.5)
+    // type 5, ccExecPossible, in Invoked, User A busy (8.1.1.5)
     Suspends,
     // accept in Wait-Answer (8.1.1.4)
     RingsOut,
@@ -33,17 +33,17 @@ pub enum Row {
     Resumes,
     // User A free in Suspended: go on to recall (8.1.1.5, last paragraph)
     GoesOn,
-    // call alerts in Ringout (8.1.1.4)
+    // type 11, call alerts, in Ringout (8.1.1.4)
     Completes,
-    // call failed in Ringout (8.1.2.4, last paragraph, and 8.1.1.6 a: mend M2)
+    // type 12, call failed, in Ringout (8.1.2.4, last paragraph, and 8.1.1.6 a: mend M2)
     CallFails,
-    // ringout error 1 in Ringout, keep chosen (8.1.2.4)
+    // type 7, ringout error 1 (busy again), in Ringout, keep chosen (8.1.2.4)
     BusyAgainKept,
-    // ringout error 1 in Ringout, keep not chosen (8.1.2.4)
+    // type 7, ringout error 1 (busy again), in Ringout, keep not chosen (8.1.2.4)
     BusyAgainEnded,
-    // ringout error 2 in Ringout (8.1.2.4)
+    // type 7, ringout error 2 (failureToMatch), in Ringout (8.1.2.4)
     NotMatched,
-    // ccCancel received (8.1.1.6 b: mend M4)
+    // type 10, ccCancel, received (8.1.1.6 b: mend M4)
     LineCancels,
     // user's cancel (8.1.1.6 a)
     UserCancels,
@@ -90,8 +90,8 @@ pub enum Stops {
     Running,
 }
 
+// What becomes of the record, what is sent, started and stopped, and what the host is told.
 pub struct Effect {
-    pub home: Home,
     pub next: Next,
     pub sends: Sends,
     pub starts: Starts,
@@ -101,13 +101,38 @@ pub struct Effect {
     pub clears: bool,
 }
 
+// Where a row is taken.
+pub fn home_of(row: Row) -> Home
+    ensures { λ r. ⌜ r ≡ homeOf row ⌝ }
+{
+    match row {
+        Row::Accepted => Home::InWaitAck,
+        Row::DeniedShort => Home::InWaitAck,
+        Row::DeniedLong => Home::InWaitAck,
+        Row::Recalls => Home::InInvoked,
+        Row::Suspends => Home::InInvoked,
+        Row::RingsOut => Home::InWaitAnswer,
+        Row::Resumes => Home::InSuspended,
+        Row::GoesOn => Home::InSuspended,
+        Row::Completes => Home::InRingout,
+        Row::CallFails => Home::InRingout,
+        Row::BusyAgainKept => Home::InRingout,
+        Row::BusyAgainEnded => Home::InRingout,
+        Row::NotMatched => Home::InRingout,
+        Row::LineCancels => Home::Always,
+        Row::UserCancels => Home::Always,
+        Row::T1RunsOut => Home::InWaitAck,
+        Row::T2RunsOut => Home::WhereT2Counts,
+        Row::T3RunsOut => Home::InWaitAnswer,
+    }
+}
+
 // What a row does.
 pub fn effect_of(row: Row) -> Effect
     ensures { λ r. ⌜ r ≡ effectOf row ⌝ }
 {
     match row {
         Row::Accepted => Effect {
-            home: Home::InWaitAck,
             next: Next::To(State::Invoked),
             sends: Sends::Nothing,
             starts: Starts::One(Timer::T2),
@@ -116,7 +141,6 @@ pub fn effect_of(row: Row) -> Effect
             clears: false,
         },
         Row::DeniedShort => Effect {
-            home: Home::InWaitAck,
             next: Next::Gone,
             sends: Sends::Nothing,
             starts: Starts::Nothing,
@@ -125,7 +149,6 @@ pub fn effect_of(row: Row) -> Effect
             clears: false,
         },
         Row::DeniedLong => Effect {
-            home: Home::InWaitAck,
             next: Next::Gone,
             sends: Sends::Nothing,
             starts: Starts::Nothing,
@@ -134,7 +157,6 @@ pub fn effect_of(row: Row) -> Effect
             clears: false,
         },
         Row::Recalls => Effect {
-            home: Home::InInvoked,
             next: Next::To(State::WaitAnswer),
             sends: Sends::Nothing,
             starts: Starts::One(Timer::T3),
@@ -143,7 +165,6 @@ pub fn effect_of(row: Row) -> Effect
             clears: false,
         },
         Row::Suspends => Effect {
-            home: Home::InInvoked,
             next: Next::To(State::Suspended),
             sends: Sends::One(Body::CcSuspend),
             starts: Starts::Nothing,
@@ -152,7 +173,6 @@ pub fn effect_of(row: Row) -> Effect
             clears: false,
         },
         Row::RingsOut => Effect {
-            home: Home::InWaitAnswer,
             next: Next::To(State::Ringout),
             sends: Sends::One(Body::CcRingout),
             starts: Starts::Nothing,
@@ -161,7 +181,6 @@ pub fn effect_of(row: Row) -> Effect
             clears: false,
         },
         Row::Resumes => Effect {
-            home: Home::InSuspended,
             next: Next::To(State::Invoked),
             sends: Sends::One(Body::CcResume),
             starts: Starts::Nothing,
@@ -170,7 +189,6 @@ pub fn effect_of(row: Row) -> Effect
             clears: false,
         },
         Row::GoesOn => Effect {
-            home: Home::InSuspended,
             next: Next::To(State::WaitAnswer),
             sends: Sends::Nothing,
             starts: Starts::One(Timer::T3),
@@ -179,7 +197,6 @@ pub fn effect_of(row: Row) -> Effect
             clears: false,
         },
         Row::Completes => Effect {
-            home: Home::InRingout,
             next: Next::Gone,
             sends: Sends::Nothing,
             starts: Starts::Nothing,
@@ -188,7 +205,6 @@ pub fn effect_of(row: Row) -> Effect
             clears: false,
         },
         Row::CallFails => Effect {
-            home: Home::InRingout,
             next: Next::Gone,
             sends: Sends::One(Body::CcCancel),
             starts: Starts::Nothing,
@@ -197,7 +213,6 @@ pub fn effect_of(row: Row) -> Effect
             clears: false,
         },
         Row::BusyAgainKept => Effect {
-            home: Home::InRingout,
             next: Next::To(State::Invoked),
             sends: Sends::Nothing,
             starts: Starts::Nothing,
@@ -206,7 +221,6 @@ pub fn effect_of(row: Row) -> Effect
             clears: false,
         },
         Row::BusyAgainEnded => Effect {
-            home: Home::InRingout,
             next: Next::Gone,
             sends: Sends::Nothing,
             starts: Starts::Nothing,
@@ -215,7 +229,6 @@ pub fn effect_of(row: Row) -> Effect
             clears: false,
         },
         Row::NotMatched => Effect {
-            home: Home::InRingout,
             next: Next::Gone,
             sends: Sends::Nothing,
             starts: Starts::Nothing,
@@ -224,7 +237,6 @@ pub fn effect_of(row: Row) -> Effect
             clears: false,
         },
         Row::LineCancels => Effect {
-            home: Home::Always,
             next: Next::Gone,
             sends: Sends::Nothing,
             starts: Starts::Nothing,
@@ -233,7 +245,6 @@ pub fn effect_of(row: Row) -> Effect
             clears: true,
         },
         Row::UserCancels => Effect {
-            home: Home::Always,
             next: Next::Gone,
             sends: Sends::One(Body::CcCancel),
             starts: Starts::Nothing,
@@ -242,7 +253,6 @@ pub fn effect_of(row: Row) -> Effect
             clears: true,
         },
         Row::T1RunsOut => Effect {
-            home: Home::InWaitAck,
             next: Next::Gone,
             sends: Sends::One(Body::CcCancel),
             starts: Starts::Nothing,
@@ -251,7 +261,6 @@ pub fn effect_of(row: Row) -> Effect
             clears: false,
         },
         Row::T2RunsOut => Effect {
-            home: Home::WhereT2Counts,
             next: Next::Gone,
             sends: Sends::One(Body::CcCancel),
             starts: Starts::Nothing,
@@ -260,7 +269,6 @@ pub fn effect_of(row: Row) -> Effect
             clears: false,
         },
         Row::T3RunsOut => Effect {
-            home: Home::InWaitAnswer,
             next: Next::Gone,
             sends: Sends::One(Body::CcCancel),
             starts: Starts::Nothing,

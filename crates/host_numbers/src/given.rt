@@ -1,4 +1,6 @@
 // What a host gives as plain numbers, made an entry of the desk: a number that stands for nothing is refused with 2, before anything else is looked at.
+use crate::messages::field_given;
+use crate::messages::service_given;
 use clerk::entry::Asking;
 use clerk::entry::BytesEntry as ClerkBytesEntry;
 use clerk::entry::Entry as ClerkEntry;
@@ -8,8 +10,6 @@ use clerk::entry::bytes_entry as clerk_bytes_entry;
 use clerk::entry::timer_entry;
 use clerk_table::inputs::Act as ClerkAct;
 use clerk_table::table::Timer;
-use crate::messages::field_given;
-use crate::messages::service_given;
 use line::entry::Entry as LineEntry;
 use line::entry::act_entry as line_act_entry;
 use line::entry::report_entry;

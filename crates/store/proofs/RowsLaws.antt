@@ -30,6 +30,16 @@ place-rest width count i h =
     let p : (i + 1 + (count - (i + 1))) * width ≡ count * width = ap (λ (n : ℕ). n * width) e in
     omega arith
 
+-- the rows between i and k, k one of the places: so many words, and the next row ends within the rows
+pub moved-rows :
+    (width count i k n : ℕ) → i + 1 ≤ k → k < count → count * width ≤ n →
+    (i * width + (k - (i + 1)) * width + width + width ≤ n) × ((k - (i + 1)) * width + width ≡ (k + 1 - (i + 1)) * width)
+moved-rows width count i k n low h fits =
+    let a : (i + (k - (i + 1)) + 2) * width ≤ count * width = mul-le-mul-right width (omega arith) in
+    let e : k - (i + 1) + 1 ≡ k + 1 - (i + 1) = omega arith in
+    let p : (k - (i + 1) + 1) * width ≡ (k + 1 - (i + 1)) * width = ap (λ (m : ℕ). m * width) e in
+    (omega arith, omega arith)
+
 -- ---- rows that fit
 pub fit-parts : (width count n : ℕ) → rowsFit width count n ≡ true → (Terms.width < width) × (count * width ≤ n)
 unfolding rowsFit

@@ -1,12 +1,12 @@
 -- A turn of each loop of src/lib.rt, and what its last one leaves: by the laws of lists at the row or the word that the turn looks at. Assumes nothing.
 use Prim.Native.Nat.{ℕ, _+_, _-_, _*_, _≤_, _<_}
 use mathlib.Core.Bool.{Bool, true, false}
-use mathlib.Core.List.{List, [], _++_}
+use mathlib.Core.List.{List, [], _++_, append-assoc}
 use mathlib.Core.Path.{_≡_, sym, ap, _∙_}
 use native.Mathlib.Numerals.{add-one}
 use native.Mathlib.Omega.{arith}
 use lib.ListN.{length, getD, take, drop, set, length-drop, length-replicate, getD-replicate}
-use lib.Seq.{take-all, drop-drop, getD-drop, paste, paste-suc, take-paste, drop-paste}
+use lib.Seq.{take-all, take-add, drop-drop, getD-drop, paste, paste-suc, take-paste, drop-paste}
 use Rattle.lists.specs.Lists.{firstFrom}
 use Rattle.lists.specs.declared.Found.the-variants.{At, Nothing}
 use Rattle.lists.proofs.Lists.{first-hit, first-miss, first-end}
@@ -59,6 +59,22 @@ module _ (ws : List ℕ) (at width : ℕ) where
       rw (b, add-one)
       (ap (set (paste ws at (blankRow width) j) (at + j)) (sym (getD-replicate width j 0 0 h))
       ∙ paste-suc ws at (blankRow width) j 0 k (omega (arith, length-replicate {A = ℕ} width 0)))
+
+-- so many words moved, and then the next ones: all are moved
+pub move-turn :
+    (ws : List ℕ) (at width j n : ℕ) (before : List ℕ) → at + width + j ≤ length ws → before ≡ paste ws at (drop (at + width) ws) j →
+    paste before (at + j) (drop (at + j + width) before) n ≡ paste ws at (drop (at + width) ws) (j + n)
+move-turn ws at width j n before h b =
+    let from = drop (at + width) ws in
+    let k : j ≤ length from = simp length-drop (omega arith) in
+    let e : at + j + width ≡ at + width + j = omega arith in
+    let f : take (at + j) before ≡ take at ws ++ take j from = rw b (take-paste ws at from j (omega arith) k) in
+    let d : drop (at + j) before ≡ drop (at + j) ws = rw b (drop-paste ws at from j (omega arith) k) in
+    let behind : (m : ℕ) → drop (at + j + m) before ≡ drop (at + j + m) ws =
+    λ m. sym (drop-drop m (at + j) before) ∙ ap (drop m) d ∙ drop-drop m (at + j) ws in
+    let next : drop (at + j + width) before ≡ drop j from = behind width ∙ rw (drop-drop, e) in
+    let sum : at + j + n ≡ at + (j + n) = omega arith in
+    rw (f, next, behind n, take-add, sum) (simp append-assoc)
 
 -- the later rows moved, then a blank row behind them
 pub remove-end :

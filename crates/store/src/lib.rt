@@ -3,7 +3,7 @@
 use lists::Found;
 use lists::words::Words;
 ghost use mathlib.Core.Path.{_≡_};
-ghost use Prim.Native.Nat.{_+_, _*_, _≤_, _<_};
+ghost use Prim.Native.Nat.{_+_, _-_, _*_, _≤_, _<_};
 ghost use lib.ListN.{length, drop};
 ghost use lib.Seq.{paste};
 ghost use Rattle.lists.specs.Lists.{first};
@@ -114,15 +114,29 @@ pub fn find_free(ws: &[u64], width: usize, count: usize, top: u64) -> Found
     Found::Nothing
 }
 
-// The `later` words behind the row that starts at word `at`, moved to where it starts.
-fn shift(ws: &mut [u64], at: usize, width: usize, later: usize)
-    requires { ⌜ at + width + later ≤ length (now ws) ⌝ }
-    ensures { λ r. ⌜ now (ws .exit) ≡ paste (now (ws .entry)) at (drop (at + width) (now (ws .entry))) later ⌝ }
+// The row behind the one that starts at word `at`, moved to where that one starts. Where the width is a constant, LLVM makes wide moves of it.
+fn move_row(ws: &mut [u64], at: usize, width: usize)
+    requires { ⌜ at + width + width ≤ length (now ws) ⌝ }
+    ensures { λ r. ⌜ now (ws .exit) ≡ paste (now (ws .entry)) at (drop (at + width) (now (ws .entry))) width ⌝ }
 {
     let mut j = 0;
-    while j < later {
+    while j < width {
         ws[at + j] = ws[at + width + j];
         j += 1;
+    }
+}
+
+// The rows behind place i, each moved one place to the left.
+fn move_rows(ws: &mut [u64], width: usize, count: usize, i: usize)
+    requires { ⌜ (i < count) × (count * width ≤ length (now ws)) ⌝ }
+    ensures { λ r. ⌜ now (ws .exit) ≡ paste (now (ws .entry)) (i * width) (drop (i * width + width) (now (ws .entry))) ((count - (i + 1)) * width) ⌝ }
+{
+    let mut k = i + 1;
+    let mut at = i * width;
+    while k < count {
+        move_row(ws, at, width);
+        at += width;
+        k += 1;
     }
 }
 
@@ -143,10 +157,9 @@ fn remove_in(ws: &mut [u64], width: usize, count: usize, i: usize)
     requires { ⌜ (i < count) × (count * width ≤ length (now ws)) ⌝ }
     ensures { λ r. ⌜ now (ws .exit) ≡ dropRow width count (now (ws .entry)) i ⌝ }
 {
-    let at = i * width;
-    let later = (count - (i + 1)) * width;
-    shift(ws, at, width, later);
-    blank(ws, at + later, width);
+    move_rows(ws, width, count, i);
+    let last = (count - 1) * width;
+    blank(ws, last, width);
 }
 
 // The row at place i taken out; where the rows don't fit, or i is no place, nothing changes.

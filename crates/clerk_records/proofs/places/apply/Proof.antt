@@ -34,11 +34,7 @@ returns-3 c = rw (c .before .before .change .given .1, le-ltb _ _ (c .if1 .left)
 
 returns-4 : tie.Need-returns-4
 unfolding applied
-returns-4 c = rw (c .before .before .before .before .change2 .given .1, lt-ltb _ _ (c .before .before .if2 .taken)) (c .remove .ensures)
-
-returns-5 : tie.Need-returns-5
-unfolding applied
-returns-5 c = rw (c .before .before .change2 .given .1, le-ltb _ _ (c .if2 .left))
+returns-4 c = rw (c .before .before .before .change2 .given .1) (c .remove .ensures)
 
 pub apply-spec : {M : Type 1} → statement M
 apply-spec =
@@ -52,5 +48,4 @@ apply-spec =
     returns
     returns-2
     returns-3
-    returns-4
-    returns-5)
+    returns-4)

@@ -2,6 +2,7 @@
 use Prim.Native.Nat.{_*_}
 use denote.Ref.{now}
 use Rattle.lists.proofs.Parts.{tail-of}
+use Rattle.clerk_records.specs.Layout.{width}
 use Rattle.clerk_records.proofs.RecordsLaws.{record-at}
 use borrow.Author.Needs.{needs}
 use Rattle.clerk_records.proofs.places.load_in.Statement.{statement}
@@ -28,7 +29,7 @@ record-of-requires c κs = search needs
 returns : tie.Need-returns
 returns c =
     let a = c .before .before .before .args in
-    rw (record-at (now (a .words)) (a .i) (c .before .before .before .pre .0), c .record-of .ensures, tail-of (a .i * 12) (now (a .words)))
+    rw (record-at (now (a .words)) (a .i) (c .before .before .before .pre .0), c .record-of .ensures, tail-of (a .i * width) (now (a .words)))
 
 pub load-in-spec : {M : Type 1} → statement M
 load-in-spec =

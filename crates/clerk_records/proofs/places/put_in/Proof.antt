@@ -6,6 +6,7 @@ use lib.ListN.{take}
 use denote.Ref.{now}
 use Rattle.lists.proofs.Parts.{tail-of, mid-tail}
 use Rattle.store.specs.Rows.{putRow}
+use Rattle.clerk_records.specs.Layout.{width}
 use borrow.Author.Needs.{needs}
 use Rattle.clerk_records.proofs.places.put_in.Statement.{statement}
 use Rattle.clerk_records.proofs.places.put_in.Tie as tie
@@ -35,7 +36,7 @@ returns : tie.Need-returns
 unfolding putRow
 returns c =
     let words = now (c .before .before .before .before .before .args .words) in
-    let at = c .before .before .before .before .before .args .i * 12 in
+    let at = c .before .before .before .before .before .args .i * width in
     mid-tail at words (c .before .before .put-words .last .0) ∙ ap (λ (t : List ℕ). take at words ++ t) (rw (tail-of at words) at (c .before .before .put-words .ensures))
 
 pub put-in-spec : {M : Type 1} → statement M

@@ -6,9 +6,6 @@ use Rattle.clerk_table.proofs.inputs.reply_in_setup.Tie as tie
 enum-told : tie.Need-enum-told
 enum-told c = search needs
 
-cancel-reply-requires : tie.Need-cancel-reply-requires
-cancel-reply-requires c κs = search needs
-
 enum-told-2 : tie.Need-enum-told-2
 enum-told-2 c = search needs
 
@@ -22,7 +19,7 @@ enum-told-5 : tie.Need-enum-told-5
 enum-told-5 c = search needs
 
 returns : tie.Need-returns
-returns c = rw (c .before .enum-told .given .1, c .cancel-reply .ensures)
+returns c = rw (c .enum-told .given .1)
 
 returns-2 : tie.Need-returns-2
 returns-2 c = search needs
@@ -41,7 +38,6 @@ reply-in-setup-spec =
     tie.close
     (tie.spec
     enum-told
-    cancel-reply-requires
     enum-told-2
     enum-told-3
     enum-told-4

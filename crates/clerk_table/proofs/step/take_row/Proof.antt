@@ -1,5 +1,5 @@
 -- Each part of the plan is what the effect of the row means.
-use Rattle.clerk_table.specs.Step.{taken}
+use Rattle.clerk_table.specs.Step.{rowTaken}
 use borrow.Author.Needs.{needs}
 use Rattle.clerk_table.proofs.step.take_row.Statement.{statement}
 use Rattle.clerk_table.proofs.step.take_row.Tie as tie
@@ -23,8 +23,8 @@ call-cleared-requires : tie.Need-call-cleared-requires
 call-cleared-requires c κs = search needs
 
 returns : tie.Need-returns
-unfolding taken
-returns c = rw (c .before .before .before .before .changed-to .ensures, c .before .before .before .sent-for .ensures, c .before .before .timers-started .ensures, c .before .timers-stopped .ensures, c .call-cleared .ensures, c .before .before .before .before .before .before .effect-of .ensures)
+unfolding rowTaken
+returns c = rw (c .before .before .before .before .changed-to .ensures, c .before .before .before .sent-for .ensures, c .before .before .timers-started .ensures, c .before .timers-stopped .ensures, c .call-cleared .ensures, c .before .before .before .before .before .before .before .effect-of .ensures)
 
 pub take-row-spec : {M : Type 1} → statement M
 take-row-spec =

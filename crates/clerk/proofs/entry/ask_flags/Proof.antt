@@ -1,0 +1,22 @@
+-- By can-keep.
+use borrow.Author.Needs.{needs}
+use Rattle.clerk.proofs.entry.ask_flags.Statement.{statement}
+use Rattle.clerk.proofs.entry.ask_flags.Tie as tie
+
+mul-result : tie.Need-mul-result
+mul-result c = search needs
+
+add-result : tie.Need-add-result
+add-result c = search needs
+
+returns : tie.Need-returns
+returns c = rw (c .if1 .taken)
+
+mul-result-2 : tie.Need-mul-result-2
+mul-result-2 c = search needs
+
+returns-2 : tie.Need-returns-2
+returns-2 c = rw (c .if1 .left)
+
+pub ask-flags-spec : {M : Type 1} → statement M
+ask-flags-spec = tie.close (tie.spec mul-result add-result returns mul-result-2 returns-2)

@@ -1,0 +1,71 @@
+-- What comes in at the clerk's desk: bytes and raw arrays become an input, or are refused with 1 or 2 before the desk is asked.
+use Prim.Native.Nat.{ℕ, _+_, _*_}
+use mathlib.Core.Bool.{Bool}
+use mathlib.Core.List.{List}
+use lib.Dec.{ltb}
+use Rattle.lists.specs.Choice.{pick}
+use Rattle.lists.specs.Words.{wordsOf}
+use Rattle.message.specs.Reading.{Read, took, refused}
+use Rattle.message.specs.Format.{requestBody, inRange}
+use Rattle.message.specs.Wire.{messageAt}
+use Rattle.message.specs.declared.Carrier.the-variants.{Setup}
+use Rattle.message.specs.declared.Message.{Message}
+use Rattle.desk.specs.Letter.{letterOf}
+use Rattle.terms.specs.Request.{letterNames}
+use Rattle.terms.specs.declared.request.Names.{Names}
+use Rattle.terms.specs.declared.request.Request.{Request}
+use Rattle.clerk_table.specs.declared.table.Timer.{Timer}
+use Rattle.clerk_table.specs.declared.inputs.Act.{Act}
+use Rattle.clerk_table.specs.declared.inputs.Input.the-variants as Input
+use Rattle.clerk.specs.declared.entry.Asking.{Asking}
+use Rattle.clerk.specs.declared.entry.Entry.{Entry}
+use Rattle.clerk.specs.declared.entry.Entry.the-variants.{Refused, Given}
+use Rattle.clerk.specs.declared.entry.BytesEntry.{BytesEntry}
+
+-- ---- ask: 2 (digits, service, preference)
+-- can-keep (0 or 1) plus 2 × preference
+abbrev pub askFlags : Bool → ℕ → ℕ
+askFlags canKeep preference = pick canKeep (1 + 2 * preference) (2 * preference)
+
+abbrev pub askRequest : Asking → Request
+askRequest a = record { kind = a .kind; service = a .service; flags = askFlags (a .canKeep) (a .preference) }
+
+-- type 1 or 2 in Setup
+abbrev pub requestMessage : Asking → Request → Message
+requestMessage a q =
+    record {
+      carrier = Setup;
+      identifier = a .identifier;
+      numberA = a .numberA;
+      numberB = a .numberB;
+      body = requestBody (q .kind) (q .service) (q .flags);
+    }
+
+abbrev pub askMessage : Asking → Message
+askMessage a = requestMessage a (askRequest a)
+
+-- whom it names: as its message does
+abbrev pub askNames : Asking → Names
+askNames a = letterNames (letterOf (askMessage a))
+
+unfoldable pub askEntry : Asking → Entry
+askEntry a = pick (ltb (a .preference) 3) (pick (inRange (askMessage a)) (Given (Input.Ask (askNames a) (askRequest a))) (Refused 2)) (Refused 2)
+
+-- ---- a message received, with the host's word on User A: 2
+unfoldable pub messageEntry : Message → Bool → Entry
+messageEntry m busy = pick (inRange m) (Given (Input.Message (letterOf m) busy)) (Refused 2)
+
+-- ---- acts and timers
+unfoldable pub actEntry : List ℕ → Act → Entry
+actEntry identifier act = Given (Input.Act (wordsOf identifier) act)
+
+unfoldable pub timerEntry : List ℕ → Timer → Entry
+timerEntry identifier timer = Given (Input.Timer (wordsOf identifier) timer)
+
+-- ---- raw bytes: the reader's 1 and 2
+abbrev pub readEntry : Bool → Read Message → BytesEntry
+readEntry busy (took m next) = record { entry = messageEntry m busy; next = next }
+readEntry busy (refused number) = record { entry = Refused number; next = 0 }
+
+unfoldable pub bytesEntry : List ℕ → Bool → BytesEntry
+bytesEntry bytes busy = readEntry busy (messageAt bytes)
