@@ -1,4 +1,4 @@
--- What is decided is good for the desk: a row is taken for a record that is found, and so is used; a request is stored at the first free place, under a new identifier, if its line has fewer than 5. And a good decision's plan has a fair change: no row changes the terms or leads to Free, and only Await is suspended.
+-- What is decided is good for the desk: a row is taken for the record that is named, or that fits a Look; a request is stored at the first free place, under a new identifier, if its line has fewer than 5. And a good decision's plan is about one request, or a report: no row changes the terms or leads to Free, and only Await is suspended.
 use Prim.Native.Nat.{ℕ, _<_}
 use mathlib.Core.Path.{_≡_, refl, sym, _∙_}
 use mathlib.Core.Bool.{Bool, true, false}
@@ -22,6 +22,7 @@ use Rattle.desk.specs.declared.sends.Sends.{Sends}
 use Rattle.terms.specs.Request.{letterNames}
 use Rattle.terms.specs.declared.request.Names.{Names}
 use Rattle.terms.specs.declared.request.Request.{Request}
+use Rattle.places.specs.Places as P
 use Rattle.places.proofs.Staying.{used-inside}
 use Rattle.places.proofs.Holding.{meant-its}
 use Rattle.line_table.specs.Line.{allows, canTake}
@@ -37,7 +38,8 @@ use Rattle.line_table.specs.declared.line.Line.{Line}
 use Rattle.line_table.specs.declared.record.Record.{Record}
 use Rattle.line_table.specs.declared.record.Decision.{Decision}
 use Rattle.line_table.specs.declared.record.Decision.the-variants.{Refuse, Deny, Take, Store, Report}
-use Rattle.line_table.specs.declared.record.Change.the-variants.{Put}
+use Rattle.line_table.specs.declared.record.Change.{Change}
+use Rattle.line_table.specs.declared.record.Change.the-variants.{Put, Remove}
 use Rattle.line_table.specs.declared.inputs.Input.{Input}
 use Rattle.line_table.specs.declared.inputs.Input.the-variants as Input
 use Rattle.line_table.specs.declared.inputs.RecordMessage.{RecordMessage}
@@ -46,62 +48,83 @@ use Rattle.line_table.specs.declared.inputs.Meant.the-variants as Meant
 use Rattle.line_table.specs.declared.search.Sought.the-variants.{Blocking, Fitting, Duplicate}
 use Rattle.line_records.specs.Records.{blank, records, meant, place}
 use Rattle.line_records.specs.Lines.{noLine, lines, lineAt}
+use Rattle.line_records.specs.Change.{recordsAfter, linesAfter}
 use Rattle.line_plan.specs.Decide.{lineMost, holdsFor, takesCall, rowDecision, recordFound, recordDecision, storeFound, countedDecision, duplicateFound, admittedDecision, lineFound, requestDecision, meantDecision, messageDecision, ownFound, ownDecision, reportFound, reportDecision, offerFound, offerAt, offerDecision, lookFound, lookDecision}
 use Rattle.line_plan.specs.Plan.{newRecord, planOf}
 use Rattle.line_sound.specs.Sound.{lineView, Whole, Sound}
 use Rattle.line_sound.proofs.Starting.{blank-unused}
-use Rattle.line_sound.proofs.Changes as C
-use Rattle.line_sound.proofs.Changes.{FairChange, stays, turns, removes}
+use Rattle.line_sound.proofs.Changes.{Moves, Goes, named, offered, reported}
 
 -- ---- a decision that is good for a desk
-pub data Good (ws : List ℕ) (input : Input) : Decision → Type 0 where
-  refuses : {number : ℕ} {reply : Sends} → Good ws input (Refuse number reply)
-  denies : {error : ℕ} → Good ws input (Deny error)
-  takes : (i : ℕ) (row : Row) → used (getD (records ws) i blank) ≡ true → Good ws input (Take i row)
+pub data Good (ws : List ℕ) : Input → Decision → Type 0 where
+  refuses : {input : Input} {number : ℕ} {reply : Sends} → Good ws input (Refuse number reply)
+  denies : {input : Input} {error : ℕ} → Good ws input (Deny error)
+  takes :
+      {input : Input} (i : ℕ) (row : Row) → used (getD (records ws) i blank) ≡ true → getD (records ws) i blank .terms .identifier ≡ namesOf input .identifier →
+      Good ws input (Take i row)
+  offers : {number : Words} (i : ℕ) → used (getD (records ws) i blank) ≡ true → Good ws (Input.Look number) (Take i Offers)
   stores :
-      (i : ℕ) (q : Request) (busy : Bool) → place (records ws) ≡ At i → meant (namesOf input .identifier) (records ws) ≡ Nothing →
+      {input : Input} (i : ℕ) (q : Request) (busy : Bool) → place (records ws) ≡ At i → meant (namesOf input .identifier) (records ws) ≡ Nothing →
       count (ofLine (namesOf input .numberB)) (records ws) < lineMost → Whole (lines ws) (newRecord ws (namesOf input) q busy) →
       Good ws input (Store i q busy)
-  reports : (k : ℕ) (busy : Bool) → Good ws input (Report k busy)
+  reports : {number : Words} {busy : Bool} (k : ℕ) → Good ws (Input.Report number busy) (Report k busy)
 
 -- ---- its plan
 module _ (ws : List ℕ) (sound : Sound ws) where
-  module _ (i : ℕ) (u : used (getD (records ws) i blank) ≡ true) where
+  -- a change about the request of an identifier, which leaves the lines
+  record Turns (identifier : Words) (c : Change) : Type 0 where
+    lines-same : linesAfter (lines ws) c ≡ lines ws
+    moves : Moves (records ws) (lines ws) identifier (recordsAfter (records ws) c)
+
+  module _ (i : ℕ) (identifier : Words) (u : used (getD (records ws) i blank) ≡ true) (own : getD (records ws) i blank .terms .identifier ≡ identifier) where
     abbrev its : Record
     its = getD (records ws) i blank
 
-    fair-moved :
-        (s : State) (active suspended : Bool) → inUse s ≡ true → (suspended ≡ true → s ≡ Await) → FairChange ws (Put i (moved its s active suspended))
-    fair-moved s active suspended is suspension =
+    turn : (s : State) (active suspended : Bool) → inUse s ≡ true → (suspended ≡ true → s ≡ Await) → Turns identifier (Put i (moved its s active suspended))
+    turn s active suspended is suspension =
         let whole = sound .each i u in
-        turns i (moved its s active suspended) u is refl (record { agreed = whole .agreed; line = whole .line; suspension = suspension })
+        record {
+          lines-same = refl;
+          moves =
+              P.turns i (moved its s active suspended) u own is own
+              (record { terms = refl; whole = record { agreed = whole .agreed; line = whole .line; suspension = suspension } })
+              refl;
+        }
 
-    fair-row : (row : Row) → FairChange ws (rowTaken i its row .change)
+    remove : Turns identifier (Remove i)
+    remove = record { lines-same = refl; moves = P.removes i u own refl }
+
+    turn-row : (row : Row) → Turns identifier (rowTaken i its row .change)
     unfolding rowTaken
-    fair-row Offers = fair-moved Await (its .active) (its .suspended) refl (λ e. refl)
-    fair-row Suspends = fair-moved Await (its .active) true refl (λ e. refl)
-    fair-row Resumes = fair-moved Invoked (its .active) false refl (λ e. absurd (no-true e))
-    fair-row RingsOut = fair-moved Alert (its .active) false refl (λ e. absurd (no-true e))
-    fair-row BusyAgainKept = fair-moved Invoked true false refl (λ e. absurd (no-true e))
-    fair-row BusyAgainEnded = removes i
-    fair-row Alerts = removes i
-    fair-row CallFails = removes i
-    fair-row ClerkCancels = removes i
-    fair-row LineCancels = removes i
-    fair-row GuardRunsOut = removes i
+    turn-row Offers = turn Await (its .active) (its .suspended) refl (λ e. refl)
+    turn-row Suspends = turn Await (its .active) true refl (λ e. refl)
+    turn-row Resumes = turn Invoked (its .active) false refl (λ e. absurd (no-true e))
+    turn-row RingsOut = turn Alert (its .active) false refl (λ e. absurd (no-true e))
+    turn-row BusyAgainKept = turn Invoked true false refl (λ e. absurd (no-true e))
+    turn-row BusyAgainEnded = remove
+    turn-row Alerts = remove
+    turn-row CallFails = remove
+    turn-row ClerkCancels = remove
+    turn-row LineCancels = remove
+    turn-row GuardRunsOut = remove
 
-  pub fair-plan : (input : Input) {decision : Decision} → Good ws input decision → FairChange ws (planOf ws input decision .change)
-  unfolding planOf
-  fair-plan input refuses = stays
-  fair-plan input denies = stays
-  fair-plan input (takes i row u) = fair-row i u row
-  fair-plan input (stores i q busy free new few whole) = C.stores i (newRecord ws (namesOf input) q busy) free new refl few whole
-  fair-plan input (reports k busy) = C.reports k (namesOf input .numberB) busy
+  pub goes-plan : {input : Input} {decision : Decision} → Good ws input decision → Goes ws input (planOf ws input decision .change)
+  unfolding planOf place meant
+  goes-plan refuses = named refl (P.stays refl)
+  goes-plan denies = named refl (P.stays refl)
+  goes-plan {input} (takes i row u own) = let t = turn-row i (namesOf input .identifier) u own row in named (t .lines-same) (t .moves)
+  goes-plan (offers i u) =
+      let identifier : Words = getD (records ws) i blank .terms .identifier in
+      let t = turn-row i identifier u refl Offers in
+      offered identifier (t .lines-same) (t .moves)
+  goes-plan {input} (stores i q busy free new few whole) =
+      named refl (P.stores i (newRecord ws (namesOf input) q busy) free new refl refl (record { few = few; whole = whole }) refl)
+  goes-plan {input = Input.Report number busy} (reports k) = reported k number busy
 
--- ---- what is found is used
-meant-used : (rs : List Record) (identifier : Words) (i : ℕ) → meant identifier rs ≡ At i → used (getD rs i blank) ≡ true
+-- ---- what is found is used, and is the one that was meant
+meant-own : (rs : List Record) (identifier : Words) (i : ℕ) → meant identifier rs ≡ At i → (used (getD rs i blank) ≡ true) × (getD rs i blank .terms .identifier ≡ identifier)
 unfolding meant
-meant-used rs identifier i e = meant-its lineView rs identifier i e .0
+meant-own rs identifier i e = meant-its lineView rs identifier i e
 
 fitting-used : (number : Words) (r : Record) → fits number r ≡ true → used r ≡ true
 fitting-used number r e = by (r .state) (both-parts (marks number r) (fitsKind (r .terms .kind) (r .active)) e .0)
@@ -112,70 +135,55 @@ fitting-used number r e = by (r .state) (both-parts (marks number r) (fitsKind (
     by Await m = refl
     by Alert m = refl
 
+-- ---- acts and the guard
 module _ (ws : List ℕ) (input : Input) where
-  -- ---- messages about a record
-  good-row : (i : ℕ) (l : Letter) (message : RecordMessage) (row : Row) → used (getD (records ws) i blank) ≡ true → Good ws input (rowDecision i (getD (records ws) i blank) l message row)
-  good-row i l message row u =
-      let r : Record = getD (records ws) i blank in
-      pick-elim (Good ws input) (holdsFor row r)
-      (λ h. pick-elim (Good ws input) (carrierFits (l .body) (r .terms .connection) (l .carrier)) (λ g. takes i row u) (λ g. refuses))
-      (λ h. refuses)
+  good-own-found : (row : Row) (f : Found) → meant (namesOf input .identifier) (records ws) ≡ f → Good ws input (ownFound ws row f)
+  good-own-found row Nothing e = refuses
+  good-own-found row (At i) e =
+      let own = meant-own (records ws) (namesOf input .identifier) i e in
+      pick-elim (Good ws input) (holdsFor row (getD (records ws) i blank)) (λ h. takes i row (own .0) (own .1)) (λ h. refuses)
 
-  good-found : (l : Letter) (message : RecordMessage) (f : Found) → meant (l .identifier) (records ws) ≡ f → Good ws input (recordFound ws l message f)
-  good-found l message Nothing e = refuses
-  good-found l message (At i) e =
-      let r : Record = getD (records ws) i blank in
-      good-row i l message (rowFor message (takesCall ws (r .terms .numberB)) (r .terms .keep)) (meant-used (records ws) (l .identifier) i e)
-
-  good-record : (l : Letter) (message : RecordMessage) → Good ws input (recordDecision ws l message)
-  unfolding recordDecision
-  good-record l message = good-found l message (meant (l .identifier) (records ws)) refl
-
-  -- ---- acts and the guard
-  good-own-found : (identifier : Words) (row : Row) (f : Found) → meant identifier (records ws) ≡ f → Good ws input (ownFound ws row f)
-  good-own-found identifier row Nothing e = refuses
-  good-own-found identifier row (At i) e =
-      pick-elim (Good ws input) (holdsFor row (getD (records ws) i blank)) (λ h. takes i row (meant-used (records ws) identifier i e)) (λ h. refuses)
-
-  pub good-own : (identifier : Words) (row : Row) → Good ws input (ownDecision ws identifier row)
+  pub good-own : (row : Row) → Good ws input (ownDecision ws (namesOf input .identifier) row)
   unfolding ownDecision
-  good-own identifier row = good-own-found identifier row (meant identifier (records ws)) refl
+  good-own row = good-own-found row (meant (namesOf input .identifier) (records ws)) refl
 
-  -- ---- a line report
-  good-report-found : (busy : Bool) (f : Found) → Good ws input (reportFound busy f)
-  good-report-found busy Nothing = refuses
-  good-report-found busy (At k) = reports k busy
+-- ---- a line report
+module _ (ws : List ℕ) (number : Words) (busy : Bool) where
+  good-report-found : (f : Found) → Good ws (Input.Report number busy) (reportFound busy f)
+  good-report-found Nothing = refuses
+  good-report-found (At k) = reports k
 
-  pub good-report : (number : Words) (busy : Bool) → Good ws input (reportDecision ws number busy)
+  pub good-report : Good ws (Input.Report number busy) (reportDecision ws number busy)
   unfolding reportDecision
-  good-report number busy = good-report-found busy (lineAt number (lines ws))
+  good-report = good-report-found (lineAt number (lines ws))
 
-  -- ---- Look: what is offered fits
-  good-fitting : (number : Words) (f : Found) → first (passes (Fitting number)) (records ws) ≡ f → Good ws input (offerDecision f)
-  good-fitting number Nothing e = refuses
-  good-fitting number (At i) e =
-      takes i Offers (fitting-used number (getD (records ws) i blank) (first-holds (passes (Fitting number)) (records ws) i blank e))
+-- ---- Look: what is offered fits
+module _ (ws : List ℕ) (number : Words) where
+  abbrev GoodLook : Found → Type 0
+  GoodLook f = Good ws (Input.Look number) (offerDecision f)
 
-  good-blocking : (number : Words) (f : Found) → Good ws input (offerDecision (offerFound ws number f))
-  good-blocking number (At i) = refuses
-  good-blocking number Nothing = good-fitting number (first (passes (Fitting number)) (records ws)) refl
+  good-fitting : (f : Found) → first (passes (Fitting number)) (records ws) ≡ f → GoodLook f
+  good-fitting Nothing e = refuses
+  good-fitting (At i) e = offers i (fitting-used number (getD (records ws) i blank) (first-holds (passes (Fitting number)) (records ws) i blank e))
 
-  good-offer : (line : Line) (number : Words) → Good ws input (offerDecision (offerAt ws line number))
+  good-blocking : (f : Found) → GoodLook (offerFound ws number f)
+  good-blocking (At i) = refuses
+  good-blocking Nothing = good-fitting (first (passes (Fitting number)) (records ws)) refl
+
+  good-offer : (line : Line) → GoodLook (offerAt ws line number)
   unfolding offerAt
-  good-offer line number =
-      pick-elim (λ (f : Found). Good ws input (offerDecision f)) (canTake line)
-      (λ t. good-blocking number (first (passes (Blocking number)) (records ws)))
-      (λ f. refuses)
+  good-offer line =
+      pick-elim GoodLook (canTake line) (λ t. good-blocking (first (passes (Blocking number)) (records ws))) (λ f. refuses)
 
-  good-look-found : (number : Words) (f : Found) → Good ws input (lookFound ws number f)
-  good-look-found number Nothing = refuses
-  good-look-found number (At k) = good-offer (getD (lines ws) k noLine) number
+  good-look-found : (f : Found) → Good ws (Input.Look number) (lookFound ws number f)
+  good-look-found Nothing = refuses
+  good-look-found (At k) = good-offer (getD (lines ws) k noLine)
 
-  pub good-look : (number : Words) → Good ws input (lookDecision ws number)
+  pub good-look : Good ws (Input.Look number) (lookDecision ws number)
   unfolding lookDecision
-  good-look number = good-look-found number (lineAt number (lines ws))
+  good-look = good-look-found (lineAt number (lines ws))
 
--- ---- requests
+-- ---- messages
 -- where none is a duplicate, no record has the identifier
 new-identifier : (rs : List Record) (asked : Names) → first (passes (Duplicate asked)) rs ≡ Nothing → meant (asked .identifier) rs ≡ Nothing
 unfolding meant
@@ -196,6 +204,28 @@ module _ (ws : List ℕ) (l : Letter) where
   abbrev GoodHere : Decision → Type 0
   GoodHere = Good ws (Input.Message l)
 
+  -- ---- messages about a record
+  good-row :
+      (i : ℕ) (message : RecordMessage) (row : Row) → meant (l .identifier) (records ws) ≡ At i →
+      GoodHere (rowDecision i (getD (records ws) i blank) l message row)
+  good-row i message row e =
+      let r : Record = getD (records ws) i blank in
+      let own = meant-own (records ws) (l .identifier) i e in
+      pick-elim GoodHere (holdsFor row r)
+      (λ h. pick-elim GoodHere (carrierFits (l .body) (r .terms .connection) (l .carrier)) (λ g. takes i row (own .0) (own .1)) (λ g. refuses))
+      (λ h. refuses)
+
+  good-found : (message : RecordMessage) (f : Found) → meant (l .identifier) (records ws) ≡ f → GoodHere (recordFound ws l message f)
+  good-found message Nothing e = refuses
+  good-found message (At i) e =
+      let r : Record = getD (records ws) i blank in
+      good-row i message (rowFor message (takesCall ws (r .terms .numberB)) (r .terms .keep)) e
+
+  good-record : (message : RecordMessage) → GoodHere (recordDecision ws l message)
+  unfolding recordDecision
+  good-record message = good-found message (meant (l .identifier) (records ws)) refl
+
+  -- ---- requests
   -- what a request of this letter stores is in range
   abbrev Stored : Request → Type 0
   Stored q = (busy : Bool) → (lineAt (l .numberB) (lines ws) ≡ Nothing → ⊥) → Whole (lines ws) (newRecord ws (letterNames l) q busy)
@@ -234,10 +264,9 @@ module _ (ws : List ℕ) (l : Letter) where
     good-request =
         pick-elim GoodHere (carrierFits (l .body) Connection.Empty (l .carrier)) (λ h. good-line (lineAt (l .numberB) (lines ws)) refl) (λ h. refuses)
 
-  -- ---- messages
   good-meant : Ranged → (m : Meant) → messageFor (l .body) ≡ m → GoodHere (meantDecision ws l m)
   good-meant ranged (Meant.Request q) e = good-request q (ranged q e)
-  good-meant ranged (Meant.Record message) e = good-record ws (Input.Message l) l message
+  good-meant ranged (Meant.Record message) e = good-record message
   good-meant ranged Meant.NotHere e = refuses
 
   pub good-message : Ranged → GoodHere (messageDecision ws l)

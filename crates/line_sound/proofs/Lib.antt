@@ -4,7 +4,6 @@ pub mod Changes
 pub mod Decisions
 pub mod Ranges
 pub mod Reaching
-pub mod Queue
 pub mod Admitting
 pub mod Looking
 pub mod Reporting

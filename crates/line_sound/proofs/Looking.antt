@@ -20,13 +20,14 @@ use Rattle.line_table.specs.Search.{blocks, fits, passes}
 use Rattle.line_table.specs.declared.table.State.the-variants.{Await}
 use Rattle.line_table.specs.declared.record.Record.{Record}
 use Rattle.line_table.specs.declared.record.Decision.{Decision}
+use Rattle.line_table.specs.declared.record.Change.the-variants.{Put}
 use Rattle.line_table.specs.declared.inputs.Input.the-variants as Input
 use Rattle.line_table.specs.declared.search.Sought.the-variants.{Blocking, Fitting}
 use Rattle.line_records.specs.Layout as Layout
 use Rattle.line_records.specs.Codes.{stateOf}
 use Rattle.line_records.specs.Records.{recordOf, blank, records}
 use Rattle.line_records.specs.Lines.{noLine, lines, lineAt}
-use Rattle.line_records.proofs.ChangeLaws.{records-applied-put, lines-applied-put}
+use Rattle.line_records.proofs.ChangeLaws.{records-applied, lines-applied}
 use Rattle.line_plan.specs.Decide.{offerFound, offerAt, offerDecision, lookFound, lookDecision, decided}
 use Rattle.line_plan.specs.Plan.{planOf, planFor}
 use Rattle.line.specs.Steps.{made, step}
@@ -77,8 +78,8 @@ module _ (d : Desk) (number : Words) (full : length (d .words) ≡ Layout.words)
           unblocked = none-passes (blocks number) (records (d .words)) (blank-passes-not number .0) unblocked;
           fitting = first-holds (fits number) (records (d .words)) i blank e;
           oldest = λ j h. first-earlier (fits number) (records (d .words)) i blank e j (omega (arith, h));
-          stored = records-applied-put (d .words) i r′ full;
-          others = lines-applied-put (d .words) i r′ full;
+          stored = records-applied (d .words) (Put i r′) full;
+          others = lines-applied (d .words) (Put i r′) full;
         }
 
     tells-blocking :

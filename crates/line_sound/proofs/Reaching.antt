@@ -1,6 +1,6 @@
--- Every step of a sound desk with a fair input applies a fair change: that of a good decision's plan. So every reached desk is sound.
+-- A fair input is decided well, so its step is about one request, or a report: every reached desk is sound, its records stand in the order of acceptance, and a step leaves every other request as it was.
 use Prim.Native.Nat.{ℕ}
-use mathlib.Core.Path.{_≡_, refl, sym, subst}
+use mathlib.Core.Path.{_≡_, refl, subst}
 use mathlib.Core.Bool.{Bool, true, false}
 use mathlib.Core.List.{List}
 use native.Mathlib.Omega.{arith}
@@ -11,16 +11,14 @@ use Rattle.message.specs.Format.{inRange}
 use Rattle.message.specs.Wire.{messageAt}
 use Rattle.message.specs.declared.Message.{Message}
 use Rattle.desk.specs.Letter.{letterOf}
+use Rattle.places.specs.Places.{same}
 use Rattle.places.proofs.Counting.{stored-most}
 use Rattle.line_table.specs.Inputs.{rowOfAct}
 use Rattle.line_table.specs.declared.table.Row.the-variants.{GuardRunsOut}
-use Rattle.line_table.specs.declared.record.Change.{Change}
-use Rattle.line_table.specs.declared.record.Change.the-variants.{Stay}
 use Rattle.line_table.specs.declared.inputs.Input.{Input}
 use Rattle.line_table.specs.declared.inputs.Input.the-variants as Input
 use Rattle.line_records.specs.Layout as Layout
 use Rattle.line_records.specs.Records.{records}
-use Rattle.line_records.specs.Change.{applied}
 use Rattle.line_records.proofs.RecordsLaws.{records-length}
 use Rattle.line_plan.specs.Decide.{decided}
 use Rattle.line_plan.specs.Plan.{planFor}
@@ -30,10 +28,10 @@ use Rattle.line.specs.declared.Desk.{Desk}
 use Rattle.line.specs.declared.entry.Entry.{Entry}
 use Rattle.line.specs.declared.entry.Entry.the-variants.{Refused, Given}
 use Rattle.line_sound.specs.Sound as S
-use Rattle.line_sound.specs.Sound.{lineView, Sound, Typed, Fair, hears, acts, guards, reports, looks, Reached, ReachedSound, ReachedMost}
+use Rattle.line_sound.specs.Sound.{lineView, Sound, Typed, Fair, hears, acts, guards, reports, looks, Reached, ReachedSound, ReachedMost, InOrder, OrderOfAcceptance, OthersHeld}
 use Rattle.line_sound.proofs.Starting.{start-sound}
-use Rattle.line_sound.proofs.Changes.{FairChange, stays, fair-sound}
-use Rattle.line_sound.proofs.Decisions.{Good, fair-plan, good-own, good-report, good-look, good-message}
+use Rattle.line_sound.proofs.Changes.{Goes, goes-sound, goes-order, goes-others}
+use Rattle.line_sound.proofs.Decisions.{Good, goes-plan, good-own, good-report, good-look, good-message}
 use Rattle.line_sound.proofs.Ranges.{request-whole, read-typed}
 
 -- ---- a fair input is decided well
@@ -47,49 +45,43 @@ good-entry ws m typed false ranged e = absurd (let z : _≡_ {A = ℕ} 0 1 = cc 
 good-input : (ws : List ℕ) {input : Input} → Fair input → Good ws input (decided ws input)
 unfolding decided messageEntry
 good-input ws (hears m typed e) = good-entry ws m typed (inRange m) refl e
-good-input ws (acts identifier act) = good-own ws (Input.Act identifier act) identifier (rowOfAct act)
-good-input ws (guards identifier) = good-own ws (Input.Guard identifier) identifier GuardRunsOut
-good-input ws (reports number busy) = good-report ws (Input.Report number busy) number busy
-good-input ws (looks number) = good-look ws (Input.Look number) number
+good-input ws (acts identifier act) = good-own ws (Input.Act identifier act) (rowOfAct act)
+good-input ws (guards identifier) = good-own ws (Input.Guard identifier) GuardRunsOut
+good-input ws (reports number busy) = good-report ws number busy
+good-input ws (looks number) = good-look ws number
 
--- ---- a step of a desk: the change that it applies
-pub record FairStep (before after : Desk) : Type 0 where
-  pub change : Change
-  pub fair : FairChange (before .words) change
-  pub words : after .words ≡ applied (before .words) change
+-- ---- a step
+step-goes : (d : Desk) → Sound (d .words) → {input : Input} → Fair input → Goes (d .words) input (planFor (d .words) input .change)
+unfolding planFor
+step-goes d sound fair = goes-plan (d .words) sound (good-input (d .words) fair)
 
-no-step : (d : Desk) → FairStep d d
-unfolding applied
-no-step d = record { change = Stay; fair = stays; words = refl }
+sound-step : (d : Desk) → Sound (d .words) → {input : Input} → Fair input → Sound (step d input .desk .words)
+unfolding step
+sound-step d sound fair = goes-sound (d .words) sound (step-goes d sound fair)
 
-module _ (d : Desk) (sound : Sound (d .words)) where
-  pub fair-step : {input : Input} → Fair input → FairStep d (step d input .desk)
-  unfolding step planFor
-  fair-step {input} fair =
-      record { change = planFor (d .words) input .change; fair = fair-plan (d .words) sound input (good-input (d .words) fair); words = refl }
+-- ---- what comes in at the entry: a fair input, or a refusal that leaves the desk
+abbrev pub FairEntry : Entry → Type 0
+FairEntry entry = (input : Input) → entry ≡ Given input → Fair input
 
-  fair-heard : (m : Message) → Typed m → (entry : Entry) → messageEntry m ≡ entry → FairStep d (entered d entry .desk)
-  unfolding entered
-  fair-heard m typed (Refused number) e = no-step d
-  fair-heard m typed (Given input) e = fair-step (hears m typed e)
+read-fair : (r : Read Message) → ((m : Message) (n : ℕ) → r ≡ took m n → Typed m) → FairEntry (readEntry r .entry)
+read-fair (took m next) typed = λ input e. hears m (typed m next refl) e
+read-fair (refused number) typed = λ input e. absurd (let z : _≡_ {A = ℕ} 0 1 = cc in omega arith)
 
-  fair-read : (r : Read Message) → ((m : Message) (n : ℕ) → r ≡ took m n → Typed m) → FairStep d (entered d (readEntry r .entry) .desk)
-  unfolding entered
-  fair-read (took m next) typed = fair-heard m (typed m next refl) (messageEntry m) refl
-  fair-read (refused number) typed = no-step d
+pub bytes-fair : (bytes : List ℕ) → Bytes bytes → FairEntry (bytesEntry bytes .entry)
+unfolding bytesEntry
+bytes-fair bytes b = read-fair (messageAt bytes) (read-typed bytes b)
 
-  pub fair-bytes : (bytes : List ℕ) → Bytes bytes → FairStep d (receivedBytes d bytes .desk)
-  unfolding receivedBytes bytesEntry
-  fair-bytes bytes b = fair-read (messageAt bytes) (read-typed bytes b)
+sound-entered : (d : Desk) → Sound (d .words) → (entry : Entry) → FairEntry entry → Sound (entered d entry .desk .words)
+unfolding entered
+sound-entered d sound (Refused number) fair = sound
+sound-entered d sound (Given input) fair = sound-step d sound (fair input refl)
 
 -- ---- every reached desk
-sound-step : {before after : Desk} → Sound (before .words) → FairStep before after → Sound (after .words)
-sound-step {before} sound step = subst Sound (sym (step .words)) (fair-sound (before .words) sound (step .fair))
-
 sound-reached : {d : Desk} → Reached d → Sound (d .words)
+unfolding receivedBytes
 sound-reached (S.starts given keep retain b) = start-sound given keep retain
-sound-reached (S.steps {d} input fair r) = let sound = sound-reached r in sound-step sound (fair-step d sound fair)
-sound-reached (S.reads {d} bytes b r) = let sound = sound-reached r in sound-step sound (fair-bytes d sound bytes b)
+sound-reached (S.steps {d} fair r) = sound-step d (sound-reached r) fair
+sound-reached (S.reads {d} bytes b r) = sound-entered d (sound-reached r) (bytesEntry bytes .entry) (bytes-fair bytes b)
 
 pub reached-sound : ReachedSound
 reached-sound d r = sound-reached r
@@ -97,11 +89,36 @@ reached-sound d r = sound-reached r
 pub reached-most : ReachedMost
 reached-most d r = stored-most lineView (records (d .words)) Layout.places (records-length (d .words))
 
--- ---- a message received, whether its entry refuses it or gives it
-reached-entered : {d : Desk} (m : Message) → Typed m → (entry : Entry) → messageEntry m ≡ entry → Reached d → Reached (entered d entry .desk)
-unfolding entered
-reached-entered m typed (Refused number) e r = r
-reached-entered m typed (Given input) e r = S.steps input (hears m typed e) r
+-- what a reached desk's step is about
+pub reached-goes : (d : Desk) → Reached d → {input : Input} → Fair input → Goes (d .words) input (planFor (d .words) input .change)
+reached-goes d reached fair = step-goes d (reached-sound d reached) fair
 
-pub reached-received : (d : Desk) (m : Message) → Typed m → Reached d → Reached (received d m .desk)
-reached-received d m typed r = reached-entered m typed (messageEntry m) refl r
+-- a desk that is reached, after what comes in at the entry
+pub reached-entered : (d : Desk) → Reached d → (entry : Entry) → FairEntry entry → Reached (entered d entry .desk)
+unfolding entered
+reached-entered d reached (Refused number) fair = reached
+reached-entered d reached (Given input) fair = S.steps (fair input refl) reached
+
+pub reached-received : (d : Desk) → Reached d → (m : Message) → Typed m → Reached (received d m .desk)
+reached-received d reached m typed = reached-entered d reached (messageEntry m) (λ input e. hears m typed e)
+
+-- ---- the order of acceptance, and every other request
+step-order : (d : Desk) → Reached d → {input : Input} → Fair input → InOrder d (step d input .desk)
+unfolding step
+step-order d reached fair = goes-order (d .words) (reached-sound d reached) (reached-goes d reached fair)
+
+entered-order : (d : Desk) → Reached d → (entry : Entry) → FairEntry entry → InOrder d (entered d entry .desk)
+unfolding entered
+entered-order d reached (Refused number) fair = same
+entered-order d reached (Given input) fair = step-order d reached (fair input refl)
+
+bytes-order : (d : Desk) → Reached d → (bytes : List ℕ) → Bytes bytes → InOrder d (receivedBytes d bytes .desk)
+unfolding receivedBytes
+bytes-order d reached bytes b = entered-order d reached (bytesEntry bytes .entry) (bytes-fair bytes b)
+
+pub order-of-acceptance : OrderOfAcceptance
+order-of-acceptance = record { steps = λ d reached input fair. step-order d reached fair; bytes = bytes-order }
+
+pub others-held : OthersHeld
+unfolding step
+others-held d reached input fair request other n = goes-others (d .words) (reached-sound d reached) (reached-goes d reached fair) request other n

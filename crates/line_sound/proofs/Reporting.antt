@@ -13,18 +13,18 @@ use Rattle.lists.specs.declared.words.Words.{Words}
 use Rattle.line_table.specs.Line.{withStatus}
 use Rattle.line_table.specs.Search.{marks}
 use Rattle.line_table.specs.declared.record.Record.{Record}
+use Rattle.line_table.specs.declared.record.Change.the-variants.{Report}
 use Rattle.line_table.specs.declared.inputs.Input.the-variants as Input
 use Rattle.line_records.specs.Layout as Layout
 use Rattle.line_records.specs.Records.{records}
 use Rattle.line_records.specs.Lines.{noLine, lines, lineAt}
-use Rattle.line_records.specs.Change.{activated}
-use Rattle.line_records.proofs.ChangeLaws.{records-applied-report, lines-applied-report}
+use Rattle.line_records.specs.Change.{activated, marking}
+use Rattle.line_records.proofs.ChangeLaws.{records-applied, lines-applied}
 use Rattle.line_plan.specs.Decide.{reportFound, reportDecision, decided}
 use Rattle.line_plan.specs.Plan.{planOf, planFor}
 use Rattle.line.specs.Steps.{made, step}
 use Rattle.line.specs.declared.Desk.{Desk}
 use Rattle.line_sound.specs.Sound.{Reports}
-use Rattle.line_sound.proofs.Changes.{marking}
 
 -- every record, with its mark if the line is busy
 abbrev marked : Words → Bool → List Record → List Record
@@ -44,7 +44,7 @@ module _ (d : Desk) (number : Words) (busy : Bool) (full : length (d .words) ≡
       records (made d (planOf (d .words) (Input.Report number busy) (reportFound busy f)) .desk .words) ≡ marked number busy (records (d .words))
   unfolding planOf
   marks-found Nothing zero = absurd (omega (arith, zero))
-  marks-found (At k) zero = records-applied-report (d .words) k number busy full ∙ marked-busy number busy (records (d .words))
+  marks-found (At k) zero = records-applied (d .words) (Report k number busy) full ∙ marked-busy number busy (records (d .words))
 
   report-marks :
       step d (Input.Report number busy) .outcome .refusal ≡ 0 →
@@ -56,7 +56,7 @@ report-status :
     (d : Desk) (number : Words) (busy : Bool) (k : ℕ) → length (d .words) ≡ Layout.words → lineAt number (lines (d .words)) ≡ At k →
     lines (step d (Input.Report number busy) .desk .words) ≡ set (lines (d .words)) k (withStatus (getD (lines (d .words)) k noLine) busy)
 unfolding step planFor planOf decided reportDecision
-report-status d number busy k full its = rw its (lines-applied-report (d .words) k number busy full)
+report-status d number busy k full its = rw its (lines-applied (d .words) (Report k number busy) full)
 
 pub reports : Reports
 reports = record { marks = report-marks; status = report-status }

@@ -18,7 +18,8 @@ use Rattle.desk.specs.declared.Keep.the-variants as Keep
 use Rattle.terms.specs.declared.Terms.{Terms}
 use Rattle.terms.specs.declared.request.Names.{Names}
 use Rattle.terms.specs.declared.request.Request.{Request}
-use Rattle.places.specs.Places.{View, Placed, stored, names, Queued}
+use Rattle.places.specs.Places.{View, Placed, stored, held, names, Queued}
+use Rattle.line_table.specs.Inputs.{namesOf}
 use Rattle.line_table.specs.Line.{canTake, withStatus}
 use Rattle.line_table.specs.Record.{moved}
 use Rattle.line_table.specs.Search.{used, ofLine, marks, blocks, fits}
@@ -106,7 +107,7 @@ pub data Fair : Input → Type 0 where
 
 pub data Reached : Desk → Type 0 where
   starts : (given : List ℕ) (keep retain : Bool) → Bytes given → Reached (started given keep retain .desk)
-  steps : {d : Desk} (input : Input) → Fair input → Reached d → Reached (step d input .desk)
+  steps : {d : Desk} {input : Input} → Fair input → Reached d → Reached (step d input .desk)
   reads : {d : Desk} (bytes : List ℕ) → Bytes bytes → Reached d → Reached (receivedBytes d bytes .desk)
 
 abbrev pub ReachedSound : Type 0
@@ -122,6 +123,19 @@ InOrder before after = Queued (names lineView (records (before .words))) (names 
 pub record OrderOfAcceptance : Type 0 where
   pub steps : (d : Desk) → Reached d → (input : Input) → Fair input → InOrder d (step d input .desk)
   pub bytes : (d : Desk) → Reached d → (bytes : List ℕ) → Bytes bytes → InOrder d (receivedBytes d bytes .desk)
+
+-- ---- a message, an act and the guard are about the request that they name: every other is held as before. A Look puts one record (`Offered`), a report marks some (`Reports`)
+abbrev pub NamesRequest : Input → Type 0
+NamesRequest (Input.Message l) = Unit
+NamesRequest (Input.Act identifier act) = Unit
+NamesRequest (Input.Guard identifier) = Unit
+NamesRequest (Input.Report number busy) = ⊥
+NamesRequest (Input.Look number) = ⊥
+
+abbrev pub OthersHeld : Type 0
+OthersHeld =
+    (d : Desk) → Reached d → (input : Input) → Fair input → NamesRequest input → (other : Words) → (namesOf input .identifier ≡ other → ⊥) →
+    held lineView other (records (step d input .desk .words)) ≡ held lineView other (records (d .words))
 
 -- ---- 5 against 6 on one line, 32 against 33 records: a request that is neither long nor a duplicate
 pub record Admitted : Type 0 where
