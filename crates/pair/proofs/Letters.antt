@@ -140,7 +140,7 @@ ask-sends a typed =
     pick-elim Sends (ltb (a .preference) 3) (λ t. pick-elim Sends (inRange (askMessage a)) (λ ranged. clear-asked a typed ranged) (λ f. tt)) (λ f. tt)
 
 -- flags are can-keep plus twice the preference
-flags-sent : (flags : ℕ) → askFlags (canKeepSent flags) (flags / 2) ≡ flags
+pub flags-sent : (flags : ℕ) → askFlags (canKeepSent flags) (flags / 2) ≡ flags
 flags-sent flags =
     pick-elim (λ (x : ℕ). x ≡ flags) (eqb (flags % 2) 1)
     (λ t. let e : flags % 2 ≡ 1 = eqb-true (flags % 2) 1 t in omega (arith, e))
