@@ -28,7 +28,7 @@ use Rattle.clerk_table.specs.declared.record.Change.{Change}
 use Rattle.clerk_table.specs.declared.record.Change.the-variants.{Stay, Put, Remove}
 use Rattle.clerk_records.specs.Codes.{stateOf, stateCode}
 use Rattle.clerk_records.specs.Layout.{width, canKeepAt, places, words, lastState}
-use Rattle.clerk_records.specs.Records.{recordOf, recordWords, blank, records, inUse, used, unused, identified, meant, place, applied}
+use Rattle.clerk_records.specs.Records.{recordOf, recordWords, blank, records, inUse, used, unused, identified, meant, place, recordsAfter, applied}
 
 -- ---- codes: what is stored is read back
 state-back : (s : State) → stateOf (stateCode s) ≡ s
@@ -113,7 +113,7 @@ pub place-found : (ws : List ℕ) → words ≤ length ws → found (free lastSt
 unfolding place records
 place-found ws l = decoded-found width places recordOf (free lastState) unused unused-row ws (rows-room ws l)
 
--- ---- changes: a change that is applied, of records
+-- ---- a change of the words is that change of the records, and leaves as many words
 pub applied-length : (ws : List ℕ) → length ws ≡ words → (c : Change) → length (applied ws c) ≡ words
 unfolding applied removedRow
 applied-length ws l Stay = l
@@ -133,17 +133,23 @@ blank-row : recordOf (blankRow width) ≡ blank
 unfolding recordOf termsOf
 blank-row = refl
 
-pub records-applied-put : (ws : List ℕ) (i : ℕ) (r : Record) → length ws ≡ words → records (applied ws (Put i r)) ≡ set (records ws) i r
+put-records : (ws : List ℕ) (i : ℕ) (r : Record) → length ws ≡ words → records (applied ws (Put i r)) ≡ set (records ws) i r
 unfolding applied records
-records-applied-put ws i r l =
+put-records ws i r l =
     pick-elim (λ (x : List ℕ). map recordOf (rows width places x) ≡ set (map recordOf (rows width places ws)) i r) (ltb i places)
     (λ t. decoded-put width places recordOf ws (recordWords r) i r (record-back r) refl (ltb-true i places t) (omega arith))
     (λ f. sym (set-out (map recordOf (rows width places ws)) i r (omega (arith, ltb-false i places f, decoded-length width places recordOf ws))))
 
-pub records-applied-remove : (ws : List ℕ) (i : ℕ) → length ws ≡ words → records (applied ws (Remove i)) ≡ without blank (records ws) i
+remove-records : (ws : List ℕ) (i : ℕ) → length ws ≡ words → records (applied ws (Remove i)) ≡ without blank (records ws) i
 unfolding applied removedRow records
-records-applied-remove ws i l =
+remove-records ws i l =
     rw (rows-room ws (omega arith))
     (pick-elim (λ (x : List ℕ). map recordOf (rows width places x) ≡ without blank (map recordOf (rows width places ws)) i) (ltb i places)
     (λ t. decoded-drop width places recordOf blank-row ws i (ltb-true i places t) (omega arith))
     (λ f. sym (without-past blank (map recordOf (rows width places ws)) i (omega (arith, ltb-false i places f, decoded-length width places recordOf ws)))))
+
+pub records-applied : (ws : List ℕ) → length ws ≡ words → (c : Change) → records (applied ws c) ≡ recordsAfter (records ws) c
+unfolding applied
+records-applied ws l Stay = refl
+records-applied ws l (Put i r) = put-records ws i r l
+records-applied ws l (Remove i) = remove-records ws i l

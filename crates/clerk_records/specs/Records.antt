@@ -2,10 +2,10 @@
 use Prim.Native.Nat.{ℕ}
 use mathlib.Core.Bool.{Bool, true, false}
 use mathlib.Core.List.{List, [], _∷_, _++_, map}
-use lib.ListN.{getD}
+use lib.ListN.{getD, set}
 use lib.Dec.{ltb, eqb}
 use Rattle.lists.specs.Choice.{pick}
-use Rattle.lists.specs.Lists.{both, first}
+use Rattle.lists.specs.Lists.{both, first, without}
 use Rattle.lists.specs.Words.{sameWords}
 use Rattle.lists.specs.declared.Found.{Found}
 use Rattle.lists.specs.declared.words.Words.{Words}
@@ -62,7 +62,14 @@ meant identifier rs = first (identified identifier) rs
 unfoldable pub place : List Record → Found
 place rs = first unused rs
 
--- the words after a planned change; a place that is not there changes nothing
+-- ---- a planned change
+-- the records afterwards
+abbrev pub recordsAfter : List Record → Change → List Record
+recordsAfter rs Stay = rs
+recordsAfter rs (Put i r) = set rs i r
+recordsAfter rs (Remove i) = without blank rs i
+
+-- the words afterwards; a place that is not there changes nothing
 unfoldable pub applied : List ℕ → Change → List ℕ
 applied words Stay = words
 applied words (Put i r) = pick (ltb i places) (putRow width words i (recordWords r)) words

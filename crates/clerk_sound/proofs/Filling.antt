@@ -1,27 +1,34 @@
--- The first free place of a sound list is behind all used ones, and each ask that is taken is one more: so sixteen asks fill a desk.
+-- The first free place of a sound list is behind all used ones, and each ask that is taken is one more: so as many asks as there are places fill a desk.
 use Prim.Native.Nat.{ℕ, suc, _≤_, _<_}
-use mathlib.Core.Path.{_≡_, refl, sym, ap, _∙_}
-use mathlib.Core.Bool.{Bool, true}
+use mathlib.Core.Path.{_≡_, refl, sym, ap, _∙_, subst}
+use mathlib.Core.Bool.{true}
 use mathlib.Core.List.{List}
 use lib.ListN.{length, set}
 use native.Mathlib.Omega.{arith}
 use borrow.Author.Tests.{lt-ltb}
 use Rattle.lists.specs.Lists.{without}
 use Rattle.lists.specs.declared.Found.the-variants.{At, Nothing}
-use Rattle.message.specs.declared.Kind.{Kind}
 use Rattle.desk.specs.Letter.{letterOf}
-use Rattle.desk.specs.declared.letter.Letter.{Letter}
-use Rattle.desk.specs.declared.outcome.Sending.the-variants as Sending
+use Rattle.desk.specs.declared.sends.Sends.the-variants as Sends
+use Rattle.terms.specs.declared.request.Names.{Names}
+use Rattle.terms.specs.declared.request.Request.{Request}
 use Rattle.places.specs.Places.{stored}
 use Rattle.places.proofs.Counting.{stored-most, stored-none, stored-more, stored-same, stored-fewer, place-room, place-full}
-use Rattle.clerk_table.specs.Record.{refusedPlan}
 use Rattle.clerk_table.specs.declared.record.Record.{Record}
-use Rattle.clerk_records.specs.Records.{blank, records, used, meant, place, applied}
-use Rattle.clerk_records.proofs.RecordsLaws.{records-length, records-put}
-use Rattle.clerk_plan.specs.Plan.{newRecord, storedPlan, askPlan}
-use Rattle.clerk.specs.Steps.{startedDesk, stepped, askMessage, asked}
+use Rattle.clerk_table.specs.declared.record.Decision.{Decision}
+use Rattle.clerk_table.specs.declared.record.Decision.the-variants.{Refuse, Store}
+use Rattle.clerk_table.specs.declared.inputs.Input.{Input}
+use Rattle.clerk_table.specs.declared.inputs.Input.the-variants as Input
+use Rattle.clerk_records.specs.Layout.{places}
+use Rattle.clerk_records.specs.Records.{blank, records, used, meant, place}
+use Rattle.clerk_records.proofs.RecordsLaws.{records-length, records-applied}
+use Rattle.clerk_plan.specs.Plan.{decided, planOf, planFor}
+use Rattle.clerk.specs.Entry.{askRequest, askNames, askEntry}
+use Rattle.clerk.specs.Steps.{startedDesk, step, made, entered, asked}
 use Rattle.clerk.specs.declared.Desk.{Desk}
-use Rattle.clerk.specs.declared.steps.Asking.{Asking}
+use Rattle.clerk.specs.declared.entry.Asking.{Asking}
+use Rattle.clerk.specs.declared.entry.Entry.{Entry}
+use Rattle.clerk.specs.declared.entry.Entry.the-variants.{Given}
 use Rattle.clerk.specs.declared.steps.Stepped.{Stepped}
 use Rattle.clerk_sound.specs.Sound as S
 use Rattle.clerk_sound.specs.Sound.{clerkView, Sound, Reached, Sixteen, AskSixteen, Proper, askedRecord, AskedBehind, Asks, SeventeenthRefused}
@@ -29,16 +36,16 @@ use Rattle.clerk_sound.proofs.Start.{blank-unused, start-blank}
 use Rattle.clerk_sound.proofs.Reaching.{reached-sound, reached-full}
 
 -- ---- the first free place, and counts
-place-at : (rs : List Record) → Sound rs → length rs ≡ 16 → stored clerkView rs < 16 → place rs ≡ At (stored clerkView rs)
+place-at : (rs : List Record) → Sound rs → length rs ≡ places → stored clerkView rs < places → place rs ≡ At (stored clerkView rs)
 unfolding place
-place-at rs sound l h = place-room clerkView rs 16 (sound .placed) l h
+place-at rs sound l h = place-room clerkView rs places (sound .placed) l h
 
-place-none : (rs : List Record) → length rs ≡ 16 → stored clerkView rs ≡ 16 → place rs ≡ Nothing
+place-none : (rs : List Record) → length rs ≡ places → stored clerkView rs ≡ places → place rs ≡ Nothing
 unfolding place
-place-none rs l h = place-full clerkView rs 16 l h
+place-none rs l h = place-full clerkView rs places l h
 
 place-more :
-    (rs : List Record) (r : Record) → Sound rs → length rs ≡ 16 → stored clerkView rs < 16 → used r ≡ true →
+    (rs : List Record) (r : Record) → Sound rs → length rs ≡ places → stored clerkView rs < places → used r ≡ true →
     stored clerkView (set rs (stored clerkView rs) r) ≡ suc (stored clerkView rs)
 unfolding place
 place-more rs r sound l h is = stored-more clerkView rs (stored clerkView rs) r (place-at rs sound l h) is
@@ -46,7 +53,7 @@ place-more rs r sound l h is = stored-more clerkView rs (stored clerkView rs) r 
 pub sixteen : Sixteen
 sixteen =
     record {
-      most = λ rs l. stored-most clerkView rs 16 l;
+      most = λ rs l. stored-most clerkView rs places l;
       room = place-at;
       full = λ rs sound. place-none rs;
       more = place-more;
@@ -55,56 +62,56 @@ sixteen =
     }
 
 -- ---- asks
-ask-taken :
-    (rs : List Record) (l : Letter) (kind : Kind) (service : ℕ) (canKeep : Bool) → Sound rs → length rs ≡ 16 →
-    meant (l .identifier) rs ≡ Nothing → stored clerkView rs < 16 →
-    askPlan rs l kind service canKeep ≡ storedPlan (stored clerkView rs) (newRecord l kind service canKeep) l
-unfolding askPlan
-ask-taken rs l kind service canKeep sound n new h = rw (new, place-at rs sound n h)
+module _ (rs : List Record) (names : Names) (q : Request) (sound : Sound rs) (n : length rs ≡ places) (new : meant (names .identifier) rs ≡ Nothing) where
+  ask-taken : stored clerkView rs < places → decided rs (Input.Ask names q) ≡ Store (stored clerkView rs) q
+  unfolding decided
+  ask-taken h = rw (new, place-at rs sound n h)
 
-ask-refused :
-    (rs : List Record) (l : Letter) (kind : Kind) (service : ℕ) (canKeep : Bool) → Sound rs → length rs ≡ 16 →
-    meant (l .identifier) rs ≡ Nothing → stored clerkView rs ≡ 16 →
-    askPlan rs l kind service canKeep ≡ refusedPlan 5 Sending.Nothing
-unfolding askPlan
-ask-refused rs l kind service canKeep sound n new h = rw (new, place-none rs n h)
+  ask-refused : stored clerkView rs ≡ places → decided rs (Input.Ask names q) ≡ Refuse 5 Sends.Nothing
+  unfolding decided
+  ask-refused h = rw (new, place-none rs n h)
 
 pub ask-sixteen : AskSixteen
 ask-sixteen = record { taken = ask-taken; refused = ask-refused }
 
 -- ---- asks on a desk
-asked-plan : (d : Desk) (a : Asking) → Proper d a → asked d a ≡ stepped d (askPlan (records (d .words)) (letterOf (askMessage a)) (a .kind) (a .service) (a .canKeep))
-unfolding asked
-asked-plan d a proper = rw (lt-ltb (a .preference) 3 (proper .preference), proper .ranged)
+abbrev askInput : Asking → Input
+askInput a = Input.Ask (askNames a) (askRequest a)
+
+asked-entry : (d : Desk) (a : Asking) → Proper d a → askEntry a ≡ Given (askInput a)
+unfolding askEntry
+asked-entry d a proper = rw (lt-ltb (a .preference) 3 (proper .preference), proper .ranged)
+
+asked-decision : (d : Desk) (a : Asking) → Proper d a → (decision : Decision) → decided (records (d .words)) (askInput a) ≡ decision → asked d a ≡ made d (planOf (records (d .words)) (askInput a) decision)
+unfolding step planFor
+asked-decision d a proper decision e =
+    ap (entered d) (asked-entry d a proper) ∙ ap (λ (x : Decision). made d (planOf (records (d .words)) (askInput a) x)) e
 
 module _ (d : Desk) (reached : Reached d) (a : Asking) (proper : Proper d a) where
-  asked-taken :
-      stored clerkView (records (d .words)) < 16 →
-      asked d a ≡ stepped d (storedPlan (stored clerkView (records (d .words))) (askedRecord a) (letterOf (askMessage a)))
+  abbrev rs : List Record
+  rs = records (d .words)
+
+  new : meant (askNames a .identifier) rs ≡ Nothing
   unfolding letterOf
+  new = proper .new
+
+  asked-taken : stored clerkView rs < places → asked d a ≡ made d (planOf rs (askInput a) (Store (stored clerkView rs) (askRequest a)))
   asked-taken h =
-      asked-plan d a proper
-      ∙ ap (stepped d)
-      (ask-taken (records (d .words)) (letterOf (askMessage a)) (a .kind) (a .service) (a .canKeep) (reached-sound d reached) (records-length (d .words)) (proper .new) h)
+      asked-decision d a proper _ (ask-taken rs (askNames a) (askRequest a) (reached-sound d reached) (records-length (d .words)) new h)
 
-  asked-full : stored clerkView (records (d .words)) ≡ 16 → asked d a .outcome .refusal ≡ 5
-  unfolding letterOf
+  asked-full : stored clerkView rs ≡ places → asked d a .outcome .refusal ≡ 5
+  unfolding planOf
   asked-full h =
-      ap (λ (step : Stepped). step .outcome .refusal)
-      (asked-plan d a proper
-      ∙ ap (stepped d)
-      (ask-refused (records (d .words)) (letterOf (askMessage a)) (a .kind) (a .service) (a .canKeep) (reached-sound d reached) (records-length (d .words)) (proper .new) h))
+      ap (λ (x : Stepped). x .outcome .refusal)
+      (asked-decision d a proper _ (ask-refused rs (askNames a) (askRequest a) (reached-sound d reached) (records-length (d .words)) new h))
 
-  asked-records :
-      stored clerkView (records (d .words)) < 16 →
-      records (asked d a .desk .words) ≡ set (records (d .words)) (stored clerkView (records (d .words))) (askedRecord a)
-  unfolding applied
-  asked-records h =
-      ap (λ (step : Stepped). records (step .desk .words)) (asked-taken h)
-      ∙ rw (lt-ltb (stored clerkView (records (d .words))) 16 h) (records-put (d .words) (stored clerkView (records (d .words))) (askedRecord a) h (reached-full d reached))
+  asked-records : stored clerkView rs < places → records (asked d a .desk .words) ≡ set rs (stored clerkView rs) (askedRecord a)
+  unfolding planOf
+  asked-records h = ap (λ (x : Stepped). records (x .desk .words)) (asked-taken h) ∙ records-applied (d .words) (reached-full d reached) _
 
-  asked-accepted : stored clerkView (records (d .words)) < 16 → asked d a .outcome .refusal ≡ 0
-  asked-accepted h = ap (λ (step : Stepped). step .outcome .refusal) (asked-taken h)
+  asked-accepted : stored clerkView rs < places → asked d a .outcome .refusal ≡ 0
+  unfolding planOf
+  asked-accepted h = ap (λ (x : Stepped). x .outcome .refusal) (asked-taken h)
 
 pub asked-behind : AskedBehind
 asked-behind =
@@ -113,22 +120,24 @@ asked-behind =
       refused = λ d reached a proper h. asked-full d reached a proper h;
       again = λ d after i u e reached a proper.
           let n : suc (stored clerkView (without blank (records (d .words)) i)) ≡ stored clerkView (records (d .words)) = stored-fewer clerkView (records (d .words)) i blank-unused u in
-          asked-accepted after reached a proper (omega (arith, n, ap (stored clerkView) e, stored-most clerkView (records (d .words)) 16 (records-length (d .words))));
+          asked-accepted after reached a proper (omega (arith, n, ap (stored clerkView) e, stored-most clerkView (records (d .words)) places (records-length (d .words))));
     }
 
--- ---- sixteen asks from the start
+-- ---- as many asks as there are places, from the start
 asks-reached : {d : Desk} {n : ℕ} → Asks d n → Reached d
 asks-reached S.none = S.starts
-asks-reached (S.more a proper before) = S.asks a (proper .typed) (asks-reached before)
+asks-reached (S.more {d} a proper before) =
+    subst (λ (entry : Entry). Reached (entered d entry .desk)) (sym (asked-entry d a proper))
+    (S.steps (S.asks a (proper .typed) (asked-entry d a proper)) (asks-reached before))
 
 start-count : stored clerkView (records (startedDesk .words)) ≡ 0
 start-count = stored-none clerkView (records (startedDesk .words)) (λ j. ap used (start-blank j) ∙ blank-unused)
 
-asks-count : {d : Desk} {n : ℕ} → Asks d n → n ≤ 16 → stored clerkView (records (d .words)) ≡ n
+asks-count : {d : Desk} {n : ℕ} → Asks d n → n ≤ places → stored clerkView (records (d .words)) ≡ n
 asks-count S.none h = start-count
 asks-count (S.more {d} {n} a proper before) h =
     let c : stored clerkView (records (d .words)) ≡ n = asks-count before (omega arith) in
-    let room : stored clerkView (records (d .words)) < 16 = omega arith in
+    let room : stored clerkView (records (d .words)) < places = omega arith in
     ap (stored clerkView) (asked-records d (asks-reached before) a proper room)
     ∙ place-more (records (d .words)) (askedRecord a) (reached-sound d (asks-reached before)) (records-length (d .words)) room refl
     ∙ ap suc c

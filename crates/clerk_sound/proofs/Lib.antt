@@ -1,8 +1,6 @@
-pub mod Refusals
 pub mod Start
-pub mod Changes
 pub mod Plans
 pub mod Ranges
+pub mod Refusals
 pub mod Reaching
 pub mod Filling
-pub mod Queue

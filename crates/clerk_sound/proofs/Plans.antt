@@ -1,4 +1,4 @@
--- Every plan's change is fair: what is found is used and keeps its identifier, no row leads to Free, only a result leaves Wait-Ack and it brings both choices, and an ask is stored under a new identifier.
+-- Every plan is about the request that its input names, and keeps its record whole: what is found is used and keeps its identifier, no row leads to Free, only a result leaves Wait-Ack and it brings both choices, and an ask is stored under a new identifier.
 use Prim.Native.Nat.{ℕ}
 use mathlib.Core.Path.{_≡_, refl, sym, ap, _∙_, subst}
 use mathlib.Core.Bool.{Bool, true, false}
@@ -10,22 +10,21 @@ use Rattle.lists.specs.declared.Found.{Found}
 use Rattle.lists.specs.declared.Found.the-variants.{At, Nothing}
 use Rattle.lists.specs.declared.words.Words.{Words}
 use Rattle.lists.proofs.Choice.{pick-elim, no-true}
-use Rattle.message.specs.declared.Kind.{Kind}
 use Rattle.message.specs.declared.Carrier.{Carrier}
 use Rattle.message.specs.declared.Carrier.the-variants.{Setup, Connect, Facility, ReleaseComplete, Alerting}
-use Rattle.message.specs.declared.Body.{Body}
-use Rattle.message.specs.declared.Body.the-variants.{CcbsRequest, CcnrRequest, RequestResult, RequestError, CcExecPossible, CcRingout, RingoutError, CcSuspend, CcResume, CcCancel, CallAlerts, CallFailed}
 use Rattle.desk.specs.Carriers.{carrierFits}
-use Rattle.desk.specs.declared.Connection.{Connection}
 use Rattle.desk.specs.declared.Connection.the-variants as Connection
 use Rattle.desk.specs.declared.Keep.{Keep}
 use Rattle.desk.specs.declared.Keep.the-variants as Keep
 use Rattle.desk.specs.declared.letter.Letter.{Letter}
+use Rattle.terms.specs.declared.request.Names.{Names}
+use Rattle.terms.specs.declared.request.Request.{Request}
+use Rattle.places.specs.Places.{Moved, stays, turns, stores, removes}
 use Rattle.places.proofs.Holding.{meant-its}
 use Rattle.clerk_table.specs.Table.{holdsIn}
 use Rattle.clerk_table.specs.Record.{withState}
-use Rattle.clerk_table.specs.Step.{taken}
-use Rattle.clerk_table.specs.Inputs.{forClerk, rowOf, rowOfAct, rowOfTimer, errorRow, possibleRow, busyAgainRow, ringoutErrorRow, keepChosen, connectionMeant, settledBy}
+use Rattle.clerk_table.specs.Step.{rowTaken}
+use Rattle.clerk_table.specs.Inputs.{namesOf, messageFor, rowFor, rowOfAct, rowOfTimer, errorRow, possibleRow, busyAgainRow, ringoutErrorRow, keepChosen, connectionMeant, acknowledged, settled}
 use Rattle.clerk_table.specs.declared.table.State.{State}
 use Rattle.clerk_table.specs.declared.table.State.the-variants.{Free, WaitAck, Invoked, WaitAnswer, Ringout, Suspended}
 use Rattle.clerk_table.specs.declared.table.Home.the-variants.{InInvoked, InWaitAnswer, InRingout, InSuspended}
@@ -34,52 +33,60 @@ use Rattle.clerk_table.specs.declared.table.Row.the-variants.{Accepted, DeniedS
 use Rattle.clerk_table.specs.declared.table.Timer.{Timer}
 use Rattle.clerk_table.specs.declared.table.Timer.the-variants.{T1, T2, T3}
 use Rattle.clerk_table.specs.declared.record.Record.{Record}
-use Rattle.clerk_table.specs.declared.record.Change.the-variants.{Put}
+use Rattle.clerk_table.specs.declared.record.Decision.{Decision}
+use Rattle.clerk_table.specs.declared.record.Change.the-variants.{Put, Remove}
 use Rattle.clerk_table.specs.declared.record.Plan.{Plan}
 use Rattle.clerk_table.specs.declared.inputs.Act.{Act}
 use Rattle.clerk_table.specs.declared.inputs.Act.the-variants.{Accept, Resume, GoOn, Cancel}
+use Rattle.clerk_table.specs.declared.inputs.Input.{Input}
+use Rattle.clerk_table.specs.declared.inputs.Input.the-variants as Input
+use Rattle.clerk_table.specs.declared.inputs.RecordMessage.{RecordMessage}
+use Rattle.clerk_table.specs.declared.inputs.RecordMessage.the-variants as Message
 use Rattle.clerk_table.specs.declared.inputs.Meant.{Meant}
 use Rattle.clerk_table.specs.declared.inputs.Meant.the-variants as Meant
-use Rattle.clerk_records.specs.Records.{blank, inUse, used, meant, place}
-use Rattle.clerk_plan.specs.Plan.{holdsFor, meantBy, foundPlan, messagePlan, ownFound, ownPlan, newRecord, askPlace, askFound, askPlan}
-use Rattle.clerk_sound.specs.Sound.{clerkView, Whole, Sound}
-use Rattle.clerk_sound.proofs.Changes.{Fair, stays, turns, stores, removes}
+use Rattle.clerk_records.specs.Records.{blank, inUse, used, meant, place, recordsAfter}
+use Rattle.clerk_plan.specs.Plan.{holdsFor, askPlace, askFound, rowDecision, messageFound, messageMeant, ownFound, decided, newRecord, planOf, planFor}
+use Rattle.clerk_sound.specs.Sound.{clerkView, Whole, Sound, Fair}
+use Rattle.clerk_sound.proofs.Ranges.{fair-whole}
 
--- ---- what is found is used
-meant-used : (rs : List Record) (identifier : Words) (i : ℕ) → meant identifier rs ≡ At i → used (getD rs i blank) ≡ true
-unfolding meant
-meant-used rs identifier i e = meant-its clerkView rs identifier i e .0
+-- what is put over a record is whole
+abbrev pub Turned : Record → Record → Type 0
+Turned a b = Whole b
+
+-- a plan about the request of an identifier
+abbrev pub Goes : Words → List Record → Plan → Type 0
+Goes identifier rs plan = Moved clerkView Turned Whole identifier rs (recordsAfter rs (plan .change))
 
 -- ---- states: only Wait-Ack is before the acknowledgment
-abbrev acknowledged : State → Bool
-acknowledged Free = false
-acknowledged WaitAck = false
-acknowledged Invoked = true
-acknowledged WaitAnswer = true
-acknowledged Ringout = true
-acknowledged Suspended = true
+abbrev behind : State → Bool
+behind Free = false
+behind WaitAck = false
+behind Invoked = true
+behind WaitAnswer = true
+behind Ringout = true
+behind Suspended = true
 
-acknowledged-used : (s : State) → acknowledged s ≡ true → inUse s ≡ true
-acknowledged-used Free e = e
-acknowledged-used WaitAck e = refl
-acknowledged-used Invoked e = e
-acknowledged-used WaitAnswer e = e
-acknowledged-used Ringout e = e
-acknowledged-used Suspended e = e
+behind-used : (s : State) → behind s ≡ true → inUse s ≡ true
+behind-used Free e = e
+behind-used WaitAck e = refl
+behind-used Invoked e = e
+behind-used WaitAnswer e = e
+behind-used Ringout e = e
+behind-used Suspended e = e
 
-not-waiting : (s : State) → acknowledged s ≡ true → s ≡ WaitAck → ⊥
-not-waiting s a e = no-true (sym (ap acknowledged e) ∙ a)
+not-waiting : (s : State) → behind s ≡ true → s ≡ WaitAck → ⊥
+not-waiting s a e = no-true (sym (ap behind e) ∙ a)
 
 -- ---- the choices that a result brings
-no-empty-keep : (k : Keep) → (k ≡ Keep.Ends → k ≡ Keep.Empty → ⊥) × (k ≡ Keep.Keeps → k ≡ Keep.Empty → ⊥)
-no-empty-keep k =
-    ((λ e f. let z : _≡_ {A = ℕ} 0 1 = cc in omega arith), (λ e f. let z : _≡_ {A = ℕ} 0 1 = cc in omega arith))
+ends : Keep.Ends ≡ Keep.Empty → ⊥
+ends e = let z : _≡_ {A = ℕ} 0 1 = cc in omega arith
+
+keeps : Keep.Keeps ≡ Keep.Empty → ⊥
+keeps e = let z : _≡_ {A = ℕ} 0 1 = cc in omega arith
 
 keep-chosen : (canKeep : Bool) (keep : ℕ) → keepChosen canKeep keep ≡ Keep.Empty → ⊥
 keep-chosen canKeep keep =
-    pick-elim (λ k. k ≡ Keep.Empty → ⊥) canKeep
-    (λ t. pick-elim (λ k. k ≡ Keep.Empty → ⊥) (eqb keep 1) (λ t. no-empty-keep Keep.Keeps .1 refl) (λ f. no-empty-keep Keep.Ends .0 refl))
-    (λ f. no-empty-keep Keep.Ends .0 refl)
+    pick-elim (λ k. k ≡ Keep.Empty → ⊥) canKeep (λ t. pick-elim (λ k. k ≡ Keep.Empty → ⊥) (eqb keep 1) (λ t. keeps) (λ f. ends)) (λ f. ends)
 
 retained : Connection.Ret ≡ Connection.Empty → ⊥
 retained e = let z : _≡_ {A = ℕ} 0 1 = cc in omega arith
@@ -94,37 +101,7 @@ connection-chosen Facility = released
 connection-chosen ReleaseComplete = released
 connection-chosen Alerting = released
 
--- ---- rows
--- a record from state to state behind the acknowledgment
-fair-moved :
-    (rs : List Record) (i : ℕ) (s : State) → Sound rs → used (getD rs i blank) ≡ true → (getD rs i blank .state ≡ WaitAck → ⊥) →
-    acknowledged s ≡ true → Fair rs (Put i (withState (getD rs i blank) s))
-fair-moved rs i s sound u away a =
-    turns i (withState (getD rs i blank) s) u (acknowledged-used s a) refl
-    (record {
-      before = λ e. absurd (not-waiting s a e);
-      behind = λ n. sound .each i u .behind away;
-      numberA = sound .each i u .numberA;
-      numberB = sound .each i u .numberB;
-      service = sound .each i u .service;
-    })
-
--- the acknowledgment
-fair-accepted :
-    (rs : List Record) (i : ℕ) (keep : ℕ) (carrier : Carrier) → Sound rs → used (getD rs i blank) ≡ true →
-    Fair rs (taken i (settledBy (RequestResult keep) (getD rs i blank) carrier) Accepted .change)
-unfolding taken
-fair-accepted rs i keep carrier sound u =
-    turns i (withState (settledBy (RequestResult keep) (getD rs i blank) carrier) Invoked) u refl refl
-    (record {
-      before = λ e. absurd (not-waiting Invoked refl e);
-      behind = λ n. (keep-chosen (getD rs i blank .canKeep) keep, connection-chosen carrier);
-      numberA = sound .each i u .numberA;
-      numberB = sound .each i u .numberB;
-      service = sound .each i u .service;
-    })
-
--- every row but the acknowledgment
+-- ---- rows: every one but the acknowledgment
 abbrev later : Row → Bool
 later Accepted = false
 later DeniedShort = true
@@ -145,36 +122,6 @@ later T1RunsOut = true
 later T2RunsOut = true
 later T3RunsOut = true
 
-fair-later :
-    (rs : List Record) (i : ℕ) (row : Row) → Sound rs → used (getD rs i blank) ≡ true → later row ≡ true →
-    holdsFor row (getD rs i blank) ≡ true → Fair rs (taken i (getD rs i blank) row .change)
-unfolding taken
-fair-later rs i Accepted sound u b h = absurd (no-true b)
-fair-later rs i DeniedShort sound u b h = removes i
-fair-later rs i DeniedLong sound u b h = removes i
-fair-later rs i Recalls sound u b h = fair-moved rs i WaitAnswer sound u (λ e. no-true (sym (ap (holdsIn InInvoked) e) ∙ h)) refl
-fair-later rs i Suspends sound u b h = fair-moved rs i Suspended sound u (λ e. no-true (sym (ap (holdsIn InInvoked) e) ∙ h)) refl
-fair-later rs i RingsOut sound u b h = fair-moved rs i Ringout sound u (λ e. no-true (sym (ap (holdsIn InWaitAnswer) e) ∙ h)) refl
-fair-later rs i Resumes sound u b h = fair-moved rs i Invoked sound u (λ e. no-true (sym (ap (holdsIn InSuspended) e) ∙ h)) refl
-fair-later rs i GoesOn sound u b h = fair-moved rs i WaitAnswer sound u (λ e. no-true (sym (ap (holdsIn InSuspended) e) ∙ h)) refl
-fair-later rs i Completes sound u b h = removes i
-fair-later rs i CallFails sound u b h = removes i
-fair-later rs i BusyAgainKept sound u b h = fair-moved rs i Invoked sound u (λ e. no-true (sym (ap (holdsIn InRingout) e) ∙ h)) refl
-fair-later rs i BusyAgainEnded sound u b h = removes i
-fair-later rs i NotMatched sound u b h = removes i
-fair-later rs i LineCancels sound u b h = removes i
-fair-later rs i UserCancels sound u b h = removes i
-fair-later rs i T1RunsOut sound u b h = removes i
-fair-later rs i T2RunsOut sound u b h = removes i
-fair-later rs i T3RunsOut sound u b h = removes i
-
--- ---- messages
-same-row : (a b : Row) → Meant.Row a ≡ Meant.Row b → a ≡ b
-same-row a b e = cc
-
-no-row : {row : Row} → Meant.NotHere ≡ Meant.Row row → ⊥
-no-row e = let z : _≡_ {A = ℕ} 0 1 = cc in omega arith
-
 error-later : (error : ℕ) → later (errorRow error) ≡ true
 error-later error = pick-elim (λ row. later row ≡ true) (eqb error 1) (λ t. refl) (λ f. refl)
 
@@ -190,92 +137,153 @@ busy-again-later Keep.Keeps = refl
 ringout-error-later : (error : ℕ) (keep : Keep) → later (ringoutErrorRow error keep) ≡ true
 ringout-error-later error keep = pick-elim (λ row. later row ≡ true) (eqb error 1) (λ t. busy-again-later keep) (λ f. refl)
 
-module _ (rs : List Record) (i : ℕ) (sound : Sound rs) (u : used (getD rs i blank) ≡ true) where
-  fair-settled :
-      (body : Body) (carrier : Carrier) (busy : Bool) (row : Row) → rowOf body busy (getD rs i blank .keep) ≡ Meant.Row row →
-      holdsFor row (getD rs i blank) ≡ true → Fair rs (taken i (settledBy body (getD rs i blank) carrier) row .change)
-  fair-settled (CcbsRequest service flags) carrier busy row e h = absurd (no-row e)
-  fair-settled (CcnrRequest service flags) carrier busy row e h = absurd (no-row e)
-  fair-settled (RequestResult keep) carrier busy row e h =
-      subst
-      (λ (q : Row). Fair rs (taken i (settledBy (RequestResult keep) (getD rs i blank) carrier) q .change))
-      (same-row Accepted row e)
-      (fair-accepted rs i keep carrier sound u)
-  fair-settled (RequestError error) carrier busy row e h =
-      fair-later rs i row sound u (sym (ap later (same-row (errorRow error) row e)) ∙ error-later error) h
-  fair-settled CcExecPossible carrier busy row e h =
-      fair-later rs i row sound u (sym (ap later (same-row (possibleRow busy) row e)) ∙ possible-later busy) h
-  fair-settled CcRingout carrier busy row e h = absurd (no-row e)
-  fair-settled (RingoutError error) carrier busy row e h =
-      fair-later rs i row sound u
-      (sym (ap later (same-row (ringoutErrorRow error (getD rs i blank .keep)) row e)) ∙ ringout-error-later error (getD rs i blank .keep))
-      h
-  fair-settled CcSuspend carrier busy row e h = absurd (no-row e)
-  fair-settled CcResume carrier busy row e h = absurd (no-row e)
-  fair-settled CcCancel carrier busy row e h = fair-later rs i row sound u (sym (ap later (same-row LineCancels row e))) h
-  fair-settled CallAlerts carrier busy row e h = fair-later rs i row sound u (sym (ap later (same-row Completes row e))) h
-  fair-settled CallFailed carrier busy row e h = fair-later rs i row sound u (sym (ap later (same-row CallFails row e))) h
+act-later : (act : Act) → later (rowOfAct act) ≡ true
+act-later Accept = refl
+act-later Resume = refl
+act-later GoOn = refl
+act-later Cancel = refl
 
-  fair-meant :
-      (l : Letter) (busy : Bool) (m : Meant) → rowOf (l .body) busy (getD rs i blank .keep) ≡ m →
-      Fair rs (meantBy i (getD rs i blank) l m .change)
-  fair-meant l busy (Meant.Row row) e =
-      pick-elim (λ (plan : Plan). Fair rs (plan .change)) (holdsFor row (getD rs i blank))
-      (λ h.
-      pick-elim (λ (plan : Plan). Fair rs (plan .change)) (carrierFits (l .body) (getD rs i blank .connection) (l .carrier))
-      (λ g. fair-settled (l .body) (l .carrier) busy row e h)
-      (λ g. stays))
-      (λ h. stays)
-  fair-meant l busy Meant.NotHere e = stays
+timer-later : (timer : Timer) → later (rowOfTimer timer) ≡ true
+timer-later T1 = refl
+timer-later T2 = refl
+timer-later T3 = refl
 
+-- ---- a row taken for the record of a place
+module _ (identifier : Words) (rs : List Record) (i : ℕ) (sound : Sound rs) (u : used (getD rs i blank) ≡ true) (own : getD rs i blank .terms .identifier ≡ identifier) where
+  abbrev r : Record
+  r = getD rs i blank
+
+  -- from state to state behind the acknowledgment
+  turned : (s : State) → (r .state ≡ WaitAck → ⊥) → behind s ≡ true → Moved clerkView Turned Whole identifier rs (recordsAfter rs (Put i (withState r s)))
+  turned s away b =
+      turns i (withState r s) u own (behind-used s b) own
+      (record {
+        before = λ e. absurd (not-waiting s b e);
+        behind = λ n. sound .each i u .behind away;
+        numberA = sound .each i u .numberA;
+        numberB = sound .each i u .numberB;
+        service = sound .each i u .service;
+      })
+      refl
+
+  gone : Moved clerkView Turned Whole identifier rs (recordsAfter rs (Remove i))
+  gone = removes i u own refl
+
+  row-accepted : (keep : ℕ) (carrier : Carrier) → Goes identifier rs (rowTaken i (acknowledged r keep carrier) Accepted)
+  unfolding rowTaken
+  row-accepted keep carrier =
+      turns i (withState (acknowledged r keep carrier) Invoked) u own refl own
+      (record {
+        before = λ e. absurd (not-waiting Invoked refl e);
+        behind = λ n. (keep-chosen (r .canKeep) keep, connection-chosen carrier);
+        numberA = sound .each i u .numberA;
+        numberB = sound .each i u .numberB;
+        service = sound .each i u .service;
+      })
+      refl
+
+  row-later : (row : Row) → later row ≡ true → holdsFor row r ≡ true → Goes identifier rs (rowTaken i r row)
+  unfolding rowTaken
+  row-later Accepted b h = absurd (no-true b)
+  row-later DeniedShort b h = gone
+  row-later DeniedLong b h = gone
+  row-later Recalls b h = turned WaitAnswer (λ e. no-true (sym (ap (holdsIn InInvoked) e) ∙ h)) refl
+  row-later Suspends b h = turned Suspended (λ e. no-true (sym (ap (holdsIn InInvoked) e) ∙ h)) refl
+  row-later RingsOut b h = turned Ringout (λ e. no-true (sym (ap (holdsIn InWaitAnswer) e) ∙ h)) refl
+  row-later Resumes b h = turned Invoked (λ e. no-true (sym (ap (holdsIn InSuspended) e) ∙ h)) refl
+  row-later GoesOn b h = turned WaitAnswer (λ e. no-true (sym (ap (holdsIn InSuspended) e) ∙ h)) refl
+  row-later Completes b h = gone
+  row-later CallFails b h = gone
+  row-later BusyAgainKept b h = turned Invoked (λ e. no-true (sym (ap (holdsIn InRingout) e) ∙ h)) refl
+  row-later BusyAgainEnded b h = gone
+  row-later NotMatched b h = gone
+  row-later LineCancels b h = gone
+  row-later UserCancels b h = gone
+  row-later T1RunsOut b h = gone
+  row-later T2RunsOut b h = gone
+  row-later T3RunsOut b h = gone
+
+  row-message :
+      (message : RecordMessage) (carrier : Carrier) (busy : Bool) → holdsFor (rowFor message busy (r .terms .keep)) r ≡ true →
+      Goes identifier rs (rowTaken i (settled (Meant.Record message) carrier r) (rowFor message busy (r .terms .keep)))
+  row-message (Message.Result keep) carrier busy h = row-accepted keep carrier
+  row-message (Message.Error error) carrier busy h = row-later (errorRow error) (error-later error) h
+  row-message Message.ExecPossible carrier busy h = row-later (possibleRow busy) (possible-later busy) h
+  row-message (Message.RingoutError error) carrier busy h = row-later (ringoutErrorRow error (r .terms .keep)) (ringout-error-later error (r .terms .keep)) h
+  row-message Message.Cancel carrier busy h = row-later LineCancels refl h
+  row-message Message.Alerts carrier busy h = row-later Completes refl h
+  row-message Message.Failed carrier busy h = row-later CallFails refl h
+
+-- ---- decisions
 module _ (rs : List Record) (sound : Sound rs) where
-  fair-found : (l : Letter) (busy : Bool) (f : Found) → meant (l .identifier) rs ≡ f → Fair rs (foundPlan rs l busy f .change)
-  fair-found l busy Nothing e = stays
-  fair-found l busy (At i) e =
-      fair-meant rs i sound (meant-used rs (l .identifier) i e) l busy (rowOf (l .body) busy (getD rs i blank .keep)) refl
+  -- a decision about an input, planned
+  abbrev Means : Input → Decision → Type 0
+  Means input decision = Goes (namesOf input .identifier) rs (planOf rs input decision)
 
-  pub fair-message : (l : Letter) (busy : Bool) → Fair rs (messagePlan rs l busy .change)
-  unfolding messagePlan
-  fair-message l busy =
-      pick-elim (λ (plan : Plan). Fair rs (plan .change)) (forClerk (l .body))
-      (λ h. fair-found l busy (meant (l .identifier) rs) refl)
-      (λ h. stays)
+  -- messages
+  means-row :
+      (l : Letter) (busy : Bool) (message : RecordMessage) → messageFor (l .body) ≡ Meant.Record message → (i : ℕ) → meant (l .identifier) rs ≡ At i →
+      Means (Input.Message l busy) (rowDecision i (getD rs i blank) l message (rowFor message busy (getD rs i blank .terms .keep)))
+  unfolding planOf meant
+  means-row l busy message e i f =
+      let its = meant-its clerkView rs (l .identifier) i f in
+      let r = getD rs i blank in
+      let row = rowFor message busy (r .terms .keep) in
+      pick-elim (Means (Input.Message l busy)) (holdsFor row r)
+      (λ h.
+      pick-elim (Means (Input.Message l busy)) (carrierFits (l .body) (r .terms .connection) (l .carrier))
+      (λ g.
+      subst (λ (m : Meant). Goes (l .identifier) rs (rowTaken i (settled m (l .carrier) r) row)) (sym e)
+      (row-message (l .identifier) rs i sound (its .0) (its .1) message (l .carrier) busy h))
+      (λ g. stays refl))
+      (λ h. stays refl)
 
-  -- ---- acts and timers
-  fair-own-found :
-      (identifier : Words) (row : Row) (refusal : ℕ) (f : Found) → later row ≡ true → meant identifier rs ≡ f →
-      Fair rs (ownFound rs row refusal f .change)
-  fair-own-found identifier row refusal Nothing b e = stays
-  fair-own-found identifier row refusal (At i) b e =
-      pick-elim (λ (plan : Plan). Fair rs (plan .change)) (holdsFor row (getD rs i blank))
-      (λ h. fair-later rs i row sound (meant-used rs identifier i e) b h)
-      (λ h. stays)
+  means-found :
+      (l : Letter) (busy : Bool) (message : RecordMessage) → messageFor (l .body) ≡ Meant.Record message → (f : Found) → meant (l .identifier) rs ≡ f →
+      Means (Input.Message l busy) (messageFound rs l busy message f)
+  unfolding planOf
+  means-found l busy message e Nothing f = stays refl
+  means-found l busy message e (At i) f = means-row l busy message e i f
 
-  fair-own : (identifier : Words) (row : Row) (refusal : ℕ) → later row ≡ true → Fair rs (ownPlan rs identifier row refusal .change)
-  unfolding ownPlan
-  fair-own identifier row refusal b = fair-own-found identifier row refusal (meant identifier rs) b refl
+  means-message : (l : Letter) (busy : Bool) (m : Meant) → messageFor (l .body) ≡ m → Means (Input.Message l busy) (messageMeant rs l busy (meant (l .identifier) rs) m)
+  unfolding planOf
+  means-message l busy Meant.NotHere e = stays refl
+  means-message l busy (Meant.Record message) e = means-found l busy message e (meant (l .identifier) rs) refl
 
-  pub fair-act : (identifier : Words) (act : Act) → Fair rs (ownPlan rs identifier (rowOfAct act) 7 .change)
-  fair-act identifier Accept = fair-own identifier RingsOut 7 refl
-  fair-act identifier Resume = fair-own identifier Resumes 7 refl
-  fair-act identifier GoOn = fair-own identifier GoesOn 7 refl
-  fair-act identifier Cancel = fair-own identifier UserCancels 7 refl
+  -- acts and timers
+  means-act : (identifier : Words) (act : Act) (f : Found) → meant identifier rs ≡ f → Means (Input.Act identifier act) (ownFound rs (rowOfAct act) 7 f)
+  unfolding planOf meant
+  means-act identifier act Nothing e = stays refl
+  means-act identifier act (At i) e =
+      let its = meant-its clerkView rs identifier i e in
+      pick-elim (Means (Input.Act identifier act)) (holdsFor (rowOfAct act) (getD rs i blank))
+      (λ h. row-later identifier rs i sound (its .0) (its .1) (rowOfAct act) (act-later act) h)
+      (λ h. stays refl)
 
-  pub fair-timer : (identifier : Words) (timer : Timer) → Fair rs (ownPlan rs identifier (rowOfTimer timer) 9 .change)
-  fair-timer identifier T1 = fair-own identifier T1RunsOut 9 refl
-  fair-timer identifier T2 = fair-own identifier T2RunsOut 9 refl
-  fair-timer identifier T3 = fair-own identifier T3RunsOut 9 refl
+  means-timer : (identifier : Words) (timer : Timer) (f : Found) → meant identifier rs ≡ f → Means (Input.Timer identifier timer) (ownFound rs (rowOfTimer timer) 9 f)
+  unfolding planOf meant
+  means-timer identifier timer Nothing e = stays refl
+  means-timer identifier timer (At i) e =
+      let its = meant-its clerkView rs identifier i e in
+      pick-elim (Means (Input.Timer identifier timer)) (holdsFor (rowOfTimer timer) (getD rs i blank))
+      (λ h. row-later identifier rs i sound (its .0) (its .1) (rowOfTimer timer) (timer-later timer) h)
+      (λ h. stays refl)
 
-  -- ---- ask
-  module _ (l : Letter) (kind : Kind) (service : ℕ) (canKeep : Bool) (whole : Whole (newRecord l kind service canKeep)) where
-    fair-place : (f : Found) → meant (l .identifier) rs ≡ Nothing → place rs ≡ f → Fair rs (askPlace l kind service canKeep f .change)
-    fair-place Nothing new e = stays
-    fair-place (At i) new e = stores i (newRecord l kind service canKeep) e new refl whole
+  -- asks
+  module _ (names : Names) (q : Request) (whole : Whole (newRecord names q)) where
+    means-place : (f : Found) → meant (names .identifier) rs ≡ Nothing → place rs ≡ f → Means (Input.Ask names q) (askPlace q f)
+    unfolding planOf meant place
+    means-place Nothing new e = stays refl
+    means-place (At i) new e = stores i (newRecord names q) e new refl refl whole refl
 
-    fair-ask-found : (f : Found) → meant (l .identifier) rs ≡ f → Fair rs (askFound rs l kind service canKeep f .change)
-    fair-ask-found (At i) e = stays
-    fair-ask-found Nothing e = fair-place (place rs) e refl
+    means-ask : (f : Found) → meant (names .identifier) rs ≡ f → Means (Input.Ask names q) (askFound rs q f)
+    unfolding planOf
+    means-ask (At i) e = stays refl
+    means-ask Nothing e = means-place (place rs) e refl
 
-    pub fair-ask : Fair rs (askPlan rs l kind service canKeep .change)
-    unfolding askPlan
-    fair-ask = fair-ask-found (meant (l .identifier) rs) refl
+  pub fair-goes : (input : Input) → Fair input → Goes (namesOf input .identifier) rs (planFor rs input)
+  unfolding planFor decided
+  fair-goes (Input.Ask names q) fair = means-ask names q (fair-whole fair) (meant (names .identifier) rs) refl
+  fair-goes (Input.Message l busy) fair = means-message l busy (messageFor (l .body)) refl
+  fair-goes (Input.Act identifier act) fair = means-act identifier act (meant identifier rs) refl
+  fair-goes (Input.Timer identifier timer) fair = means-timer identifier timer (meant identifier rs) refl

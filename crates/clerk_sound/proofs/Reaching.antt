@@ -1,110 +1,121 @@
--- Every step of a sound desk applies a fair change: that of its plan, or none where it is refused before. So every reached desk is sound and has its 192 words.
+-- Every fair step is about the request that its input names, so every reached desk is sound and has all its words, its records stand in the order of storing, and a step leaves every other request as it was.
 use Prim.Native.Nat.{ℕ}
-use mathlib.Core.Path.{_≡_, refl, sym, ap, _∙_, subst}
+use mathlib.Core.Path.{_≡_, refl, sym, subst}
 use mathlib.Core.Bool.{Bool}
 use mathlib.Core.List.{List}
 use lib.ListN.{length, length-replicate}
-use lib.Dec.{ltb}
-use Rattle.lists.specs.Words.{wordsOf}
-use Rattle.lists.proofs.Choice.{pick-elim}
+use Rattle.lists.proofs.Choice.{pick-then}
 use Rattle.message.specs.Reading.{Read, took, refused}
 use Rattle.message.specs.Format.{inRange}
 use Rattle.message.specs.Wire.{messageAt}
 use Rattle.message.specs.declared.Message.{Message}
 use Rattle.desk.specs.Letter.{letterOf}
-use Rattle.clerk_table.specs.declared.table.Timer.{Timer}
-use Rattle.clerk_table.specs.declared.record.Change.{Change}
-use Rattle.clerk_table.specs.declared.record.Change.the-variants.{Stay}
-use Rattle.clerk_table.specs.declared.record.Plan.{Plan}
-use Rattle.clerk_table.specs.declared.inputs.Act.{Act}
-use Rattle.clerk_records.specs.Records.{records, applied}
-use Rattle.clerk_plan.specs.Plan.{messagePlan, actPlan, timerPlan, askPlan}
-use Rattle.clerk.specs.Steps.{stepped, askMessage, asked, received, acted, reported, readStep, receivedBytes}
+use Rattle.places.specs.Places.{Moved, same}
+use Rattle.places.proofs.Moving.{moved-placed, moved-each, moved-order, moved-others}
+use Rattle.clerk_table.specs.Inputs.{namesOf}
+use Rattle.clerk_table.specs.declared.inputs.Input.{Input}
+use Rattle.clerk_table.specs.declared.inputs.Input.the-variants as Input
+use Rattle.clerk_records.specs.Layout as Layout
+use Rattle.clerk_records.specs.Records.{records}
+use Rattle.clerk_records.proofs.RecordsLaws.{applied-length, records-applied}
+use Rattle.clerk_plan.specs.Plan.{planFor}
+use Rattle.clerk.specs.Entry.{messageEntry, readEntry, bytesEntry}
+use Rattle.clerk.specs.Steps.{step, entered, received}
 use Rattle.clerk.specs.declared.Desk.{Desk}
-use Rattle.clerk.specs.declared.steps.Asking.{Asking}
-use Rattle.clerk.specs.declared.steps.Stepped.{Stepped}
-use Rattle.clerk_sound.specs.Sound.{Sound, Typed, Reached, starts, asks, hears, acts, times, reads, ReachedSound, ReachedFull}
+use Rattle.clerk.specs.declared.entry.Entry.{Entry}
+use Rattle.clerk.specs.declared.entry.Entry.the-variants.{Refused, Given}
+use Rattle.clerk_sound.specs.Sound as S
+use Rattle.clerk_sound.specs.Sound.{clerkView, Whole, Sound, Fair, hears, Reached, ReachedSound, ReachedFull, InOrder, OrderOfStoring, OthersHeld}
 use Rattle.clerk_sound.proofs.Start.{start-sound}
-use Rattle.clerk_sound.proofs.Changes.{Fair, stays, fair-sound, applied-length}
-use Rattle.clerk_sound.proofs.Plans.{fair-message, fair-act, fair-timer, fair-ask}
-use Rattle.clerk_sound.proofs.Ranges.{ask-whole}
+use Rattle.clerk_sound.proofs.Plans.{Turned, fair-goes}
+use Rattle.clerk_sound.proofs.Ranges.{no-input}
 
--- a step of a desk: the change that it applies
-pub record FairStep (before after : Desk) : Type 0 where
-  pub change : Change
-  pub fair : Fair (records (before .words)) change
-  pub words : after .words ≡ applied (before .words) change
-
-no-step : (d : Desk) → FairStep d d
-unfolding applied
-no-step d = record { change = Stay; fair = stays; words = refl }
-
-fair-plan : (d : Desk) (plan : Plan) → Fair (records (d .words)) (plan .change) → FairStep d (stepped d plan .desk)
-fair-plan d plan fair = record { change = plan .change; fair = fair; words = refl }
-
-module _ (d : Desk) (sound : Sound (records (d .words))) where
-  abbrev Goes : Stepped → Type 0
-  Goes step = FairStep d (step .desk)
-
-  pub fair-asked : (a : Asking) → Typed a → FairStep d (asked d a .desk)
-  unfolding asked
-  fair-asked a typed =
-      pick-elim Goes (ltb (a .preference) 3)
-      (λ h.
-      pick-elim Goes (inRange (askMessage a))
-      (λ g.
-      fair-plan d (askPlan (records (d .words)) (letterOf (askMessage a)) (a .kind) (a .service) (a .canKeep))
-      (fair-ask (records (d .words)) sound (letterOf (askMessage a)) (a .kind) (a .service) (a .canKeep) (ask-whole a typed g)))
-      (λ g. no-step d))
-      (λ h. no-step d)
-
-  pub fair-received : (m : Message) (busy : Bool) → FairStep d (received d m busy .desk)
-  unfolding received
-  fair-received m busy =
-      pick-elim Goes (inRange m)
-      (λ h. fair-plan d (messagePlan (records (d .words)) (letterOf m) busy) (fair-message (records (d .words)) sound (letterOf m) busy))
-      (λ h. no-step d)
-
-  pub fair-acted : (identifier : List ℕ) (act : Act) → FairStep d (acted d identifier act .desk)
-  unfolding acted
-  fair-acted identifier act =
-      fair-plan d (actPlan (records (d .words)) (wordsOf identifier) act) (fair-act (records (d .words)) sound (wordsOf identifier) act)
-
-  pub fair-reported : (identifier : List ℕ) (timer : Timer) → FairStep d (reported d identifier timer .desk)
-  unfolding reported
-  fair-reported identifier timer =
-      fair-plan d (timerPlan (records (d .words)) (wordsOf identifier) timer) (fair-timer (records (d .words)) sound (wordsOf identifier) timer)
-
-  fair-read : (busy : Bool) (r : Read Message) → FairStep d (readStep d busy r .desk)
-  fair-read busy (took m next) = fair-received m busy
-  fair-read busy (refused number) = no-step d
-
-  pub fair-bytes : (bytes : List ℕ) (busy : Bool) → FairStep d (receivedBytes d bytes busy .desk)
-  unfolding receivedBytes
-  fair-bytes bytes busy = fair-read busy (messageAt bytes)
-
--- ---- sound, with as many words as a desk has
+-- ---- a desk: sound, with as many words as it has to have
 record Good (d : Desk) : Type 0 where
-  full : length (d .words) ≡ 192
+  full : length (d .words) ≡ Layout.words
   sound : Sound (records (d .words))
 
-good-step : {before after : Desk} → Good before → FairStep before after → Good after
-good-step {before} {after} good step =
+-- what a step makes of the records
+abbrev Steps : Input → Desk → Desk → Type 0
+Steps input d after = Moved clerkView Turned Whole (namesOf input .identifier) (records (d .words)) (records (after .words))
+
+good-moved : (d : Desk) → Good d → (input : Input) → Fair input → Steps input d (step d input .desk)
+unfolding step
+good-moved d good input fair =
+    let rs = records (d .words) in
+    subst (Moved clerkView Turned Whole (namesOf input .identifier) rs) (sym (records-applied (d .words) (good .full) (planFor rs input .change)))
+    (fair-goes rs (good .sound) input fair)
+
+good-step : (d : Desk) → Good d → (input : Input) → Fair input → Good (step d input .desk)
+unfolding step
+good-step d good input fair =
+    let moved = good-moved d good input fair in
     record {
-      full = ap (λ (ws : List ℕ). length ws) (step .words) ∙ applied-length (before .words) (good .full) (step .change);
-      sound = subst (λ (ws : List ℕ). Sound (records ws)) (sym (step .words)) (fair-sound (before .words) (good .full) (good .sound) (step .fair));
+      full = applied-length (d .words) (good .full) (planFor (records (d .words)) input .change);
+      sound = record {
+        placed = moved-placed clerkView (good .sound .placed) moved;
+        each = moved-each clerkView Whole (λ a b whole. whole) (λ b whole. whole) (good .sound .placed) (good .sound .each) moved;
+      };
     }
 
+-- ---- what comes in at the entry: a fair input, or a refusal that leaves the desk
+abbrev FairEntry : Entry → Type 0
+FairEntry entry = (input : Input) → entry ≡ Given input → Fair input
+
+message-fair : (m : Message) (busy : Bool) → FairEntry (messageEntry m busy)
+unfolding messageEntry
+message-fair m busy input e =
+    let p = pick-then (inRange m) (Given (Input.Message (letterOf m) busy)) (Refused 2) (Given input) no-input e in
+    let q = p .1 in
+    let same-input : Input.Message (letterOf m) busy ≡ input = cc in
+    subst Fair same-input (hears (letterOf m) busy)
+
+read-fair : (busy : Bool) (r : Read Message) → FairEntry (readEntry busy r .entry)
+read-fair busy (took m next) = message-fair m busy
+read-fair busy (refused number) = λ input e. absurd (no-input e)
+
+bytes-fair : (bytes : List ℕ) (busy : Bool) → FairEntry (bytesEntry bytes busy .entry)
+unfolding bytesEntry
+bytes-fair bytes busy = read-fair busy (messageAt bytes)
+
+good-entered : (d : Desk) → Good d → (entry : Entry) → FairEntry entry → Good (entered d entry .desk)
+good-entered d good (Refused number) fair = good
+good-entered d good (Given input) fair = good-step d good input (fair input refl)
+
+-- ---- every reached desk
 reached-good : {d : Desk} → Reached d → Good d
-reached-good starts = record { full = length-replicate {A = ℕ} 192 0; sound = start-sound }
-reached-good (asks {d} a typed r) = let good = reached-good r in good-step good (fair-asked d (good .sound) a typed)
-reached-good (hears {d} m busy r) = let good = reached-good r in good-step good (fair-received d (good .sound) m busy)
-reached-good (acts {d} identifier act r) = let good = reached-good r in good-step good (fair-acted d (good .sound) identifier act)
-reached-good (times {d} identifier timer r) = let good = reached-good r in good-step good (fair-reported d (good .sound) identifier timer)
-reached-good (reads {d} bytes busy r) = let good = reached-good r in good-step good (fair-bytes d (good .sound) bytes busy)
+reached-good S.starts = record { full = length-replicate {A = ℕ} Layout.words 0; sound = start-sound }
+reached-good (S.steps {d} {input} fair r) = good-step d (reached-good r) input fair
+reached-good (S.reads {d} bytes busy r) = good-entered d (reached-good r) (bytesEntry bytes busy .entry) (bytes-fair bytes busy)
 
 pub reached-sound : ReachedSound
 reached-sound d r = reached-good r .sound
 
 pub reached-full : ReachedFull
 reached-full d r = reached-good r .full
+
+-- a desk that is reached, after what comes in at the entry
+pub reached-entered : (d : Desk) → Reached d → (entry : Entry) → FairEntry entry → Reached (entered d entry .desk)
+reached-entered d reached (Refused number) fair = reached
+reached-entered d reached (Given input) fair = S.steps (fair input refl) reached
+
+pub reached-received : (d : Desk) → Reached d → (m : Message) (busy : Bool) → Reached (received d m busy .desk)
+reached-received d reached m busy = reached-entered d reached (messageEntry m busy) (message-fair m busy)
+
+-- ---- what a step leaves as it was
+pub step-moved : (d : Desk) → Reached d → (input : Input) → Fair input → Steps input d (step d input .desk)
+step-moved d reached input fair = good-moved d (reached-good reached) input fair
+
+entered-order : (d : Desk) → Reached d → (entry : Entry) → FairEntry entry → InOrder d (entered d entry .desk)
+entered-order d reached (Refused number) fair = same
+entered-order d reached (Given input) fair = moved-order clerkView (reached-sound d reached .placed) (step-moved d reached input (fair input refl))
+
+pub order-of-storing : OrderOfStoring
+order-of-storing =
+    record {
+      steps = λ d reached input fair. moved-order clerkView (reached-sound d reached .placed) (step-moved d reached input fair);
+      bytes = λ d reached bytes busy. entered-order d reached (bytesEntry bytes busy .entry) (bytes-fair bytes busy);
+    }
+
+pub others-held : OthersHeld
+others-held d reached input fair = moved-others clerkView (reached-sound d reached .placed) (step-moved d reached input fair)

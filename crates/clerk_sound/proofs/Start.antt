@@ -1,4 +1,4 @@
--- The started desk is sound: sixteen blank records, so no place is used.
+-- The started desk is sound: all places hold the blank record, so none is used.
 use Prim.Native.Nat.{ℕ, zero, suc}
 use mathlib.Core.Path.{_≡_, refl, sym, ap, _∙_}
 use mathlib.Core.Bool.{false}
@@ -6,9 +6,11 @@ use mathlib.Core.List.{List}
 use lib.ListN.{getD, replicate}
 use Rattle.lists.proofs.Choice.{no-true}
 use Rattle.store.specs.Rows.{rows}
+use Rattle.terms.specs.Terms.{termsOf}
 use Rattle.places.proofs.Staying.{start-placed}
 use Rattle.clerk_table.specs.declared.record.Record.{Record}
 use Rattle.clerk_records.specs.Codes.{stateOf}
+use Rattle.clerk_records.specs.Layout.{places}
 use Rattle.clerk_records.specs.Records.{recordOf, blank, records, used}
 use Rattle.clerk.specs.Steps.{startedDesk}
 use Rattle.clerk_sound.specs.Sound.{clerkView, StartSound}
@@ -23,12 +25,12 @@ replicate-at zero x i = refl
 replicate-at (suc n) x zero = refl
 replicate-at (suc n) x (suc i) = replicate-at n x i
 
-start-records : records (startedDesk .words) ≡ replicate 16 blank
-unfolding records rows recordOf
+start-records : records (startedDesk .words) ≡ replicate places blank
+unfolding records rows recordOf termsOf
 start-records = refl
 
 pub start-blank : (i : ℕ) → getD (records (startedDesk .words)) i blank ≡ blank
-start-blank i = ap (λ (rs : List Record). getD rs i blank) start-records ∙ replicate-at 16 blank i
+start-blank i = ap (λ (rs : List Record). getD rs i blank) start-records ∙ replicate-at places blank i
 
 pub start-sound : StartSound
 start-sound =

@@ -2,3 +2,4 @@ pub mod Staying
 pub mod Counting
 pub mod Ordering
 pub mod Holding
+pub mod Moving

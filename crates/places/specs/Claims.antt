@@ -7,7 +7,7 @@ use lib.ListN.{length, set}
 use Rattle.lists.specs.Lists.{without}
 use Rattle.lists.specs.declared.Found.the-variants.{At, Nothing}
 use Rattle.lists.specs.declared.words.Words.{Words}
-use Rattle.places.specs.Places.{View, at, Placed, stored, placeIn, meantIn, none, one, held, mapHeld, names, Queued}
+use Rattle.places.specs.Places.{View, at, Placed, stored, placeIn, meantIn, none, one, held, mapHeld, names, Queued, Moved}
 
 -- ---- a list stays placed
 pub record StaysPlaced {A : Type 0} (v : View A) : Type 0 where
@@ -84,3 +84,18 @@ pub record Holding {A : Type 0} (v : View A) : Type 0 where
   pub change :
       (rs : List A) (f : A → A) (identifier : Words) → ((r : A) → v .used (f r) ≡ v .used r) → ((r : A) → v .name (f r) ≡ v .name r) →
       held v identifier (map f rs) ≡ mapHeld f (held v identifier rs)
+
+-- ---- a step about the request of one identifier
+pub record Moving {A : Type 0} (v : View A) (Turn : A → A → Type 0) (Store : A → Type 0) : Type 1 where
+  pub placed : {identifier : Words} {rs after : List A} → Placed v rs → Moved v Turn Store identifier rs after → Placed v after
+  -- what holds of every used record, of what is put over one and of a new one, holds afterwards
+  pub each :
+      (Whole : A → Type 0) → ((a b : A) → Turn a b → Whole b) → ((b : A) → Store b → Whole b) → {identifier : Words} {rs after : List A} → Placed v rs →
+      ((i : ℕ) → v .used (at v rs i) ≡ true → Whole (at v rs i)) → Moved v Turn Store identifier rs after →
+      (i : ℕ) → v .used (at v after i) ≡ true → Whole (at v after i)
+  -- the order of storing
+  pub order : {identifier : Words} {rs after : List A} → Placed v rs → Moved v Turn Store identifier rs after → Queued (names v rs) (names v after)
+  -- every other request is held as before
+  pub others :
+      {identifier : Words} {rs after : List A} → Placed v rs → Moved v Turn Store identifier rs after →
+      (other : Words) → (identifier ≡ other → ⊥) → held v other after ≡ held v other rs

@@ -1,13 +1,14 @@
--- A desk's list of places, each with a record or free, over any type of record: what both desks have in common.
+-- A desk's list of places, each with a record or free, over any type of record, and a step of it: what both desks have in common.
 use Prim.Native.Nat.{ℕ, _<_}
 use mathlib.Core.Path.{_≡_}
 use mathlib.Core.Bool.{Bool, true, false}
 use mathlib.Core.List.{List, [], _∷_, _++_}
-use lib.ListN.{getD}
+use lib.ListN.{getD, set}
 use Rattle.lists.specs.Choice.{pick}
-use Rattle.lists.specs.Lists.{both, first, count}
+use Rattle.lists.specs.Lists.{both, first, count, without}
 use Rattle.lists.specs.Words.{sameWords}
 use Rattle.lists.specs.declared.Found.{Found}
+use Rattle.lists.specs.declared.Found.the-variants.{At, Nothing}
 use Rattle.lists.specs.declared.words.Words.{Words}
 
 -- how a type of record is looked at: whether it is one, its identifier, and what a free place holds
@@ -72,3 +73,20 @@ pub data Queued : List Words → List Words → Type 0 where
   same : {xs : List Words} → Queued xs xs
   last : {xs : List Words} (x : Words) → Queued xs (xs ++ (x ∷ []))
   out : (front : List Words) (x : Words) (behind : List Words) → Queued (front ++ (x ∷ behind)) (front ++ behind)
+
+-- ---- a step about the request of one identifier: what it makes of the list
+-- `Turn` is what holds of a used record and of the one put over it, `Store` of a new one
+pub data Moved {A : Type 0} (v : View A) (Turn : A → A → Type 0) (Store : A → Type 0) (identifier : Words) (rs after : List A) : Type 0 where
+  stays : after ≡ rs → Moved v Turn Store identifier rs after
+  -- the record that has the identifier gives way to another that has it
+  turns :
+      (i : ℕ) (r : A) → v .used (at v rs i) ≡ true → v .name (at v rs i) ≡ identifier → v .used r ≡ true → v .name r ≡ identifier →
+      Turn (at v rs i) r → after ≡ set rs i r → Moved v Turn Store identifier rs after
+  -- no record has it; a new one that does is put at the first free place
+  stores :
+      (i : ℕ) (r : A) → placeIn v rs ≡ At i → meantIn v identifier rs ≡ Nothing → v .used r ≡ true → v .name r ≡ identifier →
+      Store r → after ≡ set rs i r → Moved v Turn Store identifier rs after
+  -- the record that has it is taken out
+  removes :
+      (i : ℕ) → v .used (at v rs i) ≡ true → v .name (at v rs i) ≡ identifier → after ≡ without (v .blank) rs i →
+      Moved v Turn Store identifier rs after
