@@ -1,5 +1,5 @@
-// What is put in, as a message, bytes or arrays, made an input of the desk, or refused with 1, 2 or 10: here and nowhere else. What is behind this room has ranges
-// no more.
+// The entry of the line desk: a message, bytes and raw arrays become an input here and nowhere else, or are refused with 1, 2 or 10. An inner room of the line desk:
+// its functions are no public operations.
 use desk::letter::letter_of;
 use desk::letter::number_words;
 use desk::letter::read_letter;

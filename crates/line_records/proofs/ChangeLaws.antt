@@ -22,7 +22,7 @@ use Rattle.line_table.specs.declared.record.Change.the-variants.{Stay, Put, Rem
 use Rattle.line_records.specs.Layout as Layout
 use Rattle.line_records.specs.Records.{blank, records, putRecord, removed}
 use Rattle.line_records.specs.Lines.{noLine, lines, putLine, keeps, retains}
-use Rattle.line_records.specs.Change.{activated, markPlace, marked, statusStored, withReport, applied}
+use Rattle.line_records.specs.Change.{activated, markPlace, marked, statusStored, withReport, applied, marking, recordsAfter, linesAfter}
 use Rattle.line_records.proofs.RecordsLaws.{records-length, records-put, records-drop}
 use Rattle.line_records.proofs.LinesLaws.{lines-length, lines-same, keeps-same, retains-same, settings-behind, putRow-length, putRow-behind, dropRow-length, dropRow-behind, overLine-length, overLine-behind, records-overLine, lines-put}
 
@@ -75,9 +75,6 @@ place-behind number i words l =
     let r = getD (records words) i blank in
     pick-elim (λ (v : List ℕ). drop Layout.linesAt v ≡ drop Layout.linesAt words) (marks number r) (λ t. put-behind words i (activated r) l) (λ f. refl)
 
-abbrev marking : Words → Record → Record
-marking number r = pick (marks number r) (activated r) r
-
 place-records :
     (number : Words) (i : ℕ) (words : List ℕ) → length words ≡ Layout.words →
     records (markPlace number i words) ≡ set (records words) i (marking number (getD (records words) i blank))
@@ -119,7 +116,7 @@ marked-from number (suc n) words h l =
 
 pub records-marked :
     (number : Words) (words : List ℕ) → length words ≡ Layout.words →
-    records (marked number Layout.places words) ≡ map (λ r. pick (marks number r) (activated r) r) (records words)
+    records (marked number Layout.places words) ≡ map (marking number) (records words)
 records-marked number words l =
     sym (marked-from number Layout.places words (omega arith) l
     ∙ map-done (marking number) (records (marked number Layout.places words)) Layout.places (omega (arith, records-length (marked number Layout.places words))))
@@ -168,41 +165,25 @@ applied-length words (Report k number true) l =
     marked-length number Layout.places (statusStored words k true) e ∙ e
 applied-length words (Report k number false) l = status-length words k false l ∙ l
 
-pub records-applied-put :
-    (words : List ℕ) (i : ℕ) (r : Record) → length words ≡ Layout.words → records (applied words (Put i r)) ≡ set (records words) i r
-unfolding applied
-records-applied-put words i r l = put-records words i r l
-
-pub records-applied-remove :
-    (words : List ℕ) (i : ℕ) → length words ≡ Layout.words → records (applied words (Remove i)) ≡ without blank (records words) i
-unfolding applied
-records-applied-remove words i l = removed-records words i l
-
-pub records-applied-report :
-    (words : List ℕ) (k : ℕ) (number : Words) (busy : Bool) → length words ≡ Layout.words →
-    records (applied words (Report k number busy)) ≡ pick busy (map (λ r. pick (marks number r) (activated r) r) (records words)) (records words)
+pub records-applied : (words : List ℕ) (change : Change) → length words ≡ Layout.words → records (applied words change) ≡ recordsAfter (records words) change
 unfolding applied withReport
-records-applied-report words k number true l =
+records-applied words Stay l = refl
+records-applied words (Put i r) l = put-records words i r l
+records-applied words (Remove i) l = removed-records words i l
+records-applied words (Report k number true) l =
     records-marked number (statusStored words k true) (status-length words k true l ∙ l)
     ∙ ap (map (marking number)) (status-records words k true l)
-records-applied-report words k number false l = status-records words k false l
+records-applied words (Report k number false) l = status-records words k false l
 
-pub lines-applied-put : (words : List ℕ) (i : ℕ) (r : Record) → length words ≡ Layout.words → lines (applied words (Put i r)) ≡ lines words
-unfolding applied
-lines-applied-put words i r l = lines-same (putRecord words i r) words (put-behind words i r l)
-
-pub lines-applied-remove : (words : List ℕ) (i : ℕ) → length words ≡ Layout.words → lines (applied words (Remove i)) ≡ lines words
-unfolding applied
-lines-applied-remove words i l = lines-same (removed words i) words (removed-behind words i l)
-
-pub lines-applied-report :
-    (words : List ℕ) (k : ℕ) (number : Words) (busy : Bool) → length words ≡ Layout.words →
-    lines (applied words (Report k number busy)) ≡ set (lines words) k (withStatus (getD (lines words) k noLine) busy)
+pub lines-applied : (words : List ℕ) (change : Change) → length words ≡ Layout.words → lines (applied words change) ≡ linesAfter (lines words) change
 unfolding applied withReport
-lines-applied-report words k number true l =
+lines-applied words Stay l = refl
+lines-applied words (Put i r) l = lines-same (putRecord words i r) words (put-behind words i r l)
+lines-applied words (Remove i) l = lines-same (removed words i) words (removed-behind words i l)
+lines-applied words (Report k number true) l =
     let stored = statusStored words k true in
     lines-same (marked number Layout.places stored) stored (marked-behind number Layout.places stored (status-length words k true l ∙ l)) ∙ status-lines words k true l
-lines-applied-report words k number false l = status-lines words k false l
+lines-applied words (Report k number false) l = status-lines words k false l
 
 applied-settings : (words : List ℕ) (change : Change) → length words ≡ Layout.words → drop Layout.keepsAt (applied words change) ≡ drop Layout.keepsAt words
 unfolding applied withReport
@@ -214,8 +195,8 @@ applied-settings words (Report k number true) l =
     settings-behind (marked number Layout.places stored) stored (marked-behind number Layout.places stored (status-length words k true l ∙ l)) ∙ status-settings words k true l
 applied-settings words (Report k number false) l = status-settings words k false l
 
-pub settings-applied : (words : List ℕ) (change : Change) → length words ≡ Layout.words → keeps (applied words change) ≡ keeps words
-settings-applied words change l = keeps-same (applied words change) words (applied-settings words change l)
+pub keeps-applied : (words : List ℕ) (change : Change) → length words ≡ Layout.words → keeps (applied words change) ≡ keeps words
+keeps-applied words change l = keeps-same (applied words change) words (applied-settings words change l)
 
 pub retains-applied : (words : List ℕ) (change : Change) → length words ≡ Layout.words → retains (applied words change) ≡ retains words
 retains-applied words change l = retains-same (applied words change) words (applied-settings words change l)

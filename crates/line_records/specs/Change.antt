@@ -1,13 +1,15 @@
--- What a planned change makes of the words of a line desk.
+-- What a planned change makes of the words of a line desk; and what that is for its records and its lines.
 use Prim.Native.Nat.{ℕ, zero, suc}
 use mathlib.Core.Bool.{Bool, true}
-use mathlib.Core.List.{List}
-use lib.ListN.{getD}
+use mathlib.Core.List.{List, map}
+use lib.ListN.{getD, set}
 use Rattle.lists.specs.Choice.{pick}
+use Rattle.lists.specs.Lists.{without}
 use Rattle.lists.specs.declared.words.Words.{Words}
 use Rattle.line_table.specs.Line.{withStatus}
 use Rattle.line_table.specs.Record.{moved}
 use Rattle.line_table.specs.Search.{marks}
+use Rattle.line_table.specs.declared.line.Line.{Line}
 use Rattle.line_table.specs.declared.record.Record.{Record}
 use Rattle.line_table.specs.declared.record.Change.{Change}
 use Rattle.line_table.specs.declared.record.Change.the-variants.{Stay, Put, Remove, Report}
@@ -40,3 +42,19 @@ applied words Stay = words
 applied words (Put i r) = putRecord words i r
 applied words (Remove i) = removed words i
 applied words (Report k number busy) = withReport words k number busy
+
+-- ---- the same for the records and for the lines of a desk with all its words
+abbrev pub marking : Words → Record → Record
+marking number r = pick (marks number r) (activated r) r
+
+abbrev pub recordsAfter : List Record → Change → List Record
+recordsAfter rs Stay = rs
+recordsAfter rs (Put i r) = set rs i r
+recordsAfter rs (Remove i) = without blank rs i
+recordsAfter rs (Report k number busy) = pick busy (map (marking number) rs) rs
+
+abbrev pub linesAfter : List Line → Change → List Line
+linesAfter ls Stay = ls
+linesAfter ls (Put i r) = ls
+linesAfter ls (Remove i) = ls
+linesAfter ls (Report k number busy) = set ls k (withStatus (getD ls k noLine) busy)

@@ -7,48 +7,51 @@ use native.Mathlib.Omega.{arith}
 use borrow.Author.Tests.{lt-ltb, le-ltb}
 use Rattle.lists.specs.Lists.{count}
 use Rattle.lists.proofs.Choice.{pick-elim}
-use Rattle.desk.specs.declared.letter.Letter.{Letter}
+use Rattle.terms.specs.declared.request.Names.{Names}
+use Rattle.terms.specs.declared.request.Request.{Request}
 use Rattle.places.specs.Places.{stored}
 use Rattle.places.proofs.Counting.{place-room, place-full}
 use Rattle.line_table.specs.Search.{ofLine}
-use Rattle.line_table.specs.declared.record.Plan.{Plan}
-use Rattle.line_table.specs.declared.inputs.Request.{Request}
+use Rattle.line_table.specs.declared.record.Decision.{Decision}
+use Rattle.line_table.specs.declared.record.Decision.the-variants.{Deny, Store}
+use Rattle.line_records.specs.Layout as Layout
 use Rattle.line_records.specs.Records.{records, place}
 use Rattle.line_records.proofs.RecordsLaws.{records-length}
-use Rattle.line_plan.specs.Plan.{deniedPlan, newRecord, storedPlan, countedPlan}
+use Rattle.line_plan.specs.Decide.{lineMost, countedDecision}
 use Rattle.line.specs.declared.Desk.{Desk}
 use Rattle.line_sound.specs.Sound.{lineView, Reached, Admitted}
 use Rattle.line_sound.proofs.Reaching.{reached-sound}
 
-request-taken :
-    (d : Desk) → Reached d → (l : Letter) (q : Request) (busy : Bool) →
-    count (ofLine (l .numberB)) (records (d .words)) < 5 → stored lineView (records (d .words)) < 32 →
-    countedPlan (d .words) l q busy ≡ storedPlan (stored lineView (records (d .words))) (newRecord (d .words) l q busy)
-unfolding countedPlan place
-request-taken d reached l q busy few room =
+request-accepted :
+    (d : Desk) → Reached d → (asked : Names) (q : Request) (busy : Bool) →
+    count (ofLine (asked .numberB)) (records (d .words)) < lineMost → stored lineView (records (d .words)) < Layout.places →
+    countedDecision (d .words) asked q busy ≡ Store (stored lineView (records (d .words))) q busy
+unfolding countedDecision place
+request-accepted d reached asked q busy few room =
     rw (
-      lt-ltb (count (ofLine (l .numberB)) (records (d .words))) 5 few,
-      place-room lineView (records (d .words)) 32 (reached-sound d reached .placed) (records-length (d .words)) room,
+      lt-ltb (count (ofLine (asked .numberB)) (records (d .words))) lineMost few,
+      place-room lineView (records (d .words)) Layout.places (reached-sound d reached .placed) (records-length (d .words)) room,
     )
 
 sixth-denied :
-    (d : Desk) (l : Letter) (q : Request) (busy : Bool) → 5 ≤ count (ofLine (l .numberB)) (records (d .words)) →
-    countedPlan (d .words) l q busy ≡ deniedPlan l 1
-unfolding countedPlan
-sixth-denied d l q busy many = rw (le-ltb (count (ofLine (l .numberB)) (records (d .words))) 5 many)
+    (d : Desk) (asked : Names) (q : Request) (busy : Bool) → lineMost ≤ count (ofLine (asked .numberB)) (records (d .words)) →
+    countedDecision (d .words) asked q busy ≡ Deny 1
+unfolding countedDecision
+sixth-denied d asked q busy many = rw (le-ltb (count (ofLine (asked .numberB)) (records (d .words))) lineMost many)
 
 full-denied :
-    (d : Desk) (l : Letter) (q : Request) (busy : Bool) → stored lineView (records (d .words)) ≡ 32 → countedPlan (d .words) l q busy ≡ deniedPlan l 1
-unfolding countedPlan place
-full-denied d l q busy full =
-    pick-elim (λ (plan : Plan). plan ≡ deniedPlan l 1) (ltb (count (ofLine (l .numberB)) (records (d .words))) 5)
-    (λ t. rw (place-full lineView (records (d .words)) 32 (records-length (d .words)) full))
+    (d : Desk) (asked : Names) (q : Request) (busy : Bool) → stored lineView (records (d .words)) ≡ Layout.places →
+    countedDecision (d .words) asked q busy ≡ Deny 1
+unfolding countedDecision place
+full-denied d asked q busy full =
+    pick-elim (λ (decision : Decision). decision ≡ Deny 1) (ltb (count (ofLine (asked .numberB)) (records (d .words))) lineMost)
+    (λ t. rw (place-full lineView (records (d .words)) Layout.places (records-length (d .words)) full))
     (λ f. refl)
 
 pub admitted : Admitted
 admitted =
     record {
-      taken = λ d reached l q busy few room. request-taken d reached l q busy (omega (arith, few)) (omega (arith, room));
-      sixth = λ d l q busy many. sixth-denied d l q busy (omega (arith, many));
-      thirtyThird = λ d l q busy full. full-denied d l q busy (omega (arith, full));
+      accepted = λ d reached asked q busy few room. request-accepted d reached asked q busy (omega (arith, few)) (omega (arith, room));
+      sixth = λ d asked q busy many. sixth-denied d asked q busy (omega (arith, many));
+      thirtyThird = λ d asked q busy full. full-denied d asked q busy (omega (arith, full));
     }

@@ -1,4 +1,4 @@
--- Each kind of change keeps a desk sound: a turn keeps identifier and line of its record, a store finds fewer than 5 of its line, a removal takes from one line, a report keeps numbers, identifiers and states.
+-- A step about one request keeps a desk sound, by the laws of a list of places: a record that turns keeps its terms, a new one finds fewer than 5 of its line, a removal takes from one line. So does a report: it keeps numbers, identifiers and states. The same for the order of acceptance, and for every other request.
 use Prim.Native.Nat.{ℕ, zero, suc, _≤_, _<_}
 use mathlib.Core.Path.{_≡_, refl, sym, ap, _∙_, subst}
 use mathlib.Core.Bool.{Bool, true, false}
@@ -6,124 +6,111 @@ use mathlib.Core.List.{List, [], _∷_, map}
 use lib.ListN.{length, getD, set}
 use native.Mathlib.Omega.{arith}
 use Rattle.lists.specs.Choice.{pick}
-use Rattle.lists.specs.Lists.{firstFrom, count, without}
+use Rattle.lists.specs.Lists.{firstFrom, count}
 use Rattle.lists.specs.Words.{sameWords}
-use Rattle.lists.specs.declared.Found.the-variants.{At, Nothing}
+use Rattle.lists.specs.declared.Found.the-variants.{At}
 use Rattle.lists.specs.declared.words.Words.{Words}
 use Rattle.lists.proofs.Choice.{pick-elim}
 use Rattle.lists.proofs.WordsLaws.{same-words-true}
-use Rattle.places.specs.Places.{Placed}
-use Rattle.places.proofs.Staying.{used-inside, place-inside, place-unused, set-elim, shift, at-without, at-map, put-placed, add-placed, remove-placed, change-placed}
+use Rattle.places.specs.Places as P
+use Rattle.places.specs.Places.{Placed, placeIn, held, names, Queued, Moved}
+use Rattle.places.proofs.Staying.{place-inside, place-unused, at-map, change-placed}
+use Rattle.places.proofs.Moving.{moved-placed, moved-each, moved-order, moved-others}
+use Rattle.places.proofs.Ordering.{names-change}
 use Rattle.places.proofs.Counting.{stored-filled, stored-same, stored-without, stored-change}
+use Rattle.terms.specs.declared.Terms.{Terms}
+use Rattle.line_table.specs.Inputs.{namesOf}
 use Rattle.line_table.specs.Line.{withStatus}
 use Rattle.line_table.specs.Search.{used, ofLine, marks}
 use Rattle.line_table.specs.declared.line.Line.{Line}
 use Rattle.line_table.specs.declared.record.Record.{Record}
 use Rattle.line_table.specs.declared.record.Change.{Change}
-use Rattle.line_table.specs.declared.record.Change.the-variants.{Stay, Put, Remove, Report}
+use Rattle.line_table.specs.declared.record.Change.the-variants.{Report}
+use Rattle.line_table.specs.declared.inputs.Input.{Input}
+use Rattle.line_table.specs.declared.inputs.Input.the-variants as Input
+use Rattle.line_records.specs.Layout as Layout
 use Rattle.line_records.specs.Codes.{stateOf}
-use Rattle.line_records.specs.Records.{recordOf, blank, records, meant, place}
+use Rattle.line_records.specs.Records.{recordOf, blank, records}
 use Rattle.line_records.specs.Lines.{noLine, lines, hasNumber, lineAt}
-use Rattle.line_records.specs.Change.{activated, applied}
-use Rattle.line_records.proofs.ChangeLaws.{applied-stay, applied-length, records-applied-put, records-applied-remove, records-applied-report, lines-applied-put, lines-applied-remove, lines-applied-report}
-use Rattle.line_sound.specs.Sound.{lineView, Whole, Sound}
-use Rattle.line_sound.proofs.Starting.{blank-unused, ofLineView, blank-of-line, Apart}
+use Rattle.line_records.specs.Change.{applied, marking, recordsAfter, linesAfter}
+use Rattle.line_plan.specs.Decide.{lineMost}
+use Rattle.line_records.proofs.ChangeLaws.{applied-length, records-applied, lines-applied}
+use Rattle.line_sound.specs.Sound.{lineView, Whole, Sound, NamesRequest}
+use Rattle.line_sound.proofs.Starting.{ofLineView, blank-of-line, Apart}
 
 -- ---- a desk's records and lines
 record Parts (rs : List Record) (ls : List Line) : Type 0 where
   placed : Placed lineView rs
   each : (i : ℕ) → used (getD rs i blank) ≡ true → Whole ls (getD rs i blank)
-  five : (number : Words) → count (ofLine number) rs ≤ 5
+  five : (number : Words) → count (ofLine number) rs ≤ lineMost
   apart : Apart ls
 
 parts-of : (ws : List ℕ) → Sound ws → Parts (records ws) (lines ws)
 parts-of ws sound =
     record { placed = sound .placed; each = sound .each; five = λ number. omega (arith, sound .five number); apart = sound .apart }
 
-sound-of : (ws : List ℕ) {rs : List Record} {ls : List Line} → length ws ≡ 498 → records ws ≡ rs → lines ws ≡ ls → Parts rs ls → Sound ws
+sound-of : (ws : List ℕ) {rs : List Record} {ls : List Line} → length ws ≡ Layout.words → records ws ≡ rs → lines ws ≡ ls → Parts rs ls → Sound ws
 sound-of ws full re le parts =
     let p : Parts (records ws) (lines ws) = rw (re, le) parts in
     record { full = full; placed = p .placed; each = p .each; five = λ number. omega (arith, p .five number); apart = p .apart }
 
 -- ---- whether a record is of a line
-of-line-same : (number : Words) (a b : Record) → used a ≡ used b → a .numberB ≡ b .numberB → ofLine number a ≡ ofLine number b
+of-line-same : (number : Words) (a b : Record) → used a ≡ used b → a .terms .numberB ≡ b .terms .numberB → ofLine number a ≡ ofLine number b
 of-line-same number a b u e = rw (u, e)
 
 of-line-unused : (number : Words) (r : Record) → used r ≡ false → ofLine number r ≡ false
 of-line-unused number r f = rw f
 
--- ---- a record in its place, in another state
-module _ (rs : List Record) (ls : List Line) (i : ℕ) (r : Record) (parts : Parts rs ls) (was : used (getD rs i blank) ≡ true) (is : used r ≡ true) (same : r .identifier ≡ getD rs i blank .identifier) (line : r .numberB ≡ getD rs i blank .numberB) (whole : Whole ls r) where
-  turn-parts : Parts (set rs i r) ls
-  turn-parts =
-      record {
-        placed = put-placed lineView rs i r (parts .placed) was is same;
-        each = λ a u.
-            set-elim lineView (λ x. used x ≡ true → Whole ls x) rs i a r (used-inside lineView rs i blank-unused was)
-            (λ e w. whole)
-            (λ n. parts .each a)
-            u;
-        five = λ number.
-            omega (
-              arith,
-              stored-same (ofLineView number) rs i r (of-line-same number r (getD rs i blank) (is ∙ sym was) line),
-              parts .five number,
-            );
-        apart = parts .apart;
-      }
+-- ---- a step about one request
+-- a record keeps its terms where it turns, and a new one finds fewer than 5 of its line
+pub record Turned (ls : List Line) (a b : Record) : Type 0 where
+  pub terms : b .terms ≡ a .terms
+  pub whole : Whole ls b
 
--- ---- a new record at the first place that is not used
-module _ (rs : List Record) (ls : List Line) (i : ℕ) (r : Record) (parts : Parts rs ls) (free : place rs ≡ At i) (new : meant (r .identifier) rs ≡ Nothing) (is : used r ≡ true) (few : count (ofLine (r .numberB)) rs < 5) (whole : Whole ls r) where
-  store-inside : i < length rs
-  unfolding place
-  store-inside = place-inside lineView rs i free
+pub record Added (rs : List Record) (ls : List Line) (r : Record) : Type 0 where
+  pub few : count (ofLine (r .terms .numberB)) rs < lineMost
+  pub whole : Whole ls r
 
-  store-unused : used (getD rs i blank) ≡ false
-  unfolding place
-  store-unused = place-unused lineView rs i free
+abbrev pub Moves : List Record → List Line → Words → List Record → Type 0
+Moves rs ls identifier after = Moved lineView (Turned ls) (Added rs ls) identifier rs after
 
-  store-placed : Placed lineView (set rs i r)
-  unfolding place meant
-  store-placed = add-placed lineView rs i r (parts .placed) free new is
-
-  store-five : (number : Words) → count (ofLine number) (set rs i r) ≤ 5
-  store-five number = by (sameWords (r .numberB) number) refl
+module _ (rs : List Record) (ls : List Line) (five : (number : Words) → count (ofLine number) rs ≤ lineMost) where
+  added-five :
+      (i : ℕ) (r : Record) → placeIn lineView rs ≡ At i → used r ≡ true → count (ofLine (r .terms .numberB)) rs < lineMost →
+      (number : Words) → count (ofLine number) (set rs i r) ≤ lineMost
+  added-five i r free is few number = by (sameWords (r .terms .numberB) number) refl
     where
       before : ofLine number (getD rs i blank) ≡ false
-      before = of-line-unused number (getD rs i blank) store-unused
+      before = of-line-unused number (getD rs i blank) (place-unused lineView rs i free)
 
-      by : (b : Bool) → sameWords (r .numberB) number ≡ b → count (ofLine number) (set rs i r) ≤ 5
+      by : (b : Bool) → sameWords (r .terms .numberB) number ≡ b → count (ofLine number) (set rs i r) ≤ lineMost
       by true t =
-          let fewer : count (ofLine number) rs < 5 =
-          subst (λ (n : Words). count (ofLine n) rs < 5) (same-words-true (r .numberB) number t) few in
+          let fewer : count (ofLine number) rs < lineMost =
+          subst (λ (n : Words). count (ofLine n) rs < lineMost) (same-words-true (r .terms .numberB) number t) few in
           let its : ofLine number r ≡ true = rw (is, t) in
-          omega (arith, stored-filled (ofLineView number) rs i r store-inside before its)
+          omega (arith, stored-filled (ofLineView number) rs i r (place-inside lineView rs i free) before its)
       by false f =
           let other : ofLine number r ≡ false = rw (is, f) in
-          omega (arith, stored-same (ofLineView number) rs i r (other ∙ sym before), parts .five number)
+          omega (arith, stored-same (ofLineView number) rs i r (other ∙ sym before), five number)
 
-  store-parts : Parts (set rs i r) ls
-  store-parts =
-      record {
-        placed = store-placed;
-        each = λ a u.
-            set-elim lineView (λ x. used x ≡ true → Whole ls x) rs i a r store-inside
-            (λ e w. whole)
-            (λ n. parts .each a)
-            u;
-        five = store-five;
-        apart = parts .apart;
-      }
+  moved-five : {identifier : Words} {after : List Record} → Moves rs ls identifier after → (number : Words) → count (ofLine number) after ≤ lineMost
+  moved-five (P.stays e) number = rw e (five number)
+  moved-five (P.turns i r was its is own turn e) number =
+      rw e
+      (omega (
+        arith,
+        stored-same (ofLineView number) rs i r (of-line-same number r (getD rs i blank) (is ∙ sym was) (ap (λ (t : Terms). t .numberB) (turn .terms))),
+        five number,
+      ))
+  moved-five (P.stores i r free new is own added e) number = rw e (added-five i r free is (added .few) number)
+  moved-five (P.removes i was its e) number = rw e (omega (arith, stored-without (ofLineView number) rs i (blank-of-line number), five number))
 
--- ---- a record removed
-remove-parts : (rs : List Record) (ls : List Line) (i : ℕ) → Parts rs ls → Parts (without blank rs i) ls
-remove-parts rs ls i parts =
+moved-parts : {rs : List Record} {ls : List Line} {identifier : Words} {after : List Record} → Parts rs ls → Moves rs ls identifier after → Parts after ls
+moved-parts {rs} {ls} parts moves =
     record {
-      placed = remove-placed lineView rs i (parts .placed);
-      each = λ a u.
-          let e : getD (without blank rs i) a blank ≡ getD rs (shift i a) blank = at-without lineView rs i a in
-          subst (Whole ls) (sym e) (parts .each (shift i a) (sym (ap used e) ∙ u));
-      five = λ number. omega (arith, stored-without (ofLineView number) rs i (blank-of-line number), parts .five number);
+      placed = moved-placed lineView (parts .placed) moves;
+      each = moved-each lineView (Whole ls) (λ a b turn. turn .whole) (λ r added. added .whole) (parts .placed) (parts .each) moves;
+      five = moved-five rs ls (parts .five) moves;
       apart = parts .apart;
     }
 
@@ -157,13 +144,9 @@ status-parts rs ls k busy parts =
       each = λ i u.
           let whole = parts .each i u in
           record {
-            line = λ e. whole .line (sym (line-status (getD rs i blank .numberB) ls k busy) ∙ e);
+            agreed = whole .agreed;
+            line = λ e. whole .line (sym (line-status (getD rs i blank .terms .numberB) ls k busy) ∙ e);
             suspension = whole .suspension;
-            keep = whole .keep;
-            connection = whole .connection;
-            numberA = whole .numberA;
-            numberB = whole .numberB;
-            service = whole .service;
           };
       five = parts .five;
       apart = λ a b n e.
@@ -171,17 +154,14 @@ status-parts rs ls k busy parts =
     }
 
 -- the marks of a busy report
-abbrev pub marking : Words → Record → Record
-marking number r = pick (marks number r) (activated r) r
-
 pub marking-used : (number : Words) (r : Record) → used (marking number r) ≡ used r
 marking-used number r = pick-elim (λ (x : Record). used x ≡ used r) (marks number r) (λ t. refl) (λ f. refl)
 
-pub marking-name : (number : Words) (r : Record) → marking number r .identifier ≡ r .identifier
-marking-name number r = pick-elim (λ (x : Record). x .identifier ≡ r .identifier) (marks number r) (λ t. refl) (λ f. refl)
+marking-terms : (number : Words) (r : Record) → marking number r .terms ≡ r .terms
+marking-terms number r = pick-elim (λ (x : Record). x .terms ≡ r .terms) (marks number r) (λ t. refl) (λ f. refl)
 
-marking-line : (number : Words) (r : Record) → marking number r .numberB ≡ r .numberB
-marking-line number r = pick-elim (λ (x : Record). x .numberB ≡ r .numberB) (marks number r) (λ t. refl) (λ f. refl)
+pub marking-name : (number : Words) (r : Record) → marking number r .terms .identifier ≡ r .terms .identifier
+marking-name number r = ap (λ (t : Terms). t .identifier) (marking-terms number r)
 
 marking-blank : (number : Words) → marking number blank ≡ blank
 unfolding recordOf stateOf
@@ -190,16 +170,7 @@ marking-blank number = refl
 marking-whole : (ls : List Line) (number : Words) (r : Record) → Whole ls r → Whole ls (marking number r)
 marking-whole ls number r whole =
     pick-elim (Whole ls) (marks number r)
-    (λ t.
-    record {
-      line = whole .line;
-      suspension = whole .suspension;
-      keep = whole .keep;
-      connection = whole .connection;
-      numberA = whole .numberA;
-      numberB = whole .numberB;
-      service = whole .service;
-    })
+    (λ t. record { agreed = whole .agreed; line = whole .line; suspension = whole .suspension })
     (λ f. whole)
 
 marked-parts : (number : Words) (rs : List Record) (ls : List Line) → Parts rs ls → Parts (map (marking number) rs) ls
@@ -213,7 +184,7 @@ marked-parts number rs ls parts =
       five = λ other.
           omega (
             arith,
-            stored-change (ofLineView other) rs (marking number) (λ r. of-line-same other (marking number r) r (marking-used number r) (marking-line number r)),
+            stored-change (ofLineView other) rs (marking number) (λ r. of-line-same other (marking number r) r (marking-used number r) (ap (λ (t : Terms). t .numberB) (marking-terms number r))),
             parts .five other,
           );
       apart = parts .apart;
@@ -226,30 +197,54 @@ report-parts rs ls k number busy parts =
     status-parts (pick busy (map (marking number) rs) rs) ls k busy
     (pick-elim (λ (x : List Record). Parts x ls) busy (λ t. marked-parts number rs ls parts) (λ f. parts))
 
--- ---- the five kinds, on a desk's words
-pub data Fair (ws : List ℕ) : Change → Type 0 where
-  stays : Fair ws Stay
-  turns :
-      (i : ℕ) (r : Record) → used (getD (records ws) i blank) ≡ true → used r ≡ true → r .identifier ≡ getD (records ws) i blank .identifier →
-      r .numberB ≡ getD (records ws) i blank .numberB → Whole (lines ws) r → Fair ws (Put i r)
-  stores :
-      (i : ℕ) (r : Record) → place (records ws) ≡ At i → meant (r .identifier) (records ws) ≡ Nothing → used r ≡ true →
-      count (ofLine (r .numberB)) (records ws) < 5 → Whole (lines ws) r → Fair ws (Put i r)
-  removes : (i : ℕ) → Fair ws (Remove i)
-  reports : (k : ℕ) (number : Words) (busy : Bool) → Fair ws (Report k number busy)
+-- ---- what a change makes of a desk
+pub data Goes (ws : List ℕ) : Input → Change → Type 0 where
+  -- about the request that the input names
+  named :
+      {input : Input} {c : Change} → linesAfter (lines ws) c ≡ lines ws → Moves (records ws) (lines ws) (namesOf input .identifier) (recordsAfter (records ws) c) →
+      Goes ws input c
+  -- about the request that a Look offers
+  offered :
+      {number : Words} {c : Change} (identifier : Words) → linesAfter (lines ws) c ≡ lines ws → Moves (records ws) (lines ws) identifier (recordsAfter (records ws) c) →
+      Goes ws (Input.Look number) c
+  reported : (k : ℕ) (number : Words) (busy : Bool) → Goes ws (Input.Report number busy) (Report k number busy)
 
-pub fair-sound : (ws : List ℕ) → Sound ws → {c : Change} → Fair ws c → Sound (applied ws c)
-fair-sound ws sound stays = subst Sound (sym (applied-stay ws)) sound
-fair-sound ws sound (turns i r was is same line whole) =
-    sound-of (applied ws (Put i r)) (applied-length ws (Put i r) (sound .full)) (records-applied-put ws i r (sound .full)) (lines-applied-put ws i r (sound .full))
-    (turn-parts (records ws) (lines ws) i r (parts-of ws sound) was is same line whole)
-fair-sound ws sound (stores i r free new is few whole) =
-    sound-of (applied ws (Put i r)) (applied-length ws (Put i r) (sound .full)) (records-applied-put ws i r (sound .full)) (lines-applied-put ws i r (sound .full))
-    (store-parts (records ws) (lines ws) i r (parts-of ws sound) free new is few whole)
-fair-sound ws sound (removes i) =
-    sound-of (applied ws (Remove i)) (applied-length ws (Remove i) (sound .full)) (records-applied-remove ws i (sound .full)) (lines-applied-remove ws i (sound .full))
-    (remove-parts (records ws) (lines ws) i (parts-of ws sound))
-fair-sound ws sound (reports k number busy) =
-    sound-of (applied ws (Report k number busy)) (applied-length ws (Report k number busy) (sound .full))
-    (records-applied-report ws k number busy (sound .full)) (lines-applied-report ws k number busy (sound .full))
-    (report-parts (records ws) (lines ws) k number busy (parts-of ws sound))
+module _ (ws : List ℕ) (sound : Sound ws) where
+  moves-sound :
+      (c : Change) {identifier : Words} → linesAfter (lines ws) c ≡ lines ws → Moves (records ws) (lines ws) identifier (recordsAfter (records ws) c) →
+      Sound (applied ws c)
+  moves-sound c same moves =
+      sound-of (applied ws c) (applied-length ws c (sound .full)) (records-applied ws c (sound .full)) (lines-applied ws c (sound .full) ∙ same)
+      (moved-parts (parts-of ws sound) moves)
+
+  pub goes-sound : {input : Input} {c : Change} → Goes ws input c → Sound (applied ws c)
+  goes-sound {c = c} (named same moves) = moves-sound c same moves
+  goes-sound {c = c} (offered identifier same moves) = moves-sound c same moves
+  goes-sound (reported k number busy) =
+      sound-of (applied ws (Report k number busy)) (applied-length ws (Report k number busy) (sound .full))
+      (records-applied ws (Report k number busy) (sound .full)) (lines-applied ws (Report k number busy) (sound .full))
+      (report-parts (records ws) (lines ws) k number busy (parts-of ws sound))
+
+  -- ---- the order of acceptance
+  abbrev Ordered : List Record → Type 0
+  Ordered after = Queued (names lineView (records ws)) (names lineView after)
+
+  pub goes-order : {input : Input} {c : Change} → Goes ws input c → Ordered (records (applied ws c))
+  goes-order {c = c} (named same moves) = subst Ordered (sym (records-applied ws c (sound .full))) (moved-order lineView (sound .placed) moves)
+  goes-order {c = c} (offered identifier same moves) = subst Ordered (sym (records-applied ws c (sound .full))) (moved-order lineView (sound .placed) moves)
+  goes-order (reported k number busy) =
+      subst Ordered (sym (records-applied ws (Report k number busy) (sound .full)))
+      (pick-elim Ordered busy
+      (λ t.
+      subst (Queued (names lineView (records ws)))
+      (sym (names-change lineView (records ws) (marking number) (marking-used number) (marking-name number))) P.same)
+      (λ f. P.same))
+
+  -- ---- every other request
+  pub goes-others :
+      {input : Input} {c : Change} → Goes ws input c → NamesRequest input → (other : Words) → (namesOf input .identifier ≡ other → ⊥) →
+      held lineView other (records (applied ws c)) ≡ held lineView other (records ws)
+  goes-others {c = c} (named same moves) request other n =
+      ap (held lineView other) (records-applied ws c (sound .full)) ∙ moved-others lineView (sound .placed) moves other n
+  goes-others (offered identifier same moves) request other n = absurd request
+  goes-others (reported k number busy) request other n = absurd request

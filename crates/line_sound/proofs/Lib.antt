@@ -1,10 +1,9 @@
 pub mod Refusals
 pub mod Starting
 pub mod Changes
-pub mod Plans
+pub mod Decisions
 pub mod Ranges
 pub mod Reaching
-pub mod Queue
 pub mod Admitting
 pub mod Looking
 pub mod Reporting

@@ -13,24 +13,25 @@ use Rattle.lists.specs.declared.Found.the-variants.{At, Nothing}
 use Rattle.lists.specs.declared.words.Words.{Words}
 use Rattle.lists.proofs.Choice.{no-true, pick-elim}
 use Rattle.lists.proofs.Lists.{first-holds, first-earlier, first-none}
-use Rattle.message.specs.Number.{digitsInRange}
-use Rattle.desk.specs.Letter.{numberWords}
 use Rattle.line_table.specs.Line.{canTake}
 use Rattle.line_table.specs.Record.{moved}
-use Rattle.line_table.specs.Step.{taken}
+use Rattle.line_table.specs.Step.{rowTaken}
 use Rattle.line_table.specs.Search.{blocks, fits, passes}
 use Rattle.line_table.specs.declared.table.State.the-variants.{Await}
 use Rattle.line_table.specs.declared.record.Record.{Record}
-use Rattle.line_table.specs.declared.record.Plan.{Plan}
+use Rattle.line_table.specs.declared.record.Decision.{Decision}
+use Rattle.line_table.specs.declared.record.Change.the-variants.{Put}
+use Rattle.line_table.specs.declared.inputs.Input.the-variants as Input
 use Rattle.line_table.specs.declared.search.Sought.the-variants.{Blocking, Fitting}
+use Rattle.line_records.specs.Layout as Layout
 use Rattle.line_records.specs.Codes.{stateOf}
 use Rattle.line_records.specs.Records.{recordOf, blank, records}
 use Rattle.line_records.specs.Lines.{noLine, lines, lineAt}
-use Rattle.line_records.proofs.ChangeLaws.{records-applied-put, lines-applied-put}
-use Rattle.line_plan.specs.Plan.{offerFound, offerAt, offerPlan, lookFound, lookPlan}
-use Rattle.line.specs.Steps.{stepped, looked}
+use Rattle.line_records.proofs.ChangeLaws.{records-applied, lines-applied}
+use Rattle.line_plan.specs.Decide.{offerFound, offerAt, offerDecision, lookFound, lookDecision, decided}
+use Rattle.line_plan.specs.Plan.{planOf, planFor}
+use Rattle.line.specs.Steps.{made, step}
 use Rattle.line.specs.declared.Desk.{Desk}
-use Rattle.line.specs.declared.steps.Stepped.{Stepped}
 use Rattle.line_sound.specs.Sound.{recordAt, Offered, OldestOffered}
 
 -- ---- a search
@@ -56,15 +57,15 @@ none-found p rs none = by (first p rs) refl
     by (At i) e = absurd (no-true (sym (none i) ∙ first-holds p rs i blank e))
 
 -- ---- a Look that is not refused
-module _ (d : Desk) (number : Words) (full : length (d .words) ≡ 498) where
-  abbrev Tells : Plan → Type 0
-  Tells plan = plan .outcome .refusal ≡ 0 → Offered d number (stepped d plan .desk)
+module _ (d : Desk) (number : Words) (full : length (d .words) ≡ Layout.words) where
+  abbrev Tells : Decision → Type 0
+  Tells decision = planOf (d .words) (Input.Look number) decision .outcome .refusal ≡ 0 → Offered d number (made d (planOf (d .words) (Input.Look number) decision) .desk)
 
   module _ (k : ℕ) (its : lineAt number (lines (d .words)) ≡ At k) (free : canTake (getD (lines (d .words)) k noLine) ≡ true) where
     tells-fitting :
         first (passes (Blocking number)) (records (d .words)) ≡ Nothing → (f : Found) →
-        first (passes (Fitting number)) (records (d .words)) ≡ f → Tells (offerPlan (d .words) f)
-    unfolding taken
+        first (passes (Fitting number)) (records (d .words)) ≡ f → Tells (offerDecision f)
+    unfolding planOf rowTaken
     tells-fitting unblocked Nothing e zero = absurd (omega (arith, zero))
     tells-fitting unblocked (At i) e zero =
         let r : Record = recordAt d i in
@@ -77,50 +78,45 @@ module _ (d : Desk) (number : Words) (full : length (d .words) ≡ 498) where
           unblocked = none-passes (blocks number) (records (d .words)) (blank-passes-not number .0) unblocked;
           fitting = first-holds (fits number) (records (d .words)) i blank e;
           oldest = λ j h. first-earlier (fits number) (records (d .words)) i blank e j (omega (arith, h));
-          stored = records-applied-put (d .words) i r′ full;
-          others = lines-applied-put (d .words) i r′ full;
+          stored = records-applied (d .words) (Put i r′) full;
+          others = lines-applied (d .words) (Put i r′) full;
         }
 
     tells-blocking :
-        (f : Found) → first (passes (Blocking number)) (records (d .words)) ≡ f → Tells (offerPlan (d .words) (offerFound (d .words) number f))
+        (f : Found) → first (passes (Blocking number)) (records (d .words)) ≡ f → Tells (offerDecision (offerFound (d .words) number f))
+    unfolding planOf
     tells-blocking (At i) e = λ zero. absurd (omega (arith, zero))
     tells-blocking Nothing e = tells-fitting e (first (passes (Fitting number)) (records (d .words))) refl
 
   tells-found : (f : Found) → lineAt number (lines (d .words)) ≡ f → Tells (lookFound (d .words) number f)
-  unfolding offerAt
+  unfolding planOf offerAt
   tells-found Nothing e = λ zero. absurd (omega (arith, zero))
   tells-found (At k) e =
-      pick-elim (λ (f : Found). Tells (offerPlan (d .words) f)) (canTake (getD (lines (d .words)) k noLine))
+      pick-elim (λ (f : Found). Tells (offerDecision f)) (canTake (getD (lines (d .words)) k noLine))
       (λ t. tells-blocking k e t (first (passes (Blocking number)) (records (d .words))) refl)
       (λ f zero. absurd (omega (arith, zero)))
 
-  tells-look : Tells (lookPlan (d .words) number)
-  unfolding lookPlan
-  tells-look = tells-found (lineAt number (lines (d .words))) refl
-
-look-offers :
-    (d : Desk) (digits : List ℕ) → length (d .words) ≡ 498 → looked d digits .outcome .refusal ≡ 0 → Offered d (numberWords digits) (looked d digits .desk)
-unfolding looked
-look-offers d digits full =
-    pick-elim (λ (step : Stepped). step .outcome .refusal ≡ 0 → Offered d (numberWords digits) (step .desk)) (digitsInRange 1 digits)
-    (λ t. tells-look d (numberWords digits) full)
-    (λ f zero. absurd (omega (arith, zero)))
+  look-offers : step d (Input.Look number) .outcome .refusal ≡ 0 → Offered d number (step d (Input.Look number) .desk)
+  unfolding step planFor decided lookDecision
+  look-offers = tells-found (lineAt number (lines (d .words))) refl
 
 -- ---- a Look where a record can be offered
-offer-done : (ws : List ℕ) (number : Words) (i : ℕ) → fits number (getD (records ws) i blank) ≡ true → (f : Found) → first (passes (Fitting number)) (records ws) ≡ f → offerPlan ws f .outcome .refusal ≡ 0
-unfolding taken
+offer-done :
+    (ws : List ℕ) (number : Words) (i : ℕ) → fits number (getD (records ws) i blank) ≡ true → (f : Found) →
+    first (passes (Fitting number)) (records ws) ≡ f → planOf ws (Input.Look number) (offerDecision f) .outcome .refusal ≡ 0
+unfolding planOf rowTaken
 offer-done ws number i fit (At j) e = refl
 offer-done ws number i fit Nothing e =
     absurd (no-true (sym (none-passes (fits number) (records ws) (blank-passes-not number .1) e i) ∙ fit))
 
 look-done :
-    (d : Desk) (digits : List ℕ) (k : ℕ) → digitsInRange 1 digits ≡ true → lineAt (numberWords digits) (lines (d .words)) ≡ At k →
-    canTake (getD (lines (d .words)) k noLine) ≡ true → ((j : ℕ) → blocks (numberWords digits) (recordAt d j) ≡ false) →
-    (i : ℕ) → fits (numberWords digits) (recordAt d i) ≡ true → looked d digits .outcome .refusal ≡ 0
-unfolding looked lookPlan offerAt
-look-done d digits k ranged its free unblocked i fit =
-    rw (ranged, its, free, none-found (passes (Blocking (numberWords digits))) (records (d .words)) unblocked)
-    (offer-done (d .words) (numberWords digits) i fit (first (passes (Fitting (numberWords digits))) (records (d .words))) refl)
+    (d : Desk) (number : Words) (k : ℕ) → lineAt number (lines (d .words)) ≡ At k → canTake (getD (lines (d .words)) k noLine) ≡ true →
+    ((j : ℕ) → blocks number (recordAt d j) ≡ false) → (i : ℕ) → fits number (recordAt d i) ≡ true →
+    step d (Input.Look number) .outcome .refusal ≡ 0
+unfolding step planFor decided lookDecision offerAt
+look-done d number k its free unblocked i fit =
+    rw (its, free, none-found (passes (Blocking number)) (records (d .words)) unblocked)
+    (offer-done (d .words) number i fit (first (passes (Fitting number)) (records (d .words))) refl)
 
 pub oldest-offered : OldestOffered
 oldest-offered = record { offers = look-offers; nothing = look-done }

@@ -1,17 +1,14 @@
--- What a request in range stores is in range, and a message that is read has numbers of sixteen bytes, since it was read from bytes.
-use Prim.Native.Nat.{ℕ, _+_, _-_, _/_, _%_, _≤_}
-use mathlib.Core.Path.{_≡_, _∙_, subst}
+-- What a request in range stores is in range; and a message that is read is formed, and its numbers are bytes, since it was read from bytes.
+use Prim.Native.Nat.{ℕ, _-_, _/_}
+use mathlib.Core.Path.{_≡_, subst}
 use mathlib.Core.Bool.{Bool, true}
 use mathlib.Core.List.{List}
-use lib.ListN.{length, take, drop, replicate, length-drop, length-replicate}
-use lib.Seq.{length-take-le}
-use lib.Dec.{ltb, eqb}
+use lib.ListN.{take, drop}
+use lib.Dec.{eqb}
 use native.Mathlib.Omega.{arith}
-use borrow.Author.Tests.{ltb-false}
 use Rattle.lists.specs.Words.{Bytes}
 use Rattle.lists.specs.declared.Found.the-variants.{Nothing}
-use Rattle.lists.proofs.Choice.{no-true, pick-elim, pick-else}
-use Rattle.lists.proofs.Parts.{length-over}
+use Rattle.lists.proofs.Choice.{no-true, pick-elim}
 use Rattle.lists.proofs.WordsLaws.{bytes-take, bytes-drop}
 use Rattle.message.specs.Reading.{Read, took, refused}
 use Rattle.message.specs.Number.{fieldAt}
@@ -23,15 +20,16 @@ use Rattle.message.specs.declared.Body.the-variants.{CcbsRequest, CcnrRequest, 
 use Rattle.message.specs.declared.Message.{Message}
 use Rattle.message.proofs.Reading.{never-took, then-elim}
 use Rattle.message.proofs.RangeLaws.{RequestRanged, request-ranged}
-use Rattle.reader.proofs.Within.{fields-places}
+use Rattle.writer.proofs.Claims.{read-is-written}
 use Rattle.desk.specs.Letter.{letterOf}
 use Rattle.desk.specs.declared.Connection.{Connection}
 use Rattle.desk.specs.declared.Connection.the-variants as Connection
 use Rattle.desk.specs.declared.Keep.{Keep}
 use Rattle.desk.specs.declared.Keep.the-variants as Keep
 use Rattle.desk.proofs.LetterLaws.{bytes-sixteen, number-kept}
-use Rattle.line_table.specs.Inputs.{meantBy, keepChosen, connectionChosen}
-use Rattle.line_table.specs.declared.inputs.Request.{Request}
+use Rattle.terms.specs.Request.{letterNames, canKeepSent}
+use Rattle.terms.specs.declared.request.Request.{Request}
+use Rattle.line_table.specs.Inputs.{messageFor, keepChosen, connectionChosen}
 use Rattle.line_table.specs.declared.inputs.Meant.{Meant}
 use Rattle.line_table.specs.declared.inputs.Meant.the-variants as Meant
 use Rattle.line_records.specs.Lines.{lines, lineAt, keeps, retains}
@@ -50,7 +48,7 @@ ended e = let z : _≡_ {A = ℕ} 0 1 = cc in omega arith
 
 keep-chosen : (flags : ℕ) (keeps : Bool) → KeepMade (keepChosen flags keeps)
 keep-chosen flags keeps =
-    pick-elim KeepMade (eqb (flags % 2) 1) (λ t. pick-elim KeepMade keeps (λ k. kept) (λ k. ended)) (λ f. ended)
+    pick-elim KeepMade (canKeepSent flags) (λ t. pick-elim KeepMade keeps (λ k. kept) (λ k. ended)) (λ f. ended)
 
 abbrev ConnectionMade : Connection → Type 0
 ConnectionMade connection = connection ≡ Connection.Empty → ⊥
@@ -75,7 +73,7 @@ no-request : {q : Request} → Meant.NotHere ≡ Meant.Request q → ⊥
 no-request e = let z : _≡_ {A = ℕ} 0 1 = cc in omega arith
 
 request-fields :
-    (a b : List ℕ) (body : Body) (q : Request) → meantBy body ≡ Meant.Request q → fieldsInRange a b body ≡ true →
+    (a b : List ℕ) (body : Body) (q : Request) → messageFor body ≡ Meant.Request q → fieldsInRange a b body ≡ true →
     requestInRange a b (q .service) (q .flags) ≡ true
 request-fields a b (CcbsRequest service flags) q e h =
     subst (λ (x : Request). requestInRange a b (x .service) (x .flags) ≡ true) (same-request _ q e) h
@@ -94,65 +92,52 @@ request-fields a b CallFailed q e h = absurd (no-request e)
 
 -- a new record of a line is whole
 pub request-whole :
-    (ws : List ℕ) (m : Message) → Typed m → inRange m ≡ true → (q : Request) → meantBy (letterOf m .body) ≡ Meant.Request q →
-    (busy : Bool) → (lineAt (letterOf m .numberB) (lines ws) ≡ Nothing → ⊥) → Whole (lines ws) (newRecord ws (letterOf m) q busy)
+    (ws : List ℕ) (m : Message) → Typed m → inRange m ≡ true → (q : Request) → messageFor (letterOf m .body) ≡ Meant.Request q →
+    (busy : Bool) → (lineAt (letterOf m .numberB) (lines ws) ≡ Nothing → ⊥) → Whole (lines ws) (newRecord ws (letterNames (letterOf m)) q busy)
 unfolding inRange letterOf
 request-whole ws m typed ranged q e busy line =
     let r : RequestRanged (m .numberA) (m .numberB) (q .service) (q .flags) =
     request-ranged (m .numberA) (m .numberB) (q .service) (q .flags) (request-fields (m .numberA) (m .numberB) (m .body) q e ranged) in
     record {
+      agreed = record {
+        keep = keep-chosen (q .flags) (keeps ws);
+        connection = connection-chosen (q .flags) (retains ws);
+        numberA = number-kept (m .numberA) 0 (typed .lengthA) (typed .bytesA) (r .rangeA);
+        numberB = number-kept (m .numberB) 1 (typed .lengthB) (typed .bytesB) (r .rangeB);
+        service = r .mostService;
+      };
       line = line;
       suspension = λ e. absurd (no-true e);
-      keep = keep-chosen (q .flags) (keeps ws);
-      connection = connection-chosen (q .flags) (retains ws);
-      numberA = number-kept (m .numberA) 0 (typed .lengthA) (typed .bytesA) (r .rangeA);
-      numberB = number-kept (m .numberB) 1 (typed .lengthB) (typed .bytesB) (r .rangeB);
-      service = r .mostService;
     }
 
 -- ---- a message that is read
-between-length : (s : List ℕ) (from to : ℕ) → to ≤ from + 16 → to ≤ length s → length (between s from to) ≡ 16
-between-length s from to h k =
-    let n : length (take (to - from) (drop from s)) ≡ to - from = length-take-le (to - from) (drop from s) (omega (arith, length-drop from s)) in
-    let z : length (replicate {A = ℕ} 16 0) ≡ 16 = length-replicate {A = ℕ} 16 0 in
-    length-over (take (to - from) (drop from s)) (replicate 16 0) (omega arith) ∙ z
-
 between-bytes : (s : List ℕ) (from to : ℕ) → Bytes s → Bytes (between s from to)
 between-bytes s from to b = bytes-sixteen (take (to - from) (drop from s)) (bytes-take (to - from) (drop from s) (bytes-drop from s b))
 
-identifier-behind : (s : List ℕ) (at : ℕ) (identifier : List ℕ) (next : ℕ) → identifierAt s at ≡ took identifier next → next ≤ length s
-unfolding identifierAt
-identifier-behind s at identifier next e =
-    let p = pick-else (ltb (length s) (at + 16)) (refused 1) _ _ never-took e in
-    let q = p .1 in
-    let n : at + 16 ≡ next = cc in
-    omega (arith, ltb-false (length s) (at + 16) (p .0))
+abbrev BytesRead : Read Message → Type 0
+BytesRead r = (m : Message) (n : ℕ) → r ≡ took m n → Bytes (m .numberA) × Bytes (m .numberB)
 
-abbrev TypedRead : Read Message → Type 0
-TypedRead r = (m : Message) (n : ℕ) → r ≡ took m n → Typed m
-
-not-read : (x : ℕ) → TypedRead (refused x)
+not-read : (x : ℕ) → BytesRead (refused x)
 not-read x m n e = absurd (never-took e)
 
-head-typed : (type : ℕ) (carrier : Carrier) (s : List ℕ) (at : ℕ) → Bytes s → TypedRead (behindHead type carrier s at)
+head-bytes : (type : ℕ) (carrier : Carrier) (s : List ℕ) (at : ℕ) → Bytes s → BytesRead (behindHead type carrier s at)
 unfolding behindHead
-head-typed type carrier s at b =
-    then-elim TypedRead (identifierAt s at) _ not-read (λ identifier next ei.
-    then-elim TypedRead (fieldsAt type s next) _ not-read (λ f behind ef.
+head-bytes type carrier s at b =
+    then-elim BytesRead (identifierAt s at) _ not-read (λ identifier next ei.
+    then-elim BytesRead (fieldsAt type s next) _ not-read (λ f behind ef.
     λ m n e.
     let q : messageWith carrier identifier s next f ≡ m = cc in
-    let p = fields-places type s next (identifier-behind s at identifier next ei) f behind ef in
-    rw (← q)
-    (record {
-      lengthA = between-length s next (f .behindA) (p .sixteenA) (omega (arith, p .startB, p .last, p .ends));
-      bytesA = between-bytes s next (f .behindA) b;
-      lengthB = between-length s (f .behindA) (f .behindB) (p .sixteenB) (omega (arith, p .last, p .ends));
-      bytesB = between-bytes s (f .behindA) (f .behindB) b;
-    })))
+    rw (← q) (between-bytes s next (f .behindA) b, between-bytes s (f .behindA) (f .behindB) b)))
 
-pub read-typed : (s : List ℕ) → Bytes s → TypedRead (messageAt s)
+read-bytes : (s : List ℕ) → Bytes s → BytesRead (messageAt s)
 unfolding messageAt
-read-typed s b =
-    then-elim TypedRead (fieldAt s 0 1 12) _ not-read (λ type next et.
-    then-elim TypedRead (fieldAt s next 1 5) _ not-read (λ number behind en.
-    head-typed type (carrierOf number) s behind b))
+read-bytes s b =
+    then-elim BytesRead (fieldAt s 0 1 12) _ not-read (λ type next et.
+    then-elim BytesRead (fieldAt s next 1 5) _ not-read (λ number behind en.
+    head-bytes type (carrierOf number) s behind b))
+
+pub read-typed : (s : List ℕ) → Bytes s → (m : Message) (n : ℕ) → messageAt s ≡ took m n → Typed m
+read-typed s b m n e =
+    let formed = read-is-written s m n b e .formed in
+    let bytes = read-bytes s b m n e in
+    record { lengthA = formed .numberA; bytesA = bytes .0; lengthB = formed .numberB; bytesB = bytes .1 }

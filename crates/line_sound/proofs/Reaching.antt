@@ -1,106 +1,124 @@
--- Every step of a sound desk applies a fair change: that of its plan, or none where it is refused before. So every reached desk is sound.
+-- A fair input is decided well, so its step is about one request, or a report: every reached desk is sound, its records stand in the order of acceptance, and a step leaves every other request as it was.
 use Prim.Native.Nat.{ℕ}
-use mathlib.Core.Path.{_≡_, refl, sym, subst}
-use mathlib.Core.Bool.{Bool}
+use mathlib.Core.Path.{_≡_, refl, subst}
+use mathlib.Core.Bool.{Bool, true, false}
 use mathlib.Core.List.{List}
-use Rattle.lists.specs.Words.{Bytes, wordsOf}
-use Rattle.lists.proofs.Choice.{pick-elim}
+use native.Mathlib.Omega.{arith}
+use Rattle.lists.specs.Choice.{pick}
+use Rattle.lists.specs.Words.{Bytes}
 use Rattle.message.specs.Reading.{Read, took, refused}
-use Rattle.message.specs.Number.{digitsInRange}
 use Rattle.message.specs.Format.{inRange}
 use Rattle.message.specs.Wire.{messageAt}
 use Rattle.message.specs.declared.Message.{Message}
-use Rattle.desk.specs.Letter.{letterOf, numberWords}
+use Rattle.desk.specs.Letter.{letterOf}
+use Rattle.places.specs.Places.{same}
 use Rattle.places.proofs.Counting.{stored-most}
-use Rattle.line_table.specs.declared.record.Change.{Change}
-use Rattle.line_table.specs.declared.record.Change.the-variants.{Stay}
-use Rattle.line_table.specs.declared.record.Plan.{Plan}
-use Rattle.line_table.specs.declared.inputs.Act.{Act}
+use Rattle.line_table.specs.Inputs.{rowOfAct}
+use Rattle.line_table.specs.declared.table.Row.the-variants.{GuardRunsOut}
+use Rattle.line_table.specs.declared.inputs.Input.{Input}
+use Rattle.line_table.specs.declared.inputs.Input.the-variants as Input
+use Rattle.line_records.specs.Layout as Layout
 use Rattle.line_records.specs.Records.{records}
-use Rattle.line_records.specs.Change.{applied}
 use Rattle.line_records.proofs.RecordsLaws.{records-length}
-use Rattle.line_plan.specs.Plan.{messagePlan, actPlan, guardPlan, lookPlan, reportPlan}
-use Rattle.line.specs.Steps.{stepped, received, receivedBytes, lineReported, looked, acted, guardReported, readStep}
+use Rattle.line_plan.specs.Decide.{decided}
+use Rattle.line_plan.specs.Plan.{planFor}
+use Rattle.line.specs.Entry.{messageEntry, readEntry, bytesEntry}
+use Rattle.line.specs.Steps.{step, entered, received, receivedBytes}
 use Rattle.line.specs.declared.Desk.{Desk}
-use Rattle.line.specs.declared.steps.Stepped.{Stepped}
+use Rattle.line.specs.declared.entry.Entry.{Entry}
+use Rattle.line.specs.declared.entry.Entry.the-variants.{Refused, Given}
 use Rattle.line_sound.specs.Sound as S
-use Rattle.line_sound.specs.Sound.{lineView, Sound, Typed, Reached, ReachedSound, ReachedMost}
+use Rattle.line_sound.specs.Sound.{lineView, Sound, Typed, Fair, hears, acts, guards, reports, looks, Reached, ReachedSound, ReachedMost, InOrder, OrderOfAcceptance, OthersHeld}
 use Rattle.line_sound.proofs.Starting.{start-sound}
-use Rattle.line_sound.proofs.Changes.{Fair, stays, fair-sound}
-use Rattle.line_sound.proofs.Plans.{fair-message, fair-act, fair-guard, fair-look, fair-report}
+use Rattle.line_sound.proofs.Changes.{Goes, goes-sound, goes-order, goes-others}
+use Rattle.line_sound.proofs.Decisions.{Good, goes-plan, good-own, good-report, good-look, good-message}
 use Rattle.line_sound.proofs.Ranges.{request-whole, read-typed}
 
--- a step of a desk: the change that it applies
-pub record FairStep (before after : Desk) : Type 0 where
-  pub change : Change
-  pub fair : Fair (before .words) change
-  pub words : after .words ≡ applied (before .words) change
+-- ---- a fair input is decided well
+good-entry : (ws : List ℕ) (m : Message) → Typed m → (b : Bool) → inRange m ≡ b → {input : Input} → pick b (Given (Input.Message (letterOf m))) (Refused 2) ≡ Given input → Good ws input (decided ws input)
+unfolding decided
+good-entry ws m typed true ranged {input} e =
+    let same : Input.Message (letterOf m) ≡ input = cc in
+    subst (λ (x : Input). Good ws x (decided ws x)) same (good-message ws (letterOf m) (request-whole ws m typed ranged))
+good-entry ws m typed false ranged e = absurd (let z : _≡_ {A = ℕ} 0 1 = cc in omega arith)
 
-no-step : (d : Desk) → FairStep d d
-unfolding applied
-no-step d = record { change = Stay; fair = stays; words = refl }
+good-input : (ws : List ℕ) {input : Input} → Fair input → Good ws input (decided ws input)
+unfolding decided messageEntry
+good-input ws (hears m typed e) = good-entry ws m typed (inRange m) refl e
+good-input ws (acts identifier act) = good-own ws (Input.Act identifier act) (rowOfAct act)
+good-input ws (guards identifier) = good-own ws (Input.Guard identifier) GuardRunsOut
+good-input ws (reports number busy) = good-report ws number busy
+good-input ws (looks number) = good-look ws number
 
-fair-plan : (d : Desk) (plan : Plan) → Fair (d .words) (plan .change) → FairStep d (stepped d plan .desk)
-fair-plan d plan fair = record { change = plan .change; fair = fair; words = refl }
+-- ---- a step
+step-goes : (d : Desk) → Sound (d .words) → {input : Input} → Fair input → Goes (d .words) input (planFor (d .words) input .change)
+unfolding planFor
+step-goes d sound fair = goes-plan (d .words) sound (good-input (d .words) fair)
 
-module _ (d : Desk) (sound : Sound (d .words)) where
-  abbrev Goes : Stepped → Type 0
-  Goes step = FairStep d (step .desk)
+sound-step : (d : Desk) → Sound (d .words) → {input : Input} → Fair input → Sound (step d input .desk .words)
+unfolding step
+sound-step d sound fair = goes-sound (d .words) sound (step-goes d sound fair)
 
-  pub fair-received : (m : Message) → Typed m → FairStep d (received d m .desk)
-  unfolding received
-  fair-received m typed =
-      pick-elim Goes (inRange m)
-      (λ h.
-      fair-plan d (messagePlan (d .words) (letterOf m)) (fair-message (d .words) sound (letterOf m) (request-whole (d .words) m typed h)))
-      (λ h. no-step d)
+-- ---- what comes in at the entry: a fair input, or a refusal that leaves the desk
+abbrev pub FairEntry : Entry → Type 0
+FairEntry entry = (input : Input) → entry ≡ Given input → Fair input
 
-  fair-read : (r : Read Message) → ((m : Message) (n : ℕ) → r ≡ took m n → Typed m) → FairStep d (readStep d r .desk)
-  fair-read (took m next) typed = fair-received m (typed m next refl)
-  fair-read (refused number) typed = no-step d
+read-fair : (r : Read Message) → ((m : Message) (n : ℕ) → r ≡ took m n → Typed m) → FairEntry (readEntry r .entry)
+read-fair (took m next) typed = λ input e. hears m (typed m next refl) e
+read-fair (refused number) typed = λ input e. absurd (let z : _≡_ {A = ℕ} 0 1 = cc in omega arith)
 
-  pub fair-bytes : (bytes : List ℕ) → Bytes bytes → FairStep d (receivedBytes d bytes .desk)
-  unfolding receivedBytes
-  fair-bytes bytes b = fair-read (messageAt bytes) (read-typed bytes b)
+pub bytes-fair : (bytes : List ℕ) → Bytes bytes → FairEntry (bytesEntry bytes .entry)
+unfolding bytesEntry
+bytes-fair bytes b = read-fair (messageAt bytes) (read-typed bytes b)
 
-  pub fair-reported : (digits : List ℕ) (busy : Bool) → FairStep d (lineReported d digits busy .desk)
-  unfolding lineReported
-  fair-reported digits busy =
-      pick-elim Goes (digitsInRange 1 digits)
-      (λ h. fair-plan d (reportPlan (d .words) (numberWords digits) busy) (fair-report (d .words) sound (numberWords digits) busy))
-      (λ h. no-step d)
-
-  pub fair-looked : (digits : List ℕ) → FairStep d (looked d digits .desk)
-  unfolding looked
-  fair-looked digits =
-      pick-elim Goes (digitsInRange 1 digits)
-      (λ h. fair-plan d (lookPlan (d .words) (numberWords digits)) (fair-look (d .words) sound (numberWords digits)))
-      (λ h. no-step d)
-
-  pub fair-acted : (identifier : List ℕ) (act : Act) → FairStep d (acted d identifier act .desk)
-  unfolding acted
-  fair-acted identifier act =
-      fair-plan d (actPlan (d .words) (wordsOf identifier) act) (fair-act (d .words) sound (wordsOf identifier) act)
-
-  pub fair-guarded : (identifier : List ℕ) → FairStep d (guardReported d identifier .desk)
-  unfolding guardReported
-  fair-guarded identifier = fair-plan d (guardPlan (d .words) (wordsOf identifier)) (fair-guard (d .words) sound (wordsOf identifier))
+sound-entered : (d : Desk) → Sound (d .words) → (entry : Entry) → FairEntry entry → Sound (entered d entry .desk .words)
+unfolding entered
+sound-entered d sound (Refused number) fair = sound
+sound-entered d sound (Given input) fair = sound-step d sound (fair input refl)
 
 -- ---- every reached desk
-sound-step : {before after : Desk} → Sound (before .words) → FairStep before after → Sound (after .words)
-sound-step {before} sound step = subst Sound (sym (step .words)) (fair-sound (before .words) sound (step .fair))
-
 sound-reached : {d : Desk} → Reached d → Sound (d .words)
+unfolding receivedBytes
 sound-reached (S.starts given keep retain b) = start-sound given keep retain
-sound-reached (S.hears {d} m typed r) = let sound = sound-reached r in sound-step sound (fair-received d sound m typed)
-sound-reached (S.reads {d} bytes b r) = let sound = sound-reached r in sound-step sound (fair-bytes d sound bytes b)
-sound-reached (S.reports {d} digits busy r) = let sound = sound-reached r in sound-step sound (fair-reported d sound digits busy)
-sound-reached (S.looks {d} digits r) = let sound = sound-reached r in sound-step sound (fair-looked d sound digits)
-sound-reached (S.acts {d} identifier act r) = let sound = sound-reached r in sound-step sound (fair-acted d sound identifier act)
-sound-reached (S.guards {d} identifier r) = let sound = sound-reached r in sound-step sound (fair-guarded d sound identifier)
+sound-reached (S.steps {d} fair r) = sound-step d (sound-reached r) fair
+sound-reached (S.reads {d} bytes b r) = sound-entered d (sound-reached r) (bytesEntry bytes .entry) (bytes-fair bytes b)
 
 pub reached-sound : ReachedSound
 reached-sound d r = sound-reached r
 
 pub reached-most : ReachedMost
-reached-most d r = stored-most lineView (records (d .words)) 32 (records-length (d .words))
+reached-most d r = stored-most lineView (records (d .words)) Layout.places (records-length (d .words))
+
+-- what a reached desk's step is about
+pub reached-goes : (d : Desk) → Reached d → {input : Input} → Fair input → Goes (d .words) input (planFor (d .words) input .change)
+reached-goes d reached fair = step-goes d (reached-sound d reached) fair
+
+-- a desk that is reached, after what comes in at the entry
+pub reached-entered : (d : Desk) → Reached d → (entry : Entry) → FairEntry entry → Reached (entered d entry .desk)
+unfolding entered
+reached-entered d reached (Refused number) fair = reached
+reached-entered d reached (Given input) fair = S.steps (fair input refl) reached
+
+pub reached-received : (d : Desk) → Reached d → (m : Message) → Typed m → Reached (received d m .desk)
+reached-received d reached m typed = reached-entered d reached (messageEntry m) (λ input e. hears m typed e)
+
+-- ---- the order of acceptance, and every other request
+step-order : (d : Desk) → Reached d → {input : Input} → Fair input → InOrder d (step d input .desk)
+unfolding step
+step-order d reached fair = goes-order (d .words) (reached-sound d reached) (reached-goes d reached fair)
+
+entered-order : (d : Desk) → Reached d → (entry : Entry) → FairEntry entry → InOrder d (entered d entry .desk)
+unfolding entered
+entered-order d reached (Refused number) fair = same
+entered-order d reached (Given input) fair = step-order d reached (fair input refl)
+
+bytes-order : (d : Desk) → Reached d → (bytes : List ℕ) → Bytes bytes → InOrder d (receivedBytes d bytes .desk)
+unfolding receivedBytes
+bytes-order d reached bytes b = entered-order d reached (bytesEntry bytes .entry) (bytes-fair bytes b)
+
+pub order-of-acceptance : OrderOfAcceptance
+order-of-acceptance = record { steps = λ d reached input fair. step-order d reached fair; bytes = bytes-order }
+
+pub others-held : OthersHeld
+unfolding step
+others-held d reached input fair request other n = goes-others (d .words) (reached-sound d reached) (reached-goes d reached fair) request other n

@@ -24,11 +24,13 @@ use Rattle.places.proofs.Counting.{stored-none}
 use Rattle.line_table.specs.Search.{used, ofLine}
 use Rattle.line_table.specs.declared.line.Line.{Line}
 use Rattle.line_table.specs.declared.record.Record.{Record}
+use Rattle.terms.specs.Terms.{termsOf}
+use Rattle.line_records.specs.Layout as Layout
 use Rattle.line_records.specs.Codes.{stateOf}
 use Rattle.line_records.specs.Records.{recordOf, blank, records}
 use Rattle.line_records.specs.Lines.{lineOf, noLine, lines, hasNumber, lineAt, putLine, withSettings}
 use Rattle.line_records.proofs.LinesLaws.{lines-length, overLine-length, records-overLine, lines-put}
-use Rattle.line.specs.Start.{absent, lineGiven, goodLine, lineTaken, Lines, takeLines, startedBy, started}
+use Rattle.line.specs.Start.{kindsAt, givenWidth, absent, lineGiven, goodLine, lineTaken, Lines, takeLines, startedBy, started}
 use Rattle.line.specs.declared.steps.Stepped.{Stepped}
 use Rattle.line_sound.specs.Sound.{lineView, Sound}
 
@@ -39,7 +41,7 @@ blank-unused = refl
 
 -- the records of one line, as records that are used
 abbrev pub ofLineView : Words → View Record
-ofLineView number = record { used = ofLine number; name = λ r. r .identifier; blank = blank }
+ofLineView number = record { used = ofLine number; name = λ r. r .terms .identifier; blank = blank }
 
 pub blank-of-line : (number : Words) → ofLine number blank ≡ false
 unfolding recordOf stateOf
@@ -87,7 +89,7 @@ module _ (ls : List Line) (k : ℕ) (line : Line) (inside : k < length ls) (apar
 
 -- ---- a desk without records
 record Started (ws : List ℕ) : Type 0 where
-  full : length ws ≡ 498
+  full : length ws ≡ Layout.words
   free : (i : ℕ) → getD (records ws) i blank ≡ blank
   apart : Apart (lines ws)
 
@@ -108,51 +110,51 @@ replicate-at zero x i = refl
 replicate-at (suc n) x zero = refl
 replicate-at (suc n) x (suc i) = replicate-at n x i
 
-all-blank : (ws : List ℕ) → length ws ≡ 498 → records ws ≡ replicate 32 blank → lines ws ≡ replicate 16 noLine → Started ws
+all-blank : (ws : List ℕ) → length ws ≡ Layout.words → records ws ≡ replicate Layout.places blank → lines ws ≡ replicate Layout.linePlaces noLine → Started ws
 all-blank ws full rs ls =
     record {
       full = full;
-      free = λ i. ap (λ (x : List Record). getD x i blank) rs ∙ replicate-at 32 blank i;
+      free = λ i. ap (λ (x : List Record). getD x i blank) rs ∙ replicate-at Layout.places blank i;
       apart = λ k m n e.
           absurd
           (n
-          (ap (λ (x : List Line). getD x k noLine .number) ls ∙ ap (λ (line : Line). line .number) (replicate-at 16 noLine k) ∙ no-line-number));
+          (ap (λ (x : List Line). getD x k noLine .number) ls ∙ ap (λ (line : Line). line .number) (replicate-at Layout.linePlaces noLine k) ∙ no-line-number));
     }
 
-zeros-records : records (replicate 498 0) ≡ replicate 32 blank
-unfolding records rows recordOf
+zeros-records : records (replicate Layout.words 0) ≡ replicate Layout.places blank
+unfolding records rows recordOf termsOf
 zeros-records = refl
 
-zeros-lines : lines (replicate 498 0) ≡ replicate 16 noLine
+zeros-lines : lines (replicate Layout.words 0) ≡ replicate Layout.linePlaces noLine
 unfolding lines rows lineOf
 zeros-lines = refl
 
-zeros-started : Started (replicate 498 0)
-zeros-started = all-blank (replicate 498 0) (length-replicate {A = ℕ} 498 0) zeros-records zeros-lines
+zeros-started : Started (replicate Layout.words 0)
+zeros-started = all-blank (replicate Layout.words 0) (length-replicate {A = ℕ} Layout.words 0) zeros-records zeros-lines
 
-settings-length : (keep retain : Bool) → length (withSettings (replicate 498 0) keep retain) ≡ 498
+settings-length : (keep retain : Bool) → length (withSettings (replicate Layout.words 0) keep retain) ≡ Layout.words
 unfolding withSettings
 settings-length keep retain = refl
 
-settings-records : (keep retain : Bool) → records (withSettings (replicate 498 0) keep retain) ≡ replicate 32 blank
-unfolding withSettings records rows recordOf
+settings-records : (keep retain : Bool) → records (withSettings (replicate Layout.words 0) keep retain) ≡ replicate Layout.places blank
+unfolding withSettings records rows recordOf termsOf
 settings-records keep retain = refl
 
-settings-lines : (keep retain : Bool) → lines (withSettings (replicate 498 0) keep retain) ≡ replicate 16 noLine
+settings-lines : (keep retain : Bool) → lines (withSettings (replicate Layout.words 0) keep retain) ≡ replicate Layout.linePlaces noLine
 unfolding withSettings lines rows lineOf
 settings-lines keep retain = refl
 
-settings-started : (keep retain : Bool) → Started (withSettings (replicate 498 0) keep retain)
+settings-started : (keep retain : Bool) → Started (withSettings (replicate Layout.words 0) keep retain)
 settings-started keep retain =
-    all-blank (withSettings (replicate 498 0) keep retain) (settings-length keep retain) (settings-records keep retain) (settings-lines keep retain)
+    all-blank (withSettings (replicate Layout.words 0) keep retain) (settings-length keep retain) (settings-records keep retain) (settings-lines keep retain)
 
 -- ---- one line after the other
 put-started : (ws : List ℕ) (k : ℕ) (line : Line) → Started ws → lineAt (line .number) (lines ws) ≡ Nothing → Started (putLine ws k line)
 unfolding putLine
 put-started ws k line s new =
-    pick-elim Started (ltb k 16)
+    pick-elim Started (ltb k Layout.linePlaces)
     (λ t.
-    let h : k < 16 = ltb-true k 16 t in
+    let h : k < Layout.linePlaces = ltb-true k Layout.linePlaces t in
     record {
       full = overLine-length ws k line h (s .full) ∙ s .full;
       free = λ i. ap (λ (rs : List Record). getD rs i blank) (records-overLine ws k line h (s .full)) ∙ s .free i;
@@ -187,20 +189,20 @@ lines-made : (left k : ℕ) (bytes ws : List ℕ) → Started ws → Made (takeL
 unfolding takeLines
 lines-made zero k bytes ws s = s
 lines-made (suc left) k bytes ws s =
-    pick-elim Made (goodLine ws (take 16 bytes) (getD bytes 16 0))
+    pick-elim Made (goodLine ws (take kindsAt bytes) (getD bytes kindsAt 0))
     (λ t.
-    lines-made left (suc k) (drop 17 bytes) (lineTaken ws k (take 16 bytes) (getD bytes 16 0))
-    (taken-started ws k (take 16 bytes) (getD bytes 16 0) s))
+    lines-made left (suc k) (drop givenWidth bytes) (lineTaken ws k (take kindsAt bytes) (getD bytes kindsAt 0))
+    (taken-started ws k (take kindsAt bytes) (getD bytes kindsAt 0) s))
     (λ f. zeros-started)
 
 started-made : (given : List ℕ) (keep retain : Bool) → Started (started given keep retain .desk .words)
 unfolding started
 started-made given keep retain =
-    pick-elim (λ (step : Stepped). Started (step .desk .words)) (leb (length given / 17) 16)
+    pick-elim (λ (step : Stepped). Started (step .desk .words)) (leb (length given / givenWidth) Layout.linePlaces)
     (λ h.
-    pick-elim (λ (step : Stepped). Started (step .desk .words)) (eqb (length given / 17 * 17) (length given))
+    pick-elim (λ (step : Stepped). Started (step .desk .words)) (eqb (length given / givenWidth * givenWidth) (length given))
     (λ g.
-    lines-made (length given / 17) 0 given (withSettings (replicate 498 0) keep retain) (settings-started keep retain))
+    lines-made (length given / givenWidth) 0 given (withSettings (replicate Layout.words 0) keep retain) (settings-started keep retain))
     (λ g. zeros-started))
     (λ h. zeros-started)
 

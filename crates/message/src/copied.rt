@@ -1,4 +1,5 @@
-// Bytes of a slice kept in sixteen places. An inner room: for those who read a number of digits or an identifier out of longer bytes.
+// Bytes of a slice kept in sixteen places, for those who read a number of digits or an identifier out of longer bytes. An inner room: its functions are no public
+// operations.
 ghost use mathlib.Core.Path.{_≡_};
 ghost use Prim.Native.Nat.{_≤_, _+_, _-_, min};
 ghost use lib.ListN.{length, take, drop};

@@ -1,0 +1,274 @@
+-- What is decided is good for the desk: a row is taken for the record that is named, or that fits a Look; a request is stored at the first free place, under a new identifier, if its line has fewer than 5. And a good decision's plan is about one request, or a report: no row changes the terms or leads to Free, and only Await is suspended.
+use Prim.Native.Nat.{ℕ, _<_}
+use mathlib.Core.Path.{_≡_, refl, sym, _∙_}
+use mathlib.Core.Bool.{Bool, true, false}
+use mathlib.Core.List.{List}
+use lib.ListN.{getD}
+use lib.Dec.{ltb}
+use native.Mathlib.Omega.{arith}
+use borrow.Author.Tests.{ltb-true}
+use Rattle.lists.specs.Lists.{both, first, count}
+use Rattle.lists.specs.Words.{sameWords}
+use Rattle.lists.specs.declared.Found.{Found}
+use Rattle.lists.specs.declared.Found.the-variants.{At, Nothing}
+use Rattle.lists.specs.declared.words.Words.{Words}
+use Rattle.lists.proofs.Choice.{no-true, pick-elim}
+use Rattle.lists.proofs.Lists.{both-parts, first-holds, first-none}
+use Rattle.lists.proofs.WordsLaws.{words-same}
+use Rattle.desk.specs.Carriers.{carrierFits}
+use Rattle.desk.specs.declared.Connection.the-variants as Connection
+use Rattle.desk.specs.declared.letter.Letter.{Letter}
+use Rattle.desk.specs.declared.sends.Sends.{Sends}
+use Rattle.terms.specs.Request.{letterNames}
+use Rattle.terms.specs.declared.request.Names.{Names}
+use Rattle.terms.specs.declared.request.Request.{Request}
+use Rattle.places.specs.Places as P
+use Rattle.places.proofs.Staying.{used-inside}
+use Rattle.places.proofs.Holding.{meant-its}
+use Rattle.line_table.specs.Line.{allows, canTake}
+use Rattle.line_table.specs.Record.{moved}
+use Rattle.line_table.specs.Step.{rowTaken}
+use Rattle.line_table.specs.Inputs.{namesOf, messageFor, rowFor}
+use Rattle.line_table.specs.Search.{inUse, used, invoked, ofLine, marks, fitsKind, fits, passes}
+use Rattle.line_table.specs.declared.table.State.{State}
+use Rattle.line_table.specs.declared.table.State.the-variants.{Free, Invoked, Await, Alert}
+use Rattle.line_table.specs.declared.table.Row.{Row}
+use Rattle.line_table.specs.declared.table.Row.the-variants.{Offers, Suspends, Resumes, RingsOut, BusyAgainKept, BusyAgainEnded, Alerts, CallFails, ClerkCancels, LineCancels, GuardRunsOut}
+use Rattle.line_table.specs.declared.line.Line.{Line}
+use Rattle.line_table.specs.declared.record.Record.{Record}
+use Rattle.line_table.specs.declared.record.Decision.{Decision}
+use Rattle.line_table.specs.declared.record.Decision.the-variants.{Refuse, Deny, Take, Store, Report}
+use Rattle.line_table.specs.declared.record.Change.{Change}
+use Rattle.line_table.specs.declared.record.Change.the-variants.{Put, Remove}
+use Rattle.line_table.specs.declared.inputs.Input.{Input}
+use Rattle.line_table.specs.declared.inputs.Input.the-variants as Input
+use Rattle.line_table.specs.declared.inputs.RecordMessage.{RecordMessage}
+use Rattle.line_table.specs.declared.inputs.Meant.{Meant}
+use Rattle.line_table.specs.declared.inputs.Meant.the-variants as Meant
+use Rattle.line_table.specs.declared.search.Sought.the-variants.{Blocking, Fitting, Duplicate}
+use Rattle.line_records.specs.Records.{blank, records, meant, place}
+use Rattle.line_records.specs.Lines.{noLine, lines, lineAt}
+use Rattle.line_records.specs.Change.{recordsAfter, linesAfter}
+use Rattle.line_plan.specs.Decide.{lineMost, holdsFor, takesCall, rowDecision, recordFound, recordDecision, storeFound, countedDecision, duplicateFound, admittedDecision, lineFound, requestDecision, meantDecision, messageDecision, ownFound, ownDecision, reportFound, reportDecision, offerFound, offerAt, offerDecision, lookFound, lookDecision}
+use Rattle.line_plan.specs.Plan.{newRecord, planOf}
+use Rattle.line_sound.specs.Sound.{lineView, Whole, Sound}
+use Rattle.line_sound.proofs.Starting.{blank-unused}
+use Rattle.line_sound.proofs.Changes.{Moves, Goes, named, offered, reported}
+
+-- ---- a decision that is good for a desk
+pub data Good (ws : List ℕ) : Input → Decision → Type 0 where
+  refuses : {input : Input} {number : ℕ} {reply : Sends} → Good ws input (Refuse number reply)
+  denies : {input : Input} {error : ℕ} → Good ws input (Deny error)
+  takes :
+      {input : Input} (i : ℕ) (row : Row) → used (getD (records ws) i blank) ≡ true → getD (records ws) i blank .terms .identifier ≡ namesOf input .identifier →
+      Good ws input (Take i row)
+  offers : {number : Words} (i : ℕ) → used (getD (records ws) i blank) ≡ true → Good ws (Input.Look number) (Take i Offers)
+  stores :
+      {input : Input} (i : ℕ) (q : Request) (busy : Bool) → place (records ws) ≡ At i → meant (namesOf input .identifier) (records ws) ≡ Nothing →
+      count (ofLine (namesOf input .numberB)) (records ws) < lineMost → Whole (lines ws) (newRecord ws (namesOf input) q busy) →
+      Good ws input (Store i q busy)
+  reports : {number : Words} {busy : Bool} (k : ℕ) → Good ws (Input.Report number busy) (Report k busy)
+
+-- ---- its plan
+module _ (ws : List ℕ) (sound : Sound ws) where
+  -- a change about the request of an identifier, which leaves the lines
+  record Turns (identifier : Words) (c : Change) : Type 0 where
+    lines-same : linesAfter (lines ws) c ≡ lines ws
+    moves : Moves (records ws) (lines ws) identifier (recordsAfter (records ws) c)
+
+  module _ (i : ℕ) (identifier : Words) (u : used (getD (records ws) i blank) ≡ true) (own : getD (records ws) i blank .terms .identifier ≡ identifier) where
+    abbrev its : Record
+    its = getD (records ws) i blank
+
+    turn : (s : State) (active suspended : Bool) → inUse s ≡ true → (suspended ≡ true → s ≡ Await) → Turns identifier (Put i (moved its s active suspended))
+    turn s active suspended is suspension =
+        let whole = sound .each i u in
+        record {
+          lines-same = refl;
+          moves =
+              P.turns i (moved its s active suspended) u own is own
+              (record { terms = refl; whole = record { agreed = whole .agreed; line = whole .line; suspension = suspension } })
+              refl;
+        }
+
+    remove : Turns identifier (Remove i)
+    remove = record { lines-same = refl; moves = P.removes i u own refl }
+
+    turn-row : (row : Row) → Turns identifier (rowTaken i its row .change)
+    unfolding rowTaken
+    turn-row Offers = turn Await (its .active) (its .suspended) refl (λ e. refl)
+    turn-row Suspends = turn Await (its .active) true refl (λ e. refl)
+    turn-row Resumes = turn Invoked (its .active) false refl (λ e. absurd (no-true e))
+    turn-row RingsOut = turn Alert (its .active) false refl (λ e. absurd (no-true e))
+    turn-row BusyAgainKept = turn Invoked true false refl (λ e. absurd (no-true e))
+    turn-row BusyAgainEnded = remove
+    turn-row Alerts = remove
+    turn-row CallFails = remove
+    turn-row ClerkCancels = remove
+    turn-row LineCancels = remove
+    turn-row GuardRunsOut = remove
+
+  pub goes-plan : {input : Input} {decision : Decision} → Good ws input decision → Goes ws input (planOf ws input decision .change)
+  unfolding planOf place meant
+  goes-plan refuses = named refl (P.stays refl)
+  goes-plan denies = named refl (P.stays refl)
+  goes-plan {input} (takes i row u own) = let t = turn-row i (namesOf input .identifier) u own row in named (t .lines-same) (t .moves)
+  goes-plan (offers i u) =
+      let identifier : Words = getD (records ws) i blank .terms .identifier in
+      let t = turn-row i identifier u refl Offers in
+      offered identifier (t .lines-same) (t .moves)
+  goes-plan {input} (stores i q busy free new few whole) =
+      named refl (P.stores i (newRecord ws (namesOf input) q busy) free new refl refl (record { few = few; whole = whole }) refl)
+  goes-plan {input = Input.Report number busy} (reports k) = reported k number busy
+
+-- ---- what is found is used, and is the one that was meant
+meant-own : (rs : List Record) (identifier : Words) (i : ℕ) → meant identifier rs ≡ At i → (used (getD rs i blank) ≡ true) × (getD rs i blank .terms .identifier ≡ identifier)
+unfolding meant
+meant-own rs identifier i e = meant-its lineView rs identifier i e
+
+fitting-used : (number : Words) (r : Record) → fits number r ≡ true → used r ≡ true
+fitting-used number r e = by (r .state) (both-parts (marks number r) (fitsKind (r .terms .kind) (r .active)) e .0)
+  where
+    by : (s : State) → both (invoked s) (sameWords (r .terms .numberB) number) ≡ true → inUse s ≡ true
+    by Free m = absurd (no-true m)
+    by Invoked m = refl
+    by Await m = refl
+    by Alert m = refl
+
+-- ---- acts and the guard
+module _ (ws : List ℕ) (input : Input) where
+  good-own-found : (row : Row) (f : Found) → meant (namesOf input .identifier) (records ws) ≡ f → Good ws input (ownFound ws row f)
+  good-own-found row Nothing e = refuses
+  good-own-found row (At i) e =
+      let own = meant-own (records ws) (namesOf input .identifier) i e in
+      pick-elim (Good ws input) (holdsFor row (getD (records ws) i blank)) (λ h. takes i row (own .0) (own .1)) (λ h. refuses)
+
+  pub good-own : (row : Row) → Good ws input (ownDecision ws (namesOf input .identifier) row)
+  unfolding ownDecision
+  good-own row = good-own-found row (meant (namesOf input .identifier) (records ws)) refl
+
+-- ---- a line report
+module _ (ws : List ℕ) (number : Words) (busy : Bool) where
+  good-report-found : (f : Found) → Good ws (Input.Report number busy) (reportFound busy f)
+  good-report-found Nothing = refuses
+  good-report-found (At k) = reports k
+
+  pub good-report : Good ws (Input.Report number busy) (reportDecision ws number busy)
+  unfolding reportDecision
+  good-report = good-report-found (lineAt number (lines ws))
+
+-- ---- Look: what is offered fits
+module _ (ws : List ℕ) (number : Words) where
+  abbrev GoodLook : Found → Type 0
+  GoodLook f = Good ws (Input.Look number) (offerDecision f)
+
+  good-fitting : (f : Found) → first (passes (Fitting number)) (records ws) ≡ f → GoodLook f
+  good-fitting Nothing e = refuses
+  good-fitting (At i) e = offers i (fitting-used number (getD (records ws) i blank) (first-holds (passes (Fitting number)) (records ws) i blank e))
+
+  good-blocking : (f : Found) → GoodLook (offerFound ws number f)
+  good-blocking (At i) = refuses
+  good-blocking Nothing = good-fitting (first (passes (Fitting number)) (records ws)) refl
+
+  good-offer : (line : Line) → GoodLook (offerAt ws line number)
+  unfolding offerAt
+  good-offer line =
+      pick-elim GoodLook (canTake line) (λ t. good-blocking (first (passes (Blocking number)) (records ws))) (λ f. refuses)
+
+  good-look-found : (f : Found) → Good ws (Input.Look number) (lookFound ws number f)
+  good-look-found Nothing = refuses
+  good-look-found (At k) = good-offer (getD (lines ws) k noLine)
+
+  pub good-look : Good ws (Input.Look number) (lookDecision ws number)
+  unfolding lookDecision
+  good-look = good-look-found (lineAt number (lines ws))
+
+-- ---- messages
+-- where none is a duplicate, no record has the identifier
+new-identifier : (rs : List Record) (asked : Names) → first (passes (Duplicate asked)) rs ≡ Nothing → meant (asked .identifier) rs ≡ Nothing
+unfolding meant
+new-identifier rs asked none = by (meant (asked .identifier) rs) refl
+  where
+    by : (f : Found) → meant (asked .identifier) rs ≡ f → meant (asked .identifier) rs ≡ Nothing
+    by Nothing e = e
+    by (At i) e =
+        let r : Record = getD rs i blank in
+        let m = meant-its lineView rs (asked .identifier) i e in
+        let t : passes (Duplicate asked) r ≡ true = rw (m .0, words-same (r .terms .identifier) (asked .identifier) (m .1)) in
+        absurd (no-true (sym (first-none (passes (Duplicate asked)) rs blank none i (used-inside lineView rs i blank-unused (m .0))) ∙ t))
+
+found-line : (f : Found) (k : ℕ) → f ≡ At k → f ≡ Nothing → ⊥
+found-line f k e n = let z : _≡_ {A = ℕ} 0 1 = cc in omega arith
+
+module _ (ws : List ℕ) (l : Letter) where
+  abbrev GoodHere : Decision → Type 0
+  GoodHere = Good ws (Input.Message l)
+
+  -- ---- messages about a record
+  good-row :
+      (i : ℕ) (message : RecordMessage) (row : Row) → meant (l .identifier) (records ws) ≡ At i →
+      GoodHere (rowDecision i (getD (records ws) i blank) l message row)
+  good-row i message row e =
+      let r : Record = getD (records ws) i blank in
+      let own = meant-own (records ws) (l .identifier) i e in
+      pick-elim GoodHere (holdsFor row r)
+      (λ h. pick-elim GoodHere (carrierFits (l .body) (r .terms .connection) (l .carrier)) (λ g. takes i row (own .0) (own .1)) (λ g. refuses))
+      (λ h. refuses)
+
+  good-found : (message : RecordMessage) (f : Found) → meant (l .identifier) (records ws) ≡ f → GoodHere (recordFound ws l message f)
+  good-found message Nothing e = refuses
+  good-found message (At i) e =
+      let r : Record = getD (records ws) i blank in
+      good-row i message (rowFor message (takesCall ws (r .terms .numberB)) (r .terms .keep)) e
+
+  good-record : (message : RecordMessage) → GoodHere (recordDecision ws l message)
+  unfolding recordDecision
+  good-record message = good-found message (meant (l .identifier) (records ws)) refl
+
+  -- ---- requests
+  -- what a request of this letter stores is in range
+  abbrev Stored : Request → Type 0
+  Stored q = (busy : Bool) → (lineAt (l .numberB) (lines ws) ≡ Nothing → ⊥) → Whole (lines ws) (newRecord ws (letterNames l) q busy)
+
+  abbrev pub Ranged : Type 0
+  Ranged = (q : Request) → messageFor (l .body) ≡ Meant.Request q → Stored q
+
+  module _ (q : Request) (whole : Stored q) where
+    module _ (busy : Bool) (line : lineAt (l .numberB) (lines ws) ≡ Nothing → ⊥) where
+      good-store : meant (l .identifier) (records ws) ≡ Nothing → count (ofLine (l .numberB)) (records ws) < lineMost → (f : Found) → place (records ws) ≡ f → GoodHere (storeFound q busy f)
+      good-store new few Nothing e = denies
+      good-store new few (At i) e = stores i q busy e new few (whole busy line)
+
+      good-counted : meant (l .identifier) (records ws) ≡ Nothing → GoodHere (countedDecision ws (letterNames l) q busy)
+      unfolding countedDecision
+      good-counted new =
+          let n : ℕ = count (ofLine (l .numberB)) (records ws) in
+          pick-elim GoodHere (ltb n lineMost) (λ t. good-store new (ltb-true n lineMost t) (place (records ws)) refl) (λ f. denies)
+
+      good-duplicate : (f : Found) → first (passes (Duplicate (letterNames l))) (records ws) ≡ f → GoodHere (duplicateFound ws (letterNames l) q busy f)
+      good-duplicate (At i) e = denies
+      good-duplicate Nothing e = good-counted (new-identifier (records ws) (letterNames l) e)
+
+      good-admitted : GoodHere (admittedDecision ws (letterNames l) q busy)
+      unfolding admittedDecision
+      good-admitted = good-duplicate (first (passes (Duplicate (letterNames l))) (records ws)) refl
+
+    good-line : (f : Found) → lineAt (l .numberB) (lines ws) ≡ f → GoodHere (lineFound ws (letterNames l) q f)
+    good-line Nothing e = denies
+    good-line (At k) e =
+        let line : Line = getD (lines ws) k noLine in
+        pick-elim GoodHere (allows line (q .kind)) (λ h. good-admitted (line .busy) (found-line (lineAt (l .numberB) (lines ws)) k e)) (λ h. denies)
+
+    good-request : GoodHere (requestDecision ws l q)
+    unfolding requestDecision
+    good-request =
+        pick-elim GoodHere (carrierFits (l .body) Connection.Empty (l .carrier)) (λ h. good-line (lineAt (l .numberB) (lines ws)) refl) (λ h. refuses)
+
+  good-meant : Ranged → (m : Meant) → messageFor (l .body) ≡ m → GoodHere (meantDecision ws l m)
+  good-meant ranged (Meant.Request q) e = good-request q (ranged q e)
+  good-meant ranged (Meant.Record message) e = good-record message
+  good-meant ranged Meant.NotHere e = refuses
+
+  pub good-message : Ranged → GoodHere (messageDecision ws l)
+  unfolding messageDecision
+  good-message ranged = good-meant ranged (messageFor (l .body)) refl
