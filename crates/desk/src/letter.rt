@@ -9,11 +9,12 @@ use message::digits::normal_number;
 ghost use mathlib.Core.Path.{_≡_};
 ghost use Rattle.desk.specs.Letter.{numberWords, letterOf, readLetter, messageOf};
 
+// The identifier stands first, as it does in every input that names one: so it is found at one place of an input, whichever it is.
 pub struct Letter {
-    pub carrier: Carrier,
     pub identifier: Words,
     pub numberA: Words,
     pub numberB: Words,
+    pub carrier: Carrier,
     pub body: Body,
 }
 

@@ -58,14 +58,13 @@ pub fn normal_number(number: [u8; 16]) -> [u8; 16]
     ensures { λ r. ⌜ r ≡ sixteen (digitsBytes number) ⌝ }
 {
     let last = number[0] as usize;
-    let mut normal = [0u8; 16];
-    let mut i = 0;
-    while i < 16 {
-        if last < i {
-            return normal;
+    let mut normal = number;
+    if last < 15 {
+        let mut i = last + 1;
+        while i < 16 {
+            normal[i] = 0;
+            i += 1;
         }
-        normal[i] = number[i];
-        i += 1;
     }
     normal
 }

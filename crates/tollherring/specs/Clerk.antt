@@ -1,15 +1,17 @@
 -- The clerk's desk as a host calls it.
 use Prim.Native.Nat.{ℕ}
 use mathlib.Core.List.{List}
-use Rattle.clerk.specs.Steps.{deskOf, entered}
+use Rattle.clerk.specs.Steps.{deskOf, step}
 use Rattle.clerk.specs.declared.entry.Entry.{Entry}
+use Rattle.clerk.specs.declared.entry.Entry.the-variants.{Refused, Given}
 use Rattle.clerk.specs.declared.entry.BytesEntry.{BytesEntry}
 use Rattle.host_numbers.specs.Given.{askGiven, clerkBytesGiven, clerkActGiven, timerGiven}
-use Rattle.tollherring.specs.Face.{Face, faced}
+use Rattle.tollherring.specs.Face.{Face, refusedFace, faced}
 
--- an entry's step on the desk of these words; `next` is the first unread place of what was read for it
+-- what comes in at the entry: a refusal is told at once; an input is a step on the desk of these words. `next` is the first unread place of what was read for it
 unfoldable pub clerkEntered : List ℕ → List ℕ → Entry → ℕ → Face
-clerkEntered words out entry next = faced words (entered (deskOf words) entry .desk .words) out (entered (deskOf words) entry .outcome) next
+clerkEntered words out (Refused number) next = refusedFace words out number
+clerkEntered words out (Given input) next = faced words (step (deskOf words) input .desk .words) out (step (deskOf words) input .outcome) next
 
 abbrev pub clerkBytes : List ℕ → List ℕ → BytesEntry → Face
 clerkBytes words out read = clerkEntered words out (read .entry) (read .next)

@@ -7,11 +7,12 @@ use Rattle.lists.specs.Lists.{both}
 use Rattle.line.specs.declared.steps.Stepped.{Stepped}
 use Rattle.line.specs.Start.{started}
 use Rattle.line.specs.Entry.{bytesEntry, lookEntry, guardEntry}
-use Rattle.line.specs.Steps.{deskOf, entered}
+use Rattle.line.specs.Steps.{deskOf, step}
 use Rattle.line.specs.declared.entry.Entry.{Entry}
+use Rattle.line.specs.declared.entry.Entry.the-variants.{Refused, Given}
 use Rattle.line.specs.declared.entry.BytesEntry.{BytesEntry}
 use Rattle.host_numbers.specs.Given.{lineActGiven, reportGiven, isWord, yes}
-use Rattle.tollherring.specs.Face.{Face, faced}
+use Rattle.tollherring.specs.Face.{Face, refusedFace, faced}
 
 -- a refused start makes no desk: the words stay as they were
 abbrev pub startWords : List ℕ → Stepped → List ℕ
@@ -24,9 +25,10 @@ lineStartedWords words given keep retain = pick (both (isWord keep) (isWord reta
 unfoldable pub lineStartedAnswer : List ℕ → ℕ → ℕ → ℕ
 lineStartedAnswer given keep retain = pick (both (isWord keep) (isWord retain)) (started given (yes keep) (yes retain) .outcome .refusal) 2
 
--- an entry's step on the desk of these words; `next` is the first unread place of what was read for it
+-- what comes in at the entry: a refusal is told at once; an input is a step on the desk of these words. `next` is the first unread place of what was read for it
 unfoldable pub lineEntered : List ℕ → List ℕ → Entry → ℕ → Face
-lineEntered words out entry next = faced words (entered (deskOf words) entry .desk .words) out (entered (deskOf words) entry .outcome) next
+lineEntered words out (Refused number) next = refusedFace words out number
+lineEntered words out (Given input) next = faced words (step (deskOf words) input .desk .words) out (step (deskOf words) input .outcome) next
 
 abbrev pub lineBytes : List ℕ → List ℕ → BytesEntry → Face
 lineBytes words out read = lineEntered words out (read .entry) (read .next)

@@ -19,7 +19,7 @@ ghost use Rattle.clerk.specs.Steps.{deskOf, step, startedDesk};
 ghost use Rattle.tollherring.specs.Face.{face, faced};
 ghost use Rattle.tollherring.specs.Clerk.{clerkEntered, clerkAsked, clerkReceived, clerkActed, clerkReported};
 
-// The one step that every call comes to. It is planned, its message is written, and only then is the change made: with no room for the message, nothing is done.
+// The one step that every call comes to; what was refused at the entry is told at once, without it. It is planned, its message is written, and only then is the change made: with no room for the message, nothing is done.
 fn step_in(
     words: &mut [u64; WORDS],
     input: Input,
@@ -40,22 +40,6 @@ fn step_in(
             outcome.refusal as u64
         }
         Written::Refused(number) => refuse(told, number),
-    }
-}
-
-// What was refused at the entry is told at once.
-fn enter(
-    words: &mut [u64; WORDS],
-    entry: Entry,
-    next: usize,
-    out: &mut [u8],
-    told: &mut [u64; TOLD],
-) -> u64
-    ensures { λ r. ⌜ face (now (words .exit)) (now (out .exit)) (now (told .exit)) r ≡ clerkEntered (now (words .entry)) (now (out .entry)) entry next ⌝ }
-{
-    match entry {
-        Entry::Refused(number) => refuse(told, number),
-        Entry::Given(input) => step_in(words, input, next, out, told),
     }
 }
 
@@ -94,7 +78,10 @@ pub extern "C" fn tollherring_clerk_ask(
         canKeep,
         preference,
     );
-    enter(words, entry, 0, out, told)
+    match entry {
+        Entry::Refused(number) => refuse(told, number),
+        Entry::Given(input) => step_in(words, input, 0, out, told),
+    }
 }
 
 // Bytes reach the clerk's end: 1, 2, 3, 6, 7, 8, 12.
@@ -110,7 +97,10 @@ pub extern "C" fn tollherring_clerk_receive(
 {
     let read = clerk_bytes_given(bytes, busy);
     let entry = read.entry;
-    enter(words, entry, read.next, out, told)
+    match entry {
+        Entry::Refused(number) => refuse(told, number),
+        Entry::Given(input) => step_in(words, input, read.next, out, told),
+    }
 }
 
 // User A's act: 2, 6, 7, 12.
@@ -125,7 +115,10 @@ pub extern "C" fn tollherring_clerk_act(
     ensures { λ r. ⌜ face (now (words .exit)) (now (out .exit)) (now (told .exit)) r ≡ clerkActed (now (words .entry)) (now (out .entry)) (now (identifier .entry)) act ⌝ }
 {
     let entry = clerk_act_given(*identifier, act);
-    enter(words, entry, 0, out, told)
+    match entry {
+        Entry::Refused(number) => refuse(told, number),
+        Entry::Given(input) => step_in(words, input, 0, out, told),
+    }
 }
 
 // A timer ran out at the clerk's end: 2, 6, 9, 12.
@@ -140,5 +133,8 @@ pub extern "C" fn tollherring_clerk_report(
     ensures { λ r. ⌜ face (now (words .exit)) (now (out .exit)) (now (told .exit)) r ≡ clerkReported (now (words .entry)) (now (out .entry)) (now (identifier .entry)) timer ⌝ }
 {
     let entry = timer_given(*identifier, timer);
-    enter(words, entry, 0, out, told)
+    match entry {
+        Entry::Refused(number) => refuse(told, number),
+        Entry::Given(input) => step_in(words, input, 0, out, told),
+    }
 }

@@ -21,7 +21,7 @@ ghost use Rattle.line.specs.Start.{started};
 ghost use Rattle.tollherring.specs.Face.{face, faced};
 ghost use Rattle.tollherring.specs.Line.{startWords, lineStartedWords, lineStartedAnswer, lineEntered, lineReceived, lineStatusReported, lineLooked, lineActed, lineGuarded};
 
-// The one step that every call comes to. It is planned, its message is written, and only then is the change made: with no room for the message, nothing is done.
+// The one step that every call comes to; what was refused at the entry is told at once, without it. It is planned, its message is written, and only then is the change made: with no room for the message, nothing is done.
 fn step_in(
     words: &mut [u64; WORDS],
     input: Input,
@@ -42,22 +42,6 @@ fn step_in(
             outcome.refusal as u64
         }
         Written::Refused(number) => refuse(told, number),
-    }
-}
-
-// What was refused at the entry is told at once.
-fn enter(
-    words: &mut [u64; WORDS],
-    entry: Entry,
-    next: usize,
-    out: &mut [u8],
-    told: &mut [u64; TOLD],
-) -> u64
-    ensures { λ r. ⌜ face (now (words .exit)) (now (out .exit)) (now (told .exit)) r ≡ lineEntered (now (words .entry)) (now (out .entry)) entry next ⌝ }
-{
-    match entry {
-        Entry::Refused(number) => refuse(told, number),
-        Entry::Given(input) => step_in(words, input, next, out, told),
     }
 }
 
@@ -106,7 +90,10 @@ pub extern "C" fn tollherring_line_receive(
 {
     let read = bytes_entry(bytes);
     let entry = read.entry;
-    enter(words, entry, read.next, out, told)
+    match entry {
+        Entry::Refused(number) => refuse(told, number),
+        Entry::Given(input) => step_in(words, input, read.next, out, told),
+    }
 }
 
 // A line is busy or free: 2, 10.
@@ -121,7 +108,10 @@ pub extern "C" fn tollherring_line_report(
     ensures { λ r. ⌜ face (now (words .exit)) (now (out .exit)) (now (told .exit)) r ≡ lineStatusReported (now (words .entry)) (now (out .entry)) (now (digits .entry)) busy ⌝ }
 {
     let entry = report_given(*digits, busy);
-    enter(words, entry, 0, out, told)
+    match entry {
+        Entry::Refused(number) => refuse(told, number),
+        Entry::Given(input) => step_in(words, input, 0, out, told),
+    }
 }
 
 // A Look at a line: 10, 11, 12.
@@ -135,7 +125,10 @@ pub extern "C" fn tollherring_line_look(
     ensures { λ r. ⌜ face (now (words .exit)) (now (out .exit)) (now (told .exit)) r ≡ lineLooked (now (words .entry)) (now (out .entry)) (now (digits .entry)) ⌝ }
 {
     let entry = look_entry(*digits);
-    enter(words, entry, 0, out, told)
+    match entry {
+        Entry::Refused(number) => refuse(told, number),
+        Entry::Given(input) => step_in(words, input, 0, out, told),
+    }
 }
 
 // An act at the line's end: 2, 6, 7, 12.
@@ -150,7 +143,10 @@ pub extern "C" fn tollherring_line_act(
     ensures { λ r. ⌜ face (now (words .exit)) (now (out .exit)) (now (told .exit)) r ≡ lineActed (now (words .entry)) (now (out .entry)) (now (identifier .entry)) act ⌝ }
 {
     let entry = line_act_given(*identifier, act);
-    enter(words, entry, 0, out, told)
+    match entry {
+        Entry::Refused(number) => refuse(told, number),
+        Entry::Given(input) => step_in(words, input, 0, out, told),
+    }
 }
 
 // The guard of a record ran out: 6, 12.
@@ -164,5 +160,8 @@ pub extern "C" fn tollherring_line_guard(
     ensures { λ r. ⌜ face (now (words .exit)) (now (out .exit)) (now (told .exit)) r ≡ lineGuarded (now (words .entry)) (now (out .entry)) (now (identifier .entry)) ⌝ }
 {
     let entry = guard_entry(*identifier);
-    enter(words, entry, 0, out, told)
+    match entry {
+        Entry::Refused(number) => refuse(told, number),
+        Entry::Given(input) => step_in(words, input, 0, out, told),
+    }
 }

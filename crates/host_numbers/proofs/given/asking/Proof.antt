@@ -1,5 +1,4 @@
--- Numbers in range keep their value.
-use native.Mathlib.Omega.{arith}
+-- Kind, service and preference as they stand.
 use borrow.Author.Needs.{needs}
 use Rattle.host_numbers.proofs.given.asking.Statement.{statement}
 use Rattle.host_numbers.proofs.given.asking.Tie as tie
@@ -7,14 +6,15 @@ use Rattle.host_numbers.proofs.given.asking.Tie as tie
 kind-of-requires : tie.Need-kind-of-requires
 kind-of-requires c κs = search needs
 
-cast-t9 : tie.Need-cast-t9
-cast-t9 c = omega (arith, c .before .pre)
+service-given-requires : tie.Need-service-given-requires
+service-given-requires c κs = search needs
 
-cast-t11 : tie.Need-cast-t11
-cast-t11 c = omega (arith, c .before .pre)
+field-given-requires : tie.Need-field-given-requires
+field-given-requires c κs = search needs
 
 returns : tie.Need-returns
-returns c = rw (c .kind-of .ensures)
+returns c = rw (c .before .before .kind-of .ensures, c .before .service-given .ensures, c .field-given .ensures)
 
 pub asking-spec : {M : Type 1} → statement M
-asking-spec = tie.close (tie.spec kind-of-requires cast-t9 cast-t11 returns)
+asking-spec =
+    tie.close (tie.spec kind-of-requires service-given-requires field-given-requires returns)

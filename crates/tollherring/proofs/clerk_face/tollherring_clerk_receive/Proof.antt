@@ -1,27 +1,44 @@
--- 2 for a word that is none, then the bytes.
-use borrow.Author.Tests.{le-leb, lt-leb}
-use Rattle.tollherring.specs.Clerk.{clerkReceived}
+-- What the host gives is an entry: refused, or an input's step.
+use Rattle.tollherring.specs.Clerk.{clerkEntered, clerkReceived}
 use borrow.Author.Needs.{needs}
 use Rattle.tollherring.proofs.clerk_face.tollherring_clerk_receive.Statement.{statement}
 use Rattle.tollherring.proofs.clerk_face.tollherring_clerk_receive.Tie as tie
 
-read-in-requires : tie.Need-read-in-requires
-read-in-requires c κs = search needs
+clerk-bytes-given-requires : tie.Need-clerk-bytes-given-requires
+clerk-bytes-given-requires c κs = search needs
 
-same-length : tie.Need-same-length
-same-length c = search needs
-
-returns : tie.Need-returns
-unfolding clerkReceived
-returns c = rw (le-leb _ _ (c .before .before .before .before .before .before .if1 .taken)) (c .before .before .read-in .ensures)
+enum-known-entry : tie.Need-enum-known-entry
+enum-known-entry c = search needs
 
 refuse-requires : tie.Need-refuse-requires
 refuse-requires c κs = search needs
 
+enum-known-entry-2 : tie.Need-enum-known-entry-2
+enum-known-entry-2 c = search needs
+
+step-in-requires : tie.Need-step-in-requires
+step-in-requires c κs = search needs
+
+returns : tie.Need-returns
+unfolding clerkReceived clerkEntered
+returns c = rw (← c .before .before .before .before .before .clerk-bytes-given .ensures, c .before .before .before .entry .given .1, c .refuse .ensures .0, c .refuse .ensures .1)
+
+same-length : tie.Need-same-length
+same-length c = search needs
+
 returns-2 : tie.Need-returns-2
-unfolding clerkReceived
-returns-2 c = rw (lt-leb _ _ (c .before .before .if1 .left), c .refuse .ensures .0, c .refuse .ensures .1)
+unfolding clerkReceived clerkEntered
+returns-2 c = rw (← c .before .before .before .before .before .before .before .before .before .clerk-bytes-given .ensures, c .before .before .before .before .before .before .before .entry2 .given .1) (c .before .before .step-in .ensures)
 
 pub tollherring-clerk-receive-spec : {M : Type 1} → statement M
 tollherring-clerk-receive-spec =
-    tie.close (tie.spec read-in-requires same-length returns refuse-requires returns-2)
+    tie.close
+    (tie.spec
+    clerk-bytes-given-requires
+    enum-known-entry
+    refuse-requires
+    enum-known-entry-2
+    step-in-requires
+    returns
+    same-length
+    returns-2)

@@ -1,49 +1,44 @@
--- 2 for a number that names none, then the plan.
-use mathlib.Core.Path.{sym, _∙_}
-use Rattle.tollherring.specs.Clerk.{clerkReported}
+-- What the host gives is an entry: refused, or an input's step.
+use Rattle.tollherring.specs.Clerk.{clerkEntered, clerkReported}
 use borrow.Author.Needs.{needs}
 use Rattle.tollherring.proofs.clerk_face.tollherring_clerk_report.Statement.{statement}
 use Rattle.tollherring.proofs.clerk_face.tollherring_clerk_report.Tie as tie
 
-timer-requires : tie.Need-timer-requires
-timer-requires c κs = search needs
+timer-given-requires : tie.Need-timer-given-requires
+timer-given-requires c κs = search needs
 
-enum-known-named : tie.Need-enum-known-named
-enum-known-named c = search needs
-
-reported-plan-requires : tie.Need-reported-plan-requires
-reported-plan-requires c κs = search needs
-
-finish-requires : tie.Need-finish-requires
-finish-requires c κs = search needs
-
-enum-told : tie.Need-enum-told
-enum-told c = search needs
+enum-known-entry : tie.Need-enum-known-entry
+enum-known-entry c = search needs
 
 refuse-requires : tie.Need-refuse-requires
 refuse-requires c κs = search needs
 
+enum-known-entry-2 : tie.Need-enum-known-entry-2
+enum-known-entry-2 c = search needs
+
+step-in-requires : tie.Need-step-in-requires
+step-in-requires c κs = search needs
+
+returns : tie.Need-returns
+unfolding clerkReported clerkEntered
+returns c = rw (← c .before .before .before .before .before .timer-given .ensures, c .before .before .before .entry .given .1, c .refuse .ensures .0, c .refuse .ensures .1)
+
 same-length : tie.Need-same-length
 same-length c = search needs
 
-returns : tie.Need-returns
-unfolding clerkReported
-returns c = rw (sym (c .before .before .before .before .before .before .before .before .before .before .before .before .timer .ensures) ∙ c .before .before .before .before .before .before .before .before .before .before .named .given .1, ← c .before .before .before .before .before .before .reported-plan .ensures) (c .before .before .finish .ensures)
-
 returns-2 : tie.Need-returns-2
-unfolding clerkReported
-returns-2 c = rw (sym (c .before .before .before .before .timer .ensures) ∙ c .before .before .enum-told .given .1, c .refuse .ensures .0, c .refuse .ensures .1)
+unfolding clerkReported clerkEntered
+returns-2 c = rw (← c .before .before .before .before .before .before .before .before .before .timer-given .ensures, c .before .before .before .before .before .before .before .entry2 .given .1) (c .before .before .step-in .ensures)
 
 pub tollherring-clerk-report-spec : {M : Type 1} → statement M
 tollherring-clerk-report-spec =
     tie.close
     (tie.spec
-    timer-requires
-    enum-known-named
-    reported-plan-requires
-    finish-requires
-    enum-told
+    timer-given-requires
+    enum-known-entry
     refuse-requires
-    same-length
+    enum-known-entry-2
+    step-in-requires
     returns
+    same-length
     returns-2)

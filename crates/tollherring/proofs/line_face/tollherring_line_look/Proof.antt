@@ -1,22 +1,44 @@
--- The plan, finished.
-use Rattle.tollherring.specs.Line.{lineLooked}
+-- What the host gives is an entry: refused, or an input's step.
+use Rattle.tollherring.specs.Line.{lineEntered, lineLooked}
 use borrow.Author.Needs.{needs}
 use Rattle.tollherring.proofs.line_face.tollherring_line_look.Statement.{statement}
 use Rattle.tollherring.proofs.line_face.tollherring_line_look.Tie as tie
 
-looked-plan-requires : tie.Need-looked-plan-requires
-looked-plan-requires c κs = search needs
+look-entry-requires : tie.Need-look-entry-requires
+look-entry-requires c κs = search needs
 
-finish-requires : tie.Need-finish-requires
-finish-requires c κs = search needs
+enum-known-entry : tie.Need-enum-known-entry
+enum-known-entry c = search needs
+
+refuse-requires : tie.Need-refuse-requires
+refuse-requires c κs = search needs
+
+enum-known-entry-2 : tie.Need-enum-known-entry-2
+enum-known-entry-2 c = search needs
+
+step-in-requires : tie.Need-step-in-requires
+step-in-requires c κs = search needs
+
+returns : tie.Need-returns
+unfolding lineLooked lineEntered
+returns c = rw (← c .before .before .before .before .before .look-entry .ensures, c .before .before .before .entry .given .1, c .refuse .ensures .0, c .refuse .ensures .1)
 
 same-length : tie.Need-same-length
 same-length c = search needs
 
-returns : tie.Need-returns
-unfolding lineLooked
-returns c = rw (← c .before .before .before .before .before .before .looked-plan .ensures) (c .before .before .finish .ensures)
+returns-2 : tie.Need-returns-2
+unfolding lineLooked lineEntered
+returns-2 c = rw (← c .before .before .before .before .before .before .before .before .before .look-entry .ensures, c .before .before .before .before .before .before .before .entry2 .given .1) (c .before .before .step-in .ensures)
 
 pub tollherring-line-look-spec : {M : Type 1} → statement M
 tollherring-line-look-spec =
-    tie.close (tie.spec looked-plan-requires finish-requires same-length returns)
+    tie.close
+    (tie.spec
+    look-entry-requires
+    enum-known-entry
+    refuse-requires
+    enum-known-entry-2
+    step-in-requires
+    returns
+    same-length
+    returns-2)

@@ -1,37 +1,44 @@
--- 2 for a word that is none, then the plan.
-use borrow.Author.Tests.{le-leb, lt-leb}
-use Rattle.tollherring.specs.Line.{lineStatusReported}
+-- What the host gives is an entry: refused, or an input's step.
+use Rattle.tollherring.specs.Line.{lineEntered, lineStatusReported}
 use borrow.Author.Needs.{needs}
 use Rattle.tollherring.proofs.line_face.tollherring_line_report.Statement.{statement}
 use Rattle.tollherring.proofs.line_face.tollherring_line_report.Tie as tie
 
-line-reported-plan-requires : tie.Need-line-reported-plan-requires
-line-reported-plan-requires c κs = search needs
+report-given-requires : tie.Need-report-given-requires
+report-given-requires c κs = search needs
 
-finish-requires : tie.Need-finish-requires
-finish-requires c κs = search needs
-
-same-length : tie.Need-same-length
-same-length c = search needs
-
-returns : tie.Need-returns
-unfolding lineStatusReported
-returns c = rw (le-leb _ _ (c .before .before .before .before .before .before .before .before .before .if1 .taken), ← c .before .before .before .before .before .before .line-reported-plan .ensures) (c .before .before .finish .ensures)
+enum-known-entry : tie.Need-enum-known-entry
+enum-known-entry c = search needs
 
 refuse-requires : tie.Need-refuse-requires
 refuse-requires c κs = search needs
 
+enum-known-entry-2 : tie.Need-enum-known-entry-2
+enum-known-entry-2 c = search needs
+
+step-in-requires : tie.Need-step-in-requires
+step-in-requires c κs = search needs
+
+returns : tie.Need-returns
+unfolding lineStatusReported lineEntered
+returns c = rw (← c .before .before .before .before .before .report-given .ensures, c .before .before .before .entry .given .1, c .refuse .ensures .0, c .refuse .ensures .1)
+
+same-length : tie.Need-same-length
+same-length c = search needs
+
 returns-2 : tie.Need-returns-2
-unfolding lineStatusReported
-returns-2 c = rw (lt-leb _ _ (c .before .before .if1 .left), c .refuse .ensures .0, c .refuse .ensures .1)
+unfolding lineStatusReported lineEntered
+returns-2 c = rw (← c .before .before .before .before .before .before .before .before .before .report-given .ensures, c .before .before .before .before .before .before .before .entry2 .given .1) (c .before .before .step-in .ensures)
 
 pub tollherring-line-report-spec : {M : Type 1} → statement M
 tollherring-line-report-spec =
     tie.close
     (tie.spec
-    line-reported-plan-requires
-    finish-requires
-    same-length
-    returns
+    report-given-requires
+    enum-known-entry
     refuse-requires
+    enum-known-entry-2
+    step-in-requires
+    returns
+    same-length
     returns-2)

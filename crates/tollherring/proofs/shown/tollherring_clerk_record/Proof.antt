@@ -15,15 +15,15 @@ returns : tie.Need-returns
 unfolding clerkShown
 returns c = rw (← c .before .before .load .ensures, ← c .before .state-code .ensures, eq-eqb _ _ (c .if1 .taken))
 
-show-bytes-requires : tie.Need-show-bytes-requires
-show-bytes-requires c κs = search needs
+show-names-requires : tie.Need-show-names-requires
+show-names-requires c κs = search needs
 
 clerk-numbers-requires : tie.Need-clerk-numbers-requires
 clerk-numbers-requires c κs = search needs
 
 returns-2 : tie.Need-returns-2
 unfolding clerkShown
-returns-2 c = rw (c .clerk-numbers .ensures, c .before .show-bytes .ensures .0, c .before .show-bytes .ensures .1, c .before .show-bytes .ensures .2, ← c .before .before .before .before .before .before .before .before .before .before .load .ensures, ← c .before .before .before .before .before .before .before .before .before .state-code .ensures, ne-eqb _ _ (c .before .before .before .before .before .before .before .before .if1 .left))
+returns-2 c = rw (c .clerk-numbers .ensures, c .before .show-names .ensures .0, c .before .show-names .ensures .1, c .before .show-names .ensures .2, ← c .before .before .before .before .before .before .before .before .load .ensures, ← c .before .before .before .before .before .before .before .state-code .ensures, ne-eqb _ _ (c .before .before .before .before .before .before .if1 .left))
 
 pub tollherring-clerk-record-spec : {M : Type 1} → statement M
 tollherring-clerk-record-spec =
@@ -32,6 +32,6 @@ tollherring-clerk-record-spec =
     load-requires
     state-code-requires
     returns
-    show-bytes-requires
+    show-names-requires
     clerk-numbers-requires
     returns-2)
