@@ -8,28 +8,38 @@ use crate::ladder::show;
 use crate::ladder::show_silence;
 use crate::requests::asking;
 use crate::requests::identifier_of;
-use crate::text::part;
-use crate::wire::first;
+use crate::wire::Wire;
+use crate::wire::behind_heard;
+use crate::wire::hear;
+use crate::wire::letter_heard;
+use crate::wire::send;
 use crate::words::NO_RECORD;
 use crate::world::World;
-use crate::world::after_clerk;
 use clerk::Desk;
+use clerk::entry::Entry;
+use clerk::entry::act_entry;
+use clerk::entry::ask_entry;
+use clerk::entry::bytes_entry;
+use clerk::entry::timer_entry;
 use clerk::steps::Stepped;
-use clerk::steps::act;
-use clerk::steps::ask;
-use clerk::steps::receive_bytes;
-use clerk::steps::report;
 use clerk_records::places::find_meant;
 use clerk_records::places::load;
 use clerk_table::inputs::Act;
 use clerk_table::table::State;
 use clerk_table::table::Timer;
-use desk::letter::Letter;
-use desk::outcome::Outcome;
 use desk::outcome::Sending;
 use lists::Found;
 use lists::words::Words;
 use lists::words::words_of;
+use printing::part;
+
+// What an event gives the desk, the request that it is about, what was heard, and the wire to the clerk afterwards.
+struct Given {
+    entry: Entry,
+    about: Words,
+    heard: Sending,
+    wire: Wire,
+}
 
 // The entry of the table of states.
 pub fn state_entry(state: State) -> usize {
@@ -56,80 +66,97 @@ fn state_at(d: Desk, identifier: Words) -> usize {
     }
 }
 
-// What came of an event about a request: the desk afterwards and the outcome, and how many bytes were heard.
-fn finish(
-    w: World,
-    event: Event,
-    identifier: Words,
-    heard: Sending,
-    after: Desk,
-    outcome: Outcome,
-    length: usize,
-) -> World {
+fn played(d: Desk, entry: Entry) -> Stepped {
+    let mut words = d.words;
+    let outcome = clerk::on_words::step(&mut words, entry);
+    Stepped {
+        desk: Desk { words },
+        outcome,
+    }
+}
+
+// What comes of what the desk is given.
+fn finish(w: World, event: Event, given: Given, unseen: bool) -> World {
     let before = w.clerk;
+    let line = w.line;
+    let spoken = w.toLine;
+    let entry = given.entry;
+    let about = given.about;
+    let heard = given.heard;
+    let toClerk = given.wire;
+    let step = played(before, entry);
+    let clerk = step.desk;
+    let outcome = step.outcome;
     let sending = outcome.sending;
     show(
-        w.unseen,
+        unseen,
         Told {
             event,
             atLine: false,
             heard,
             outcome,
-            before: state_at(before, identifier),
-            after: state_at(after, identifier),
+            before: state_at(before, about),
+            after: state_at(clerk, about),
         },
     );
-    after_clerk(w, after, length, sending)
-}
-
-// User A's ask or act, or T2 that ran out.
-fn step_of(d: Desk, event: Event, preference: u8) -> Stepped {
-    let code = event.code;
-    match code {
-        ASK => ask(d, asking(event.about, preference)),
-        ACCEPT => act(d, identifier_of(event.about), Act::Accept),
-        CANCEL => act(d, identifier_of(event.about), Act::Cancel),
-        _ => report(d, identifier_of(event.about), Timer::T2),
+    World {
+        clerk,
+        line,
+        toClerk,
+        toLine: send(spoken, sending),
+        wrong: w.wrong,
+        preference: w.preference,
     }
 }
 
-pub fn clerk_does(w: World, event: Event) -> World {
-    let d = w.clerk;
-    let step = step_of(d, event, w.preference);
-    let after = step.desk;
-    let outcome = step.outcome;
-    let identifier = words_of(identifier_of(event.about));
-    finish(w, event, identifier, Sending::Nothing, after, outcome, 0)
+// User A's ask or act, or T2 that ran out.
+fn entry_of(event: Event, preference: u8) -> Entry {
+    let code = event.code;
+    match code {
+        ASK => ask_entry(asking(event.about, preference)),
+        ACCEPT => act_entry(identifier_of(event.about), Act::Accept),
+        CANCEL => act_entry(identifier_of(event.about), Act::Cancel),
+        _ => timer_entry(identifier_of(event.about), Timer::T2),
+    }
 }
 
-// User A is never busy in a scene.
-fn clerk_receives(w: World, event: Event, letter: Letter) -> World {
-    let d = w.clerk;
+pub fn clerk_does(w: World, event: Event, unseen: bool) -> World {
     let wire = w.toClerk;
+    let given = Given {
+        entry: entry_of(event, w.preference),
+        about: words_of(identifier_of(event.about)),
+        heard: Sending::Nothing,
+        wire,
+    };
+    finish(w, event, given, unseen)
+}
+
+// The bytes of a wire, as the desk takes them. User A is never busy in a scene.
+fn entry_heard(wire: Wire) -> Entry {
     let bytes = wire.bytes;
-    let step = receive_bytes(d, part(&bytes, wire.from, wire.to), false);
-    let after = step.desk;
-    let outcome = step.outcome;
-    let identifier = letter.identifier;
-    finish(
-        w,
-        event,
-        identifier,
-        Sending::Send(letter),
-        after,
-        outcome,
-        step.next,
-    )
+    let read = bytes_entry(part(&bytes, wire.from, wire.to), false);
+    read.entry
 }
 
 // The first message of the wire arrives.
-pub fn clerk_hears(w: World, event: Event) -> World {
+pub fn clerk_hears(w: World, event: Event, unseen: bool) -> World {
     let wire = w.toClerk;
-    match first(wire) {
+    let first = hear(wire);
+    let heard = letter_heard(first);
+    match heard {
         Sending::Nothing => {
-            show_silence(w.unseen, false);
+            show_silence(unseen, false);
             w
         }
-        Sending::Send(letter) => clerk_receives(w, event, letter),
+        Sending::Send(letter) => {
+            let about = letter.identifier;
+            let given = Given {
+                entry: entry_heard(wire),
+                about,
+                heard,
+                wire: behind_heard(wire, first.left),
+            };
+            finish(w, event, given, unseen)
+        }
     }
 }

@@ -1,10 +1,11 @@
 // What can happen in a scene (docs/STORY.md, "Events"), and the words of its cause. A script is a text with an event in each line: two
 // digits for what the event is about, a blank, and its name.
-use crate::page::place;
-use crate::text::either;
-use crate::text::entry_at;
-use crate::text::put_entry;
-use crate::text::put_tag;
+use crate::page::below;
+use crate::page::either;
+use crate::words::put_tag;
+use printing::Page;
+use printing::blank_page;
+use printing::put_entry;
 
 // About a request, by its tag: at the clerk's end, and at the line's.
 pub const ASK: u8 = 1;
@@ -79,18 +80,14 @@ fn number_of(tens: u8, ones: u8) -> u8 {
     10 * (tens % 16) + ones % 16
 }
 
-// The event at a step of a script; behind the last one, an event that does nothing.
+// The event at a step of a script; behind the last one the line is blank, and its event does nothing.
 pub fn event_at(script: &[u8], step: usize) -> Event {
-    let at = entry_at(script, step);
-    if at < script.len() {
-        if 4 < script.len() - at {
-            return Event {
-                code: code_of(script[at + 3], script[at + 4]),
-                about: number_of(script[at], script[at + 1]),
-            };
-        }
+    let line = put_entry(blank_page(), script, step);
+    let bytes = line.bytes;
+    Event {
+        code: code_of(bytes[3], bytes[4]),
+        about: number_of(bytes[0], bytes[1]),
     }
-    Event { code: 0, about: 0 }
 }
 
 // The entry of a cause's words. What is about a line names it.
@@ -106,22 +103,21 @@ fn cause_entry(event: Event) -> usize {
 }
 
 // The tag, where the event is about a request of the desk's own.
-fn put_subject(page: &mut [u8], at: usize, event: Event) -> usize {
+fn put_subject(page: Page, event: Event) -> Page {
     if event.code < BUSY {
-        return put_tag(page, at, event.about);
+        return put_tag(page, event.about);
     }
-    at
+    page
 }
 
-// The words of the cause in the first row of a page, if there are any; and the row that comes next.
-pub fn put_cause(page: &mut [u8], column: usize, event: Event) -> usize {
+// A row with the words of the cause, if there are any.
+pub fn put_cause(page: Page, event: Event) -> Page {
     if CLERK_HEARS <= event.code {
-        return 0;
+        return page;
     }
-    let at = put_subject(page, place(0, column), event);
-    put_entry(
-        page,
-        at,
+    let at = page.at;
+    let words = put_entry(
+        put_subject(page, event),
         b"
  ask: CCBS, can-keep 1
  User A accepts
@@ -139,5 +135,5 @@ Look at line 52290
 ",
         cause_entry(event),
     );
-    1
+    below(words, at)
 }

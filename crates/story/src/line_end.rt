@@ -8,14 +8,16 @@ use crate::events::WITHDRAW;
 use crate::ladder::Told;
 use crate::ladder::show;
 use crate::ladder::show_silence;
+use crate::page::either;
 use crate::requests::digits_of;
 use crate::requests::identifier_of;
-use crate::text::either;
-use crate::text::part;
-use crate::wire::first;
+use crate::wire::Wire;
+use crate::wire::behind_heard;
+use crate::wire::hear;
+use crate::wire::letter_heard;
+use crate::wire::send;
 use crate::words::NO_RECORD;
 use crate::world::World;
-use crate::world::after_line;
 use crate::wrong_end::carried_out;
 use desk::outcome::Outcome;
 use desk::outcome::Sending;
@@ -23,11 +25,12 @@ use desk::outcome::done;
 use desk::outcome::no_timers;
 use desk::sends::plain_letter;
 use line::Desk;
+use line::entry::Entry;
+use line::entry::act_entry;
+use line::entry::bytes_entry;
+use line::entry::look_entry;
+use line::entry::report_entry;
 use line::steps::Stepped;
-use line::steps::act;
-use line::steps::look;
-use line::steps::receive_bytes;
-use line::steps::report_line;
 use line_records::places::find_meant;
 use line_records::places::load;
 use line_table::inputs::Act;
@@ -37,11 +40,20 @@ use lists::words::Words;
 use lists::words::words_of;
 use message::Body;
 use message::Carrier;
+use printing::part;
 
 // The request that an event is about, if it is about one.
 enum About {
     Nothing,
     Request(Words),
+}
+
+// What came of an event: the desk and the outcome, what was heard, and the wire to the line afterwards.
+struct Done {
+    desk: Desk,
+    outcome: Outcome,
+    heard: Sending,
+    wire: Wire,
 }
 
 // The entry of the table of states. Await has two, by the suspended mark.
@@ -74,41 +86,69 @@ fn state_at(d: Desk, about: About) -> usize {
     }
 }
 
-// What came of an event: the desk afterwards and the outcome, and how many bytes were heard.
-fn finish(
-    w: World,
-    event: Event,
-    about: About,
-    heard: Sending,
-    after: Desk,
-    outcome: Outcome,
-    length: usize,
-) -> World {
+fn played(d: Desk, entry: Entry) -> Stepped {
+    let mut words = d.words;
+    let outcome = line::on_words::step(&mut words, entry);
+    Stepped {
+        desk: Desk { words },
+        outcome,
+    }
+}
+
+// What came of an event is shown, and what it sends goes onto the wire.
+fn finish(w: World, event: Event, about: About, done: Done, unseen: bool) -> World {
     let before = w.line;
+    let clerk = w.clerk;
+    let spoken = w.toClerk;
+    let line = done.desk;
+    let heard = done.heard;
+    let toLine = done.wire;
+    let outcome = done.outcome;
     let sending = outcome.sending;
     show(
-        w.unseen,
+        unseen,
         Told {
             event,
             atLine: true,
             heard,
             outcome,
             before: state_at(before, about),
-            after: state_at(after, about),
+            after: state_at(line, about),
         },
     );
-    after_line(w, after, length, sending)
+    World {
+        clerk,
+        line,
+        toClerk: send(spoken, sending),
+        toLine,
+        wrong: w.wrong,
+        preference: w.preference,
+    }
+}
+
+// What comes of what the desk is given, as its end carries it out.
+fn carried(w: World, entry: Entry, heard: Sending, wire: Wire) -> Done {
+    let d = w.line;
+    let step = played(d, entry);
+    let desk = step.desk;
+    let planned = step.outcome;
+    Done {
+        desk,
+        outcome: carried_out(w.wrong, planned),
+        heard,
+        wire,
+    }
 }
 
 // An act, a line report or a Look.
-fn step_of(d: Desk, event: Event) -> Stepped {
+fn entry_of(event: Event) -> Entry {
     let code = event.code;
     match code {
-        ALERTED => act(d, identifier_of(event.about), Act::Alerted),
-        WITHDRAW => act(d, identifier_of(event.about), Act::Cancel),
-        BUSY => report_line(d, digits_of(event.about), true),
-        FREE => report_line(d, digits_of(event.about), false),
-        _ => look(d, digits_of(event.about)),
+        ALERTED => act_entry(identifier_of(event.about), Act::Alerted),
+        WITHDRAW => act_entry(identifier_of(event.about), Act::Cancel),
+        BUSY => report_entry(digits_of(event.about), true),
+        FREE => report_entry(digits_of(event.about), false),
+        _ => look_entry(digits_of(event.about)),
     }
 }
 
@@ -134,49 +174,52 @@ fn about_of(event: Event, sending: Sending) -> About {
     About::Nothing
 }
 
-pub fn line_does(w: World, event: Event) -> World {
-    let d = w.line;
-    let step = step_of(d, event);
-    let after = step.desk;
-    let planned = step.outcome;
-    let outcome = carried_out(w.wrong, planned);
+pub fn line_does(w: World, event: Event, unseen: bool) -> World {
+    let wire = w.toLine;
+    let done = carried(w, entry_of(event), Sending::Nothing, wire);
+    let outcome = done.outcome;
     let sending = outcome.sending;
-    let about = about_of(event, sending);
-    finish(w, event, about, Sending::Nothing, after, outcome, 0)
+    finish(w, event, about_of(event, sending), done, unseen)
 }
 
-fn line_receives(w: World, event: Event, heard: Sending) -> World {
-    let d = w.line;
-    let wire = w.toLine;
+// The bytes of a wire, as the desk takes them.
+fn entry_heard(wire: Wire) -> Entry {
     let bytes = wire.bytes;
-    let step = receive_bytes(d, part(&bytes, wire.from, wire.to));
-    let after = step.desk;
-    let planned = step.outcome;
-    let outcome = carried_out(w.wrong, planned);
-    let about = about_sent(heard);
-    finish(w, event, about, heard, after, outcome, step.next)
+    let read = bytes_entry(part(&bytes, wire.from, wire.to));
+    read.entry
 }
 
 // The first message of the wire arrives.
-pub fn line_hears(w: World, event: Event) -> World {
+pub fn line_hears(w: World, event: Event, unseen: bool) -> World {
     let wire = w.toLine;
-    let heard = first(wire);
+    let first = hear(wire);
+    let heard = letter_heard(first);
     match heard {
         Sending::Nothing => {
-            show_silence(w.unseen, true);
+            show_silence(unseen, true);
             w
         }
-        Sending::Send(_) => line_receives(w, event, heard),
+        Sending::Send(_) => {
+            let done = carried(w, entry_heard(wire), heard, behind_heard(wire, first.left));
+            finish(w, event, about_sent(heard), done, unseen)
+        }
     }
 }
 
 // A result that no desk sent goes onto the wire to the clerk.
-pub fn stray_result(w: World, event: Event) -> World {
-    let d = w.line;
+pub fn stray_result(w: World, event: Event, unseen: bool) -> World {
+    let desk = w.line;
+    let wire = w.toLine;
     let none = no_timers();
     let identifier = words_of(identifier_of(event.about));
     let body = Body::RequestResult { keep: 1 };
     let letter = plain_letter(identifier, Carrier::Connect, body);
     let outcome = done(Sending::Send(letter), none, none);
-    finish(w, event, About::Nothing, Sending::Nothing, d, outcome, 0)
+    let stray = Done {
+        desk,
+        outcome,
+        heard: Sending::Nothing,
+        wire,
+    };
+    finish(w, event, About::Nothing, stray, unseen)
 }

@@ -10,7 +10,6 @@ mod play;
 mod records;
 mod requests;
 mod scenes;
-mod text;
 mod wire;
 mod words;
 mod world;

@@ -1,15 +1,20 @@
 // What the teller says. docs/STORY.md has each line.
-use crate::text::part;
-use crate::text::put_byte;
-use crate::text::put_entry;
 use libc::STDOUT_FILENO;
+use printing::blank_page;
+use printing::part;
+use printing::put_entry;
+use printing::put_text;
+
+// A line by its entry in a table.
+fn print_entry(table: &[u8], entry: usize) {
+    let line = put_text(put_entry(blank_page(), table, entry), b"\n");
+    let bytes = line.bytes;
+    io::write_all(STDOUT_FILENO, part(&bytes, 0, line.at));
+}
 
 // A line of the narration, from 1.
 pub fn say(number: usize) {
-    let mut line = [0u8; 104];
-    let end = put_entry(
-        &mut line,
-        0,
+    print_entry(
         b"
 * The house's line is busy. The clerk asks to be rung back, and says that it can keep the request.
 * The line clears, and the house rings back. But another caller is faster than the clerk.
@@ -27,51 +32,65 @@ pub fn say(number: usize) {
 ",
         number,
     );
-    let behind = put_byte(&mut line, end, b'\n');
-    io::write_all(STDOUT_FILENO, part(&line, 0, behind));
 }
 
-pub fn open_story() {
-    io::write_all(
-        STDOUT_FILENO,
-        b"TOLLHERRING: THREE LESSONS IN FOUR SCENES
+// A line around the scenes: the story's opening from 4 on, and for each scene from 8 on its title, its opening and the two lines of its lesson.
+fn frame(number: usize) {
+    print_entry(
+        b"
+====================================================================================================
+CLERK'S DESK (User A)         |               THE WIRES              | LINE DESK (User B)
+------------------------------+--------------------------------------+------------------------------
+TOLLHERRING: THREE LESSONS IN FOUR SCENES
 A clerk finds a house's line busy and asks to be rung back. #34 is the request for a group of 34.
 A message is sent: o---...   It arrives: ...--->   No desk sent it: ...---?   Its carrier is in [ ].
 States, timers, notices and refusals are the desks' own. A scene says which messages it forges.
-
+Scene 1. The evening as it went wrong
+The house's end stores no keep; its answer \"keep 1\" is forged here. Each end alone looks well.
+LESSON 1. Two good ends are not yet a good pair: one believed in a request that the other had
+deleted. No ring-back came, the clerk split the group, and 34 guests slept in two houses.
+Scene 2. The evening as it goes now
+The same evening and the same inputs; the house's end now stores what it answers.
+LESSON 1, LEARNED. What one end holds as kept, the other has stored. The ring-back came, and the 34
+slept in one house.
+Scene 3. A cancel meets a ring-back
+User A no longer wants the call, just when the house rings back.
+LESSON 2. A cancel does meet a ring-back on the wire. A late message finds no record, is refused
+and changes nothing; and both ends have let the request go.
+Scene 4. A stray reply
+Replies arrive that no request is waiting for, at a desk that holds a live request.
+LESSON 3. A stray reply must never touch the nearest request. A record is found by its identifier
+and by nothing else.
 ",
+        number,
     );
+}
+
+pub fn open_story() {
+    frame(4);
+    frame(5);
+    frame(6);
+    frame(7);
+    frame(0);
 }
 
 // The title between two rules, the opening, and the head of the ladder.
-pub fn open_scene(title: &[u8], opening: &[u8]) {
-    io::write_all(
-        STDOUT_FILENO,
-        b"====================================================================================================
-",
-    );
-    io::write_all(STDOUT_FILENO, title);
-    io::write_all(
-        STDOUT_FILENO,
-        b"====================================================================================================
-",
-    );
-    io::write_all(STDOUT_FILENO, opening);
-    io::write_all(
-        STDOUT_FILENO,
-        b"
-CLERK'S DESK (User A)         |               THE WIRES              | LINE DESK (User B)
-------------------------------+--------------------------------------+------------------------------
-",
-    );
+pub fn open_scene(scene: u8) {
+    let title = 4 + 4 * (scene as usize);
+    frame(1);
+    frame(title);
+    frame(1);
+    frame(title + 1);
+    frame(0);
+    frame(2);
+    frame(3);
 }
 
-pub fn close_scene(lesson: &[u8]) {
-    io::write_all(
-        STDOUT_FILENO,
-        b"------------------------------+--------------------------------------+------------------------------
-",
-    );
-    io::write_all(STDOUT_FILENO, lesson);
-    io::write_all(STDOUT_FILENO, b"\n");
+// The lesson below the ladder.
+pub fn close_scene(scene: u8) {
+    let title = 4 + 4 * (scene as usize);
+    frame(3);
+    frame(title + 2);
+    frame(title + 3);
+    frame(0);
 }

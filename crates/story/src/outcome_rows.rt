@@ -1,47 +1,38 @@
 // What an outcome tells an end's host, row by row: the refusal, timers, the notice, the word to clear the call; and the state of the request.
 use crate::page::below;
-use crate::page::place;
-use crate::text::either;
-use crate::text::put_entry;
-use crate::text::put_text;
+use crate::page::either;
 use crate::words::put_state;
 use desk::outcome::Notice;
 use desk::outcome::Outcome;
 use desk::outcome::Timers;
+use printing::Page;
+use printing::put_entry;
+use printing::put_text;
 use told::notice_number;
 use told::timers_number;
 
 // A row of an entry's words behind a lead; the first entry is none, and takes no row.
-fn put_row(
-    page: &mut [u8],
-    row: usize,
-    column: usize,
-    lead: &[u8],
-    table: &[u8],
-    entry: usize,
-) -> usize {
+fn put_row(page: Page, lead: &[u8], table: &[u8], entry: usize) -> Page {
     if entry == 0 {
-        return row;
+        return page;
     }
-    let next = put_text(page, place(row, column), lead);
-    put_entry(page, next, table, entry);
-    below(row)
+    let at = page.at;
+    below(put_entry(put_text(page, lead), table, entry), at)
 }
 
-// Two rows: the number, and what it means.
-fn put_refusal(page: &mut [u8], row: usize, column: usize, refusal: usize) -> usize {
-    let next = put_row(
+fn put_number(page: Page, refusal: usize) -> Page {
+    put_row(
         page,
-        row,
-        column,
         b"  refused with ",
         b"\n1\n2\n3\n4\n5\n6\n7\n8\n9\n10\n11\n12\n",
         refusal,
-    );
+    )
+}
+
+// What a refusal's number means.
+fn put_meaning(page: Page, refusal: usize) -> Page {
     put_row(
         page,
-        next,
-        column,
         b"  ",
         b"
 bytes that are no message
@@ -62,11 +53,9 @@ no room in the buffer
 }
 
 // Timers that are stopped, or started.
-fn put_timers(page: &mut [u8], row: usize, column: usize, what: &[u8], timers: Timers) -> usize {
+fn put_timers(page: Page, what: &[u8], timers: Timers) -> Page {
     put_row(
         page,
-        row,
-        column,
         what,
         b"
  T1
@@ -89,11 +78,9 @@ fn put_timers(page: &mut [u8], row: usize, column: usize, what: &[u8], timers: T
     )
 }
 
-fn put_notice(page: &mut [u8], row: usize, column: usize, notice: Notice) -> usize {
+fn put_notice(page: Page, notice: Notice) -> Page {
     put_row(
         page,
-        row,
-        column,
         b"  notice ",
         b"
 \"accepted\"
@@ -110,47 +97,35 @@ fn put_notice(page: &mut [u8], row: usize, column: usize, notice: Notice) -> usi
     )
 }
 
+fn put_clear(page: Page, clear: bool) -> Page {
+    put_row(page, b"  clear the call", b"", either(clear, 1, 0))
+}
+
 // The words in front of the state after a step.
-fn put_before(page: &mut [u8], at: usize, before: usize, after: usize) -> usize {
+fn put_before(page: Page, before: usize, after: usize) -> Page {
     if before == after {
-        return put_text(page, at, b"  still ");
+        return put_text(page, b"  still ");
     }
-    let from = put_text(page, at, b"  ");
-    let arrow = put_state(page, from, before);
-    put_text(page, arrow, b" -> ")
+    put_text(put_state(put_text(page, b"  "), before), b" -> ")
 }
 
 // The state of the step's request, which stays or changes.
-pub fn put_states(
-    page: &mut [u8],
-    row: usize,
-    column: usize,
-    before: usize,
-    after: usize,
-) -> usize {
+pub fn put_states(page: Page, before: usize, after: usize) -> Page {
     if after == 0 {
-        return row;
+        return page;
     }
-    let next = put_before(page, place(row, column), before, after);
-    put_state(page, next, after);
-    below(row)
+    let at = page.at;
+    below(put_state(put_before(page, before, after), after), at)
 }
 
 // What the outcome tells the end's host, without the message.
-pub fn put_outcome(page: &mut [u8], row: usize, column: usize, outcome: Outcome) -> usize {
+pub fn put_outcome(page: Page, outcome: Outcome) -> Page {
     let stops = outcome.stops;
     let starts = outcome.starts;
     let notice = outcome.notice;
-    let mut next = put_refusal(page, row, column, outcome.refusal as usize);
-    next = put_timers(page, next, column, b"  stops", stops);
-    next = put_timers(page, next, column, b"  starts", starts);
-    next = put_notice(page, next, column, notice);
-    put_row(
-        page,
-        next,
-        column,
-        b"  clear the call",
-        b"",
-        either(outcome.clear, 1, 0),
-    )
+    let refusal = outcome.refusal as usize;
+    let refused = put_meaning(put_number(page, refusal), refusal);
+    let stopped = put_timers(refused, b"  stops", stops);
+    let started = put_timers(stopped, b"  starts", starts);
+    put_clear(put_notice(started, notice), outcome.clear)
 }

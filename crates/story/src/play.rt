@@ -18,17 +18,16 @@ use crate::line_end::stray_result;
 use crate::narration::say;
 use crate::records::print_records;
 use crate::world::World;
-use crate::world::unseen;
 
 // One event, and the world afterwards.
-fn play_event(w: World, event: Event) -> World {
+fn play_event(w: World, event: Event, unseen: bool) -> World {
     let code = event.code;
     match code {
-        ASK..=T2 => clerk_does(w, event),
-        ALERTED..=LOOK => line_does(w, event),
-        STRAY => stray_result(w, event),
-        CLERK_HEARS => clerk_hears(w, event),
-        LINE_HEARS => line_hears(w, event),
+        ASK..=T2 => clerk_does(w, event, unseen),
+        ALERTED..=LOOK => line_does(w, event, unseen),
+        STRAY => stray_result(w, event, unseen),
+        CLERK_HEARS => clerk_hears(w, event, unseen),
+        LINE_HEARS => line_hears(w, event, unseen),
         RECORDS => {
             print_records(w);
             w
@@ -41,18 +40,13 @@ fn play_event(w: World, event: Event) -> World {
     }
 }
 
-// No script has more than thirty-two events; behind its last one nothing happens.
-pub fn play(w: World, script: &[u8]) -> World {
+// No script has more than thirty-two events; behind its last one nothing happens. Those of a prelude are played unseen.
+pub fn play(w: World, script: &[u8], unseen: bool) -> World {
     let mut after = w;
     let mut step = 0;
     while step < 32 {
-        after = play_event(after, event_at(script, step));
+        after = play_event(after, event_at(script, step), unseen);
         step += 1;
     }
     after
-}
-
-// A prelude is played and not shown.
-pub fn play_unseen(w: World, script: &[u8]) -> World {
-    unseen(play(unseen(w, true), script), false)
 }

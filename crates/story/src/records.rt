@@ -1,19 +1,21 @@
 // The event `records`: the records of both desks side by side, in the order of storing.
 use crate::clerk_end;
-use crate::ladder::tag_of;
 use crate::line_end;
 use crate::page::cell;
-use crate::page::place;
 use crate::page::print_rows;
-use crate::text::put_entry;
-use crate::text::put_tag;
-use crate::text::put_text;
 use crate::words::NO_RECORD;
 use crate::words::put_keep;
 use crate::words::put_state;
+use crate::words::put_tag;
+use crate::words::tag_of;
 use crate::world::World;
 use desk::Keep;
 use lists::words::Words;
+use printing::Page;
+use printing::blank_page;
+use printing::go_to;
+use printing::put_entry;
+use printing::put_text;
 
 // What is shown of a record. The state is an entry of the table of states: `NO_RECORD` where the place is not used.
 struct Shown {
@@ -22,10 +24,11 @@ struct Shown {
     keep: Keep,
 }
 
-fn clerk_record(words: &[u64; 192], i: usize) -> Shown {
+fn clerk_record(words: &[u64; clerk_records::WORDS], i: usize) -> Shown {
     let r = clerk_records::places::load(words, i);
-    let identifier = r.identifier;
-    let keep = r.keep;
+    let agreed = r.terms;
+    let identifier = agreed.identifier;
+    let keep = agreed.keep;
     let state = r.state;
     Shown {
         identifier,
@@ -34,10 +37,11 @@ fn clerk_record(words: &[u64; 192], i: usize) -> Shown {
     }
 }
 
-fn line_record(words: &[u64; 498], i: usize) -> Shown {
+fn line_record(words: &[u64; line_records::WORDS], i: usize) -> Shown {
     let r = line_records::places::load(words, i);
-    let identifier = r.identifier;
-    let keep = r.keep;
+    let agreed = r.terms;
+    let identifier = agreed.identifier;
+    let keep = agreed.keep;
     let state = r.state;
     Shown {
         identifier,
@@ -47,17 +51,14 @@ fn line_record(words: &[u64; 498], i: usize) -> Shown {
 }
 
 // The record of a desk's place. A desk without any says so in the first row.
-fn put_record(page: &mut [u8], column: usize, i: usize, shown: Shown) {
+fn put_record(page: Page, i: usize, shown: Shown) -> Page {
+    if shown.state == NO_RECORD {
+        return put_entry(page, b"no record\n", i);
+    }
     let identifier = shown.identifier;
     let keep = shown.keep;
-    if shown.state == NO_RECORD {
-        put_entry(page, place(0, column), b"no record\n", i);
-        return;
-    }
-    let mut next = put_tag(page, place(0, column), tag_of(identifier));
-    next = put_text(page, next, b" ");
-    next = put_state(page, next, shown.state);
-    put_keep(page, next, keep);
+    let tagged = put_text(put_tag(page, tag_of(identifier)), b" ");
+    put_keep(put_state(tagged, shown.state), keep)
 }
 
 // The row of one place of both desks. There is a first one, and behind it only those that a desk uses: used places stand before the others.
@@ -65,11 +66,9 @@ fn print_place(i: usize, atClerk: Shown, atLine: Shown) {
     if 0 < i && atClerk.state == NO_RECORD && atLine.state == NO_RECORD {
         return;
     }
-    let mut page = [b' '; 1040];
-    put_entry(&mut page, place(0, 45), b"(records)\n", i);
-    put_record(&mut page, cell(false), i, atClerk);
-    put_record(&mut page, cell(true), i, atLine);
-    print_rows(&mut page, 1);
+    let left = put_record(blank_page(), i, atClerk);
+    let middle = put_entry(go_to(left, 45), b"(records)\n", i);
+    print_rows(put_record(go_to(middle, cell(true)), i, atLine), 1);
 }
 
 pub fn print_records(w: World) {

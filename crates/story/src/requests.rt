@@ -1,5 +1,5 @@
 // Who asks for what: the requests and the lines of all scenes (docs/STORY.md, "What the scenes share").
-use clerk::steps::Asking;
+use clerk::entry::Asking;
 use message::Kind;
 
 // A request is known by its tag: each byte of its identifier.

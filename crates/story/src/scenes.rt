@@ -2,7 +2,6 @@
 use crate::narration::close_scene;
 use crate::narration::open_scene;
 use crate::play::play;
-use crate::play::play_unseen;
 use crate::world::World;
 use crate::world::start_world;
 
@@ -36,38 +35,28 @@ fn evening(w: World) -> World {
 41 look
 -- clerk hears
 ",
+        false,
     )
 }
 
 pub fn scene_1() {
-    open_scene(
-        b"Scene 1. The evening as it went wrong\n",
-        b"The house's end stores no keep; its answer \"keep 1\" is forged here. Each end alone looks well.\n",
-    );
-    let w = evening(start_world(true, RETAIN));
+    open_scene(1);
     play(
-        w,
+        evening(start_world(true, RETAIN)),
         b"05 say
 34 T2
 -- line hears
 -- records
 ",
+        false,
     );
-    close_scene(
-        b"LESSON 1. Two good ends are not yet a good pair: one believed in a request that the other had
-deleted. No ring-back came, the clerk split the group, and 34 guests slept in two houses.
-",
-    );
+    close_scene(1);
 }
 
 pub fn scene_2() {
-    open_scene(
-        b"Scene 2. The evening as it goes now\n",
-        b"The same evening and the same inputs; the house's end now stores what it answers.\n",
-    );
-    let w = evening(start_world(false, RETAIN));
+    open_scene(2);
     play(
-        w,
+        evening(start_world(false, RETAIN)),
         b"06 say
 34 accept
 -- line hears
@@ -75,34 +64,28 @@ pub fn scene_2() {
 -- clerk hears
 -- records
 ",
+        false,
     );
-    close_scene(
-        b"LESSON 1, LEARNED. What one end holds as kept, the other has stored. The ring-back came, and the 34
-slept in one house.
-",
-    );
+    close_scene(2);
 }
 
 // The request is accepted at both ends.
 fn accepted(w: World) -> World {
-    play_unseen(
+    play(
         w,
         b"41 busy
 34 ask
 -- line hears
 -- clerk hears
 ",
+        true,
     )
 }
 
 pub fn scene_3() {
-    open_scene(
-        b"Scene 3. A cancel meets a ring-back\n",
-        b"User A no longer wants the call, just when the house rings back.\n",
-    );
-    let w = accepted(start_world(false, RELEASE));
+    open_scene(3);
     play(
-        w,
+        accepted(start_world(false, RELEASE)),
         b"-- records
 07 say
 41 free
@@ -115,17 +98,14 @@ pub fn scene_3() {
 -- line hears
 -- records
 ",
+        false,
     );
-    close_scene(
-        b"LESSON 2. A cancel does meet a ring-back on the wire. A late message finds no record, is refused
-and changes nothing; and both ends have let the request go.
-",
-    );
+    close_scene(3);
 }
 
 // Two groups, each rung back by its house.
 fn rung_back(w: World) -> World {
-    play_unseen(
+    play(
         w,
         b"41 busy
 52 busy
@@ -142,6 +122,7 @@ fn rung_back(w: World) -> World {
 52 look
 -- clerk hears
 ",
+        true,
     )
 }
 
@@ -173,18 +154,12 @@ fn stray_replies(w: World) {
 -- clerk hears
 -- records
 ",
+        false,
     );
 }
 
 pub fn scene_4() {
-    open_scene(
-        b"Scene 4. A stray reply\n",
-        b"Replies arrive that no request is waiting for, at a desk that holds a live request.\n",
-    );
+    open_scene(4);
     stray_replies(rung_back(start_world(false, RETAIN)));
-    close_scene(
-        b"LESSON 3. A stray reply must never touch the nearest request. A record is found by its identifier
-and by nothing else.
-",
-    );
+    close_scene(4);
 }

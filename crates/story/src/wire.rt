@@ -1,17 +1,23 @@
-// A wire: the bytes of the messages under way, one behind the other. An end hands its desk all that has not been heard, and the desk
-// tells how much of it the first message was.
-use crate::text::part;
+// A wire: the bytes of the messages under way, one behind the other. An end hands its desk all that has not been heard.
 use desk::letter::letter_of;
 use desk::letter::message_of;
 use desk::outcome::Sending;
 use message::Message;
 use message::digits::PlaceRead;
+use printing::part;
+use reader::Answer;
 use writer::Written;
 
 pub struct Wire {
     pub bytes: [u8; 512],
     pub from: usize,
     pub to: usize,
+}
+
+// What is heard next, and how many bytes stand behind it.
+pub struct Heard {
+    pub answer: Answer,
+    pub left: usize,
 }
 
 pub fn quiet_wire() -> Wire {
@@ -53,26 +59,41 @@ pub fn send(wire: Wire, sending: Sending) -> Wire {
     }
 }
 
-// The message that is heard next, if there is one.
-pub fn first(wire: Wire) -> Sending {
-    let bytes = wire.bytes;
-    let answer = reader::read(part(&bytes, wire.from, wire.to));
-    let verdict = answer.verdict;
-    match verdict {
-        PlaceRead::Refused(_) => Sending::Nothing,
-        PlaceRead::Taken(_) => {
-            let m = answer.message;
-            Sending::Send(letter_of(m))
-        }
+fn first(s: &[u8]) -> Heard {
+    let answer = reader::read(s);
+    let rest = taken::rest(s, answer);
+    Heard {
+        answer,
+        left: rest.len(),
     }
 }
 
-// The wire when so many bytes of it have been heard.
-pub fn heard(wire: Wire, length: usize) -> Wire {
+// The first message of a wire, if there is one.
+pub fn hear(wire: Wire) -> Heard {
     let bytes = wire.bytes;
+    first(part(&bytes, wire.from, wire.to))
+}
+
+// The letter that is heard, if there is one.
+pub fn letter_heard(heard: Heard) -> Sending {
+    let answer = heard.answer;
+    let verdict = answer.verdict;
+    let m = answer.message;
+    match verdict {
+        PlaceRead::Refused(_) => Sending::Nothing,
+        PlaceRead::Taken(_) => Sending::Send(letter_of(m)),
+    }
+}
+
+// The wire when all but so many bytes of it have been heard.
+pub fn behind_heard(wire: Wire, left: usize) -> Wire {
+    let bytes = wire.bytes;
+    if wire.to < left {
+        return wire;
+    }
     Wire {
         bytes,
-        from: along(wire.from, length),
+        from: wire.to - left,
         to: wire.to,
     }
 }

@@ -1,19 +1,33 @@
 // The words of the ladder, as docs/STORY.md fixes them: a table for each list, and the entry of each value.
-use crate::text::either;
-use crate::text::put_entry;
+use crate::page::either;
 use desk::Keep;
+use lists::words::Words;
+use lists::words::bytes_of;
 use message::Body;
 use message::Carrier;
+use printing::Page;
+use printing::put_entry;
+use printing::put_text;
 use terms::codes::keep_code;
 use writer::numbers::carrier_number;
 
 // The states of both desks, by their entries in the table below: 1 is no record, 0 is for an event that is about no request.
 pub const NO_RECORD: usize = 1;
 
-pub fn put_state(buffer: &mut [u8], at: usize, state: usize) -> usize {
+// A tag: the request's number of two digits.
+pub fn put_tag(page: Page, tag: u8) -> Page {
+    put_text(page, &[b'#', b'0' + tag / 10 % 10, b'0' + tag % 10])
+}
+
+// The tag of a request, by its identifier.
+pub fn tag_of(identifier: Words) -> u8 {
+    let bytes = bytes_of(identifier);
+    bytes[0]
+}
+
+pub fn put_state(page: Page, state: usize) -> Page {
     put_entry(
-        buffer,
-        at,
+        page,
         b"
 no record
 Wait-Ack
@@ -53,35 +67,33 @@ fn type_entry(body: Body) -> usize {
 }
 
 // A type with the value of its field.
-pub fn put_type(buffer: &mut [u8], at: usize, body: Body) -> usize {
+pub fn put_type(page: Page, body: Body) -> Page {
     put_entry(
-        buffer,
-        at,
-        b"ccbsRequest
-ccnrRequest
-result keep 0
-result keep 1
-request error short
-request error long
-ccExecPossible
-ccRingout
-ringout error remoteUserBusyAgain
-ringout error failureToMatch
-ccSuspend
-ccResume
-ccCancel
-call alerts
-call failed
+        page,
+        b" ccbsRequest
+ ccnrRequest
+ result keep 0
+ result keep 1
+ request error short
+ request error long
+ ccExecPossible
+ ccRingout
+ ringout error remoteUserBusyAgain
+ ringout error failureToMatch
+ ccSuspend
+ ccResume
+ ccCancel
+ call alerts
+ call failed
 ",
         type_entry(body),
     )
 }
 
 // A carrier, by its number, with the dashes of an arrow: twenty-four bytes in all.
-pub fn put_carrier(buffer: &mut [u8], at: usize, carrier: Carrier) -> usize {
+pub fn put_carrier(page: Page, carrier: Carrier) -> Page {
     put_entry(
-        buffer,
-        at,
+        page,
         b"
 --------[Setup]---------
 -------[Connect]--------
@@ -94,10 +106,9 @@ pub fn put_carrier(buffer: &mut [u8], at: usize, carrier: Carrier) -> usize {
 }
 
 // The keep choice of a record.
-pub fn put_keep(buffer: &mut [u8], at: usize, keep: Keep) -> usize {
+pub fn put_keep(page: Page, keep: Keep) -> Page {
     put_entry(
-        buffer,
-        at,
+        page,
         b", keep -
 , keep 0
 , keep 1

@@ -1,22 +1,23 @@
--- The row stays within the count, and the page keeps its length. The loop ends because the row goes down the page.
+-- The invariant: the row stays within the count. The loop ends because the row goes up.
 use Prim.Native.Nat.{_≤_, _-_}
-use mathlib.Core.Path.{_≡_}
-use lib.ListN.{length}
 use borrow.Author.Needs.{needs}
 use Rattle.story.proofs.page.print_rows.Statement.{statement}
 use Rattle.story.proofs.page.print_rows.Tie as tie
 
 abbrev Inv-loop : tie.InvT-loop
-Inv-loop page₀ count row₀ page row = (row ≤ count) × (length page ≡ length page₀)
+Inv-loop page count row₀ start₀ row start = row ≤ count
 
 abbrev μ-loop : tie.MeasureT-loop
-μ-loop page₀ count row₀ page row = count - row
+μ-loop page count row₀ start₀ row start = count - row
 
 loop-holds : tie.Need-loop-holds Inv-loop μ-loop
 loop-holds c = search needs
 
 print-row-requires : tie.Need-print-row-requires Inv-loop μ-loop
 print-row-requires c κs = search needs
+
+along-requires : tie.Need-along-requires Inv-loop μ-loop
+along-requires c κs = search needs
 
 add-row : tie.Need-add-row Inv-loop μ-loop
 add-row c = search needs
@@ -26,9 +27,6 @@ loop-less c = search needs
 
 loop-again : tie.Need-loop-again Inv-loop μ-loop
 loop-again c = search needs
-
-same-length : tie.Need-same-length Inv-loop μ-loop
-same-length c = search needs
 
 returns : tie.Need-returns Inv-loop μ-loop
 returns c = search needs
@@ -41,8 +39,8 @@ print-rows-spec =
     μ-loop
     loop-holds
     print-row-requires
+    along-requires
     add-row
     loop-less
     loop-again
-    same-length
     returns)

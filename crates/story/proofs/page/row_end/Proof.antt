@@ -1,16 +1,14 @@
 -- The end only goes down: it stays within the row, and each turn brings it nearer to the start.
 use Prim.Native.Nat.{_≤_, _-_}
-use mathlib.Core.Path.{_≡_}
-use lib.ListN.{length}
 use borrow.Author.Needs.{needs}
 use Rattle.story.proofs.page.row_end.Statement.{statement}
 use Rattle.story.proofs.page.row_end.Tie as tie
 
 abbrev Inv-loop : tie.InvT-loop
-Inv-loop page start behind end₀ end = end ≤ behind
+Inv-loop bytes start behind end₀ end = end ≤ behind
 
 abbrev μ-loop : tie.MeasureT-loop
-μ-loop page start behind end₀ end = end
+μ-loop bytes start behind end₀ end = end - start
 
 loop-holds : tie.Need-loop-holds Inv-loop μ-loop
 loop-holds c = search needs

@@ -1,16 +1,14 @@
--- The step stays within thirty-two. The loop ends because it goes up.
+-- The invariant: the step stays within thirty-two. The loop ends because the step goes up.
 use Prim.Native.Nat.{_≤_, _-_}
-use mathlib.Core.Path.{_≡_}
-use lib.ListN.{length}
 use borrow.Author.Needs.{needs}
 use Rattle.story.proofs.play.play.Statement.{statement}
 use Rattle.story.proofs.play.play.Tie as tie
 
 abbrev Inv-loop : tie.InvT-loop
-Inv-loop script after₀ step₀ after step = step ≤ 32
+Inv-loop script unseen after₀ step₀ after step = step ≤ 32
 
 abbrev μ-loop : tie.MeasureT-loop
-μ-loop script after₀ step₀ after step = 32 - step
+μ-loop script unseen after₀ step₀ after step = 32 - step
 
 loop-holds : tie.Need-loop-holds Inv-loop μ-loop
 loop-holds c = search needs

@@ -1,7 +1,5 @@
--- The place stays within the thirty-two of the larger desk. The loop ends because it goes up.
+-- The invariant: the index stays within the thirty-two places. The loop ends because the index goes up.
 use Prim.Native.Nat.{_≤_, _-_}
-use mathlib.Core.Path.{_≡_}
-use lib.ListN.{length}
 use borrow.Author.Needs.{needs}
 use Rattle.story.proofs.records.print_records.Statement.{statement}
 use Rattle.story.proofs.records.print_records.Tie as tie
