@@ -52,15 +52,15 @@ abbrev pub refusedStep : Desk → ℕ → Stepped
 refusedStep d number = record { desk = d; outcome = refusedWith number Sending.Nothing }
 
 -- what comes in at the entry
-abbrev pub entered : Desk → Entry → Stepped
+unfoldable pub entered : Desk → Entry → Stepped
 entered d (Refused number) = refusedStep d number
 entered d (Given input) = step d input
 
 abbrev pub withNext : Stepped → ℕ → SteppedBytes
 withNext step next = record { desk = step .desk; outcome = step .outcome; next = next }
 
-abbrev pub enteredBytes : Desk → BytesEntry → SteppedBytes
-enteredBytes d read = withNext (entered d (read .entry)) (read .next)
+abbrev pub readStep : Desk → BytesEntry → SteppedBytes
+readStep d read = withNext (entered d (read .entry)) (read .next)
 
 -- ---- document 01's inputs, by name
 -- an ask: 2, 4, 5
@@ -80,5 +80,5 @@ abbrev pub reported : Desk → List ℕ → Timer → Stepped
 reported d identifier timer = entered d (timerEntry identifier timer)
 
 -- raw bytes: the reader's 1 and 2 change nothing
-abbrev pub receivedBytes : Desk → List ℕ → Bool → SteppedBytes
-receivedBytes d bytes busy = enteredBytes d (bytesEntry bytes busy)
+unfoldable pub receivedBytes : Desk → List ℕ → Bool → SteppedBytes
+receivedBytes d bytes busy = readStep d (bytesEntry bytes busy)

@@ -83,7 +83,7 @@ unfolding askEntry
 asked-entry d a proper = rw (lt-ltb (a .preference) 3 (proper .preference), proper .ranged)
 
 asked-decision : (d : Desk) (a : Asking) → Proper d a → (decision : Decision) → decided (records (d .words)) (askInput a) ≡ decision → asked d a ≡ made d (planOf (records (d .words)) (askInput a) decision)
-unfolding step planFor
+unfolding entered step planFor
 asked-decision d a proper decision e =
     ap (entered d) (asked-entry d a proper) ∙ ap (λ (x : Decision). made d (planOf (records (d .words)) (askInput a) x)) e
 
@@ -125,6 +125,7 @@ asked-behind =
 
 -- ---- as many asks as there are places, from the start
 asks-reached : {d : Desk} {n : ℕ} → Asks d n → Reached d
+unfolding entered
 asks-reached S.none = S.starts
 asks-reached (S.more {d} a proper before) =
     subst (λ (entry : Entry). Reached (entered d entry .desk)) (sym (asked-entry d a proper))

@@ -20,7 +20,7 @@ use Rattle.clerk_records.specs.Records.{records}
 use Rattle.clerk_records.proofs.RecordsLaws.{applied-length, records-applied}
 use Rattle.clerk_plan.specs.Plan.{planFor}
 use Rattle.clerk.specs.Entry.{messageEntry, readEntry, bytesEntry}
-use Rattle.clerk.specs.Steps.{step, entered, received}
+use Rattle.clerk.specs.Steps.{step, entered, received, receivedBytes}
 use Rattle.clerk.specs.declared.Desk.{Desk}
 use Rattle.clerk.specs.declared.entry.Entry.{Entry}
 use Rattle.clerk.specs.declared.entry.Entry.the-variants.{Refused, Given}
@@ -79,11 +79,13 @@ unfolding bytesEntry
 bytes-fair bytes busy = read-fair busy (messageAt bytes)
 
 good-entered : (d : Desk) → Good d → (entry : Entry) → FairEntry entry → Good (entered d entry .desk)
+unfolding entered
 good-entered d good (Refused number) fair = good
 good-entered d good (Given input) fair = good-step d good input (fair input refl)
 
 -- ---- every reached desk
 reached-good : {d : Desk} → Reached d → Good d
+unfolding receivedBytes
 reached-good S.starts = record { full = length-replicate {A = ℕ} Layout.words 0; sound = start-sound }
 reached-good (S.steps {d} {input} fair r) = good-step d (reached-good r) input fair
 reached-good (S.reads {d} bytes busy r) = good-entered d (reached-good r) (bytesEntry bytes busy .entry) (bytes-fair bytes busy)
@@ -96,6 +98,7 @@ reached-full d r = reached-good r .full
 
 -- a desk that is reached, after what comes in at the entry
 pub reached-entered : (d : Desk) → Reached d → (entry : Entry) → FairEntry entry → Reached (entered d entry .desk)
+unfolding entered
 reached-entered d reached (Refused number) fair = reached
 reached-entered d reached (Given input) fair = S.steps (fair input refl) reached
 
@@ -107,10 +110,12 @@ pub step-moved : (d : Desk) → Reached d → (input : Input) → Fair input →
 step-moved d reached input fair = good-moved d (reached-good reached) input fair
 
 entered-order : (d : Desk) → Reached d → (entry : Entry) → FairEntry entry → InOrder d (entered d entry .desk)
+unfolding entered
 entered-order d reached (Refused number) fair = same
 entered-order d reached (Given input) fair = moved-order clerkView (reached-sound d reached .placed) (step-moved d reached input (fair input refl))
 
 pub order-of-storing : OrderOfStoring
+unfolding receivedBytes
 order-of-storing =
     record {
       steps = λ d reached input fair. moved-order clerkView (reached-sound d reached .placed) (step-moved d reached input fair);

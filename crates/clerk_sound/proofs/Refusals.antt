@@ -11,7 +11,7 @@ use Rattle.clerk_table.specs.declared.inputs.Input.{Input}
 use Rattle.clerk_records.specs.Records.{records, applied}
 use Rattle.clerk_plan.specs.Plan.{decided, planOf, planFor}
 use Rattle.clerk.specs.Entry.{bytesEntry}
-use Rattle.clerk.specs.Steps.{step, entered}
+use Rattle.clerk.specs.Steps.{step, entered, receivedBytes}
 use Rattle.clerk.specs.declared.Desk.{Desk}
 use Rattle.clerk.specs.declared.entry.Entry.{Entry}
 use Rattle.clerk.specs.declared.entry.Entry.the-variants.{Refused, Given}
@@ -24,11 +24,12 @@ refused-stays rs input (Take i row) never = absurd (never refl)
 refused-stays rs input (Store i q) never = absurd (never refl)
 
 same-entered : (d : Desk) (entry : Entry) → Same d (entered d entry .desk) (entered d entry .outcome)
-unfolding step planFor applied
+unfolding entered step planFor applied
 same-entered d (Refused number) never = refl
 same-entered d (Given input) never =
     let rs = records (d .words) in
     ap (λ (c : Change). record { words = applied (d .words) c }) (refused-stays rs input (decided rs input) never)
 
 pub refused-same : RefusedSame
+unfolding receivedBytes
 refused-same = record { steps = same-entered; bytes = λ d bytes busy. same-entered d (bytesEntry bytes busy .entry) }

@@ -3,25 +3,26 @@ use Prim.Native.Nat.{ℕ, _+_}
 use mathlib.Core.Path.{_≡_, refl, sym, _∙_, ap}
 use mathlib.Core.Bool.{Bool, true}
 use mathlib.Core.List.{List, [], _∷_, _++_}
-use lib.ListN.{length, getD, replicate}
-use Rattle.lists.specs.Words.{octets, wordsOf, bytesOf}
+use lib.ListN.{length, getD}
+use Rattle.lists.specs.Words.{octets, bytesOf}
 use Rattle.lists.specs.declared.words.Words.{Words}
 use Rattle.lists.proofs.WordsLaws.{length-bytesOf, bytes-bytesOf, bytes-take, bytes-words}
 use Rattle.message.specs.Number.{digitsInRange, digitsBytes, sixteen}
-use Rattle.message.specs.Reading.{Read, took}
+use Rattle.message.specs.Reading.{took}
 use Rattle.message.specs.Format.{requestBody, inRange, messageBytes}
-use Rattle.message.specs.Equality.{normal, withNumbers, Formed}
+use Rattle.message.specs.Equality.{normalNumber, normal, Formed}
 use Rattle.message.specs.Wire.{messageAt}
 use Rattle.message.specs.declared.Kind.{Kind}
 use Rattle.message.specs.declared.Kind.the-variants.{Ccbs, Ccnr}
 use Rattle.message.specs.declared.Message.{Message}
 use Rattle.message.proofs.RangeLaws.{request-ranged, RequestRanged}
 use Rattle.desk.specs.Letter.{numberWords, letterOf, messageOf}
-use Rattle.desk.specs.Sends.{noNumber}
 use Rattle.desk.specs.declared.letter.Letter.{Letter}
 use Rattle.desk.proofs.LetterLaws.{bytes-sixteen, normal-length}
 use Rattle.writer.proofs.RoundTrip.{round-trip}
-use Rattle.clerk.specs.Steps as Clerk
+use Rattle.clerk.specs.Entry as ClerkEntry
+use Rattle.clerk.specs.Entry.{askFlags}
+use Rattle.line.specs.Entry as LineEntry
 use Rattle.line.specs.Steps as Line
 use Rattle.pair_request.specs.Reading as R
 use Rattle.pair.specs.World.{World}
@@ -41,13 +42,10 @@ number-normal low number ok e =
     let there = normal-length b low (length-bytesOf number) (bytes-bytesOf number) ok in
     sym (bytes-words (sixteen (digitsBytes b)) there (bytes-sixteen (digitsBytes b) (bytes-take (getD b 0 0 + 1) b (bytes-bytesOf number)))) ∙ ap bytesOf e
 
-no-digits : bytesOf noNumber ≡ replicate 16 0
-unfolding bytesOf octets
-no-digits = refl
-
-has-numbers : {A : Type 0} (kind : Kind) (service flags : ℕ) (has lacks : A) → withNumbers (requestBody kind service flags) has lacks ≡ has
-has-numbers Ccbs service flags has lacks = refl
-has-numbers Ccnr service flags has lacks = refl
+request-number :
+    (kind : Kind) (service flags : ℕ) (number : List ℕ) → sixteen (digitsBytes number) ≡ number → normalNumber (requestBody kind service flags) number ≡ number
+request-number Ccbs service flags number e = e
+request-number Ccnr service flags number e = e
 
 sent-formed : (j : Words) (m : R.Msg) → Formed (messageRead j m)
 unfolding messageOf
@@ -61,16 +59,12 @@ sent-formed j m =
 request-normal : (j : Words) (d : R.Data) (ck : Bool) (q : ℕ) → Clear j (R.request d ck q) → normal (messageRead j (R.request d ck q)) ≡ messageRead j (R.request d ck q)
 unfolding normal messageOf letterOf inRange
 request-normal j d ck q clear =
-    let flags = Clerk.askFlags ck q in
+    let flags = askFlags ck q in
     let a = bytesOf (d .numberA) in
     let b = bytesOf (d .numberB) in
     let r : RequestRanged a b (d .service) flags = request-ranged a b (d .service) flags (sym (request-fields (d .kind) a b (d .service) flags) ∙ clear .ranged) in
-    let sameA : withNumbers (requestBody (d .kind) (d .service) flags) (sixteen (digitsBytes a)) (replicate 16 0) ≡ a =
-    has-numbers (d .kind) (d .service) flags (sixteen (digitsBytes a)) (replicate 16 0)
-    ∙ number-normal 0 (d .numberA) (r .rangeA) (ap (λ (l : Letter). l .numberA) (clear .back)) in
-    let sameB : withNumbers (requestBody (d .kind) (d .service) flags) (sixteen (digitsBytes b)) (replicate 16 0) ≡ b =
-    has-numbers (d .kind) (d .service) flags (sixteen (digitsBytes b)) (replicate 16 0)
-    ∙ number-normal 1 (d .numberB) (r .rangeB) (ap (λ (l : Letter). l .numberB) (clear .back)) in
+    let sameA = request-number (d .kind) (d .service) flags a (number-normal 0 (d .numberA) (r .rangeA) (ap (λ (l : Letter). l .numberA) (clear .back))) in
+    let sameB = request-number (d .kind) (d .service) flags b (number-normal 1 (d .numberB) (r .rangeB) (ap (λ (l : Letter). l .numberB) (clear .back))) in
     λ i.
     record {
       carrier = messageRead j (R.request d ck q) .carrier;
@@ -81,19 +75,19 @@ request-normal j d ck q clear =
     }
 
 sent-normal : (j : Words) (m : R.Msg) → Clear j m → normal (messageRead j m) ≡ messageRead j m
-unfolding normal messageOf
+unfolding normal messageOf bytesOf octets
 sent-normal j (R.request d ck q) clear = request-normal j d ck q clear
-sent-normal j (R.result k n) clear = rw no-digits
-sent-normal j (R.denied short) clear = rw no-digits
-sent-normal j (R.exec n) clear = rw no-digits
-sent-normal j R.ringout clear = rw no-digits
-sent-normal j R.busyAgain clear = rw no-digits
-sent-normal j R.noMatch clear = rw no-digits
-sent-normal j (R.suspend n) clear = rw no-digits
-sent-normal j (R.resume n) clear = rw no-digits
-sent-normal j (R.cancel n) clear = rw no-digits
-sent-normal j R.alerts clear = rw no-digits
-sent-normal j R.failed clear = rw no-digits
+sent-normal j (R.result k n) clear = refl
+sent-normal j (R.denied short) clear = refl
+sent-normal j (R.exec n) clear = refl
+sent-normal j R.ringout clear = refl
+sent-normal j R.busyAgain clear = refl
+sent-normal j R.noMatch clear = refl
+sent-normal j (R.suspend n) clear = refl
+sent-normal j (R.resume n) clear = refl
+sent-normal j (R.cancel n) clear = refl
+sent-normal j R.alerts clear = refl
+sent-normal j R.failed clear = refl
 
 sent-reads : (j : Words) (m : R.Msg) → Clear j m → (rest : List ℕ) →
     messageAt (messageBytes (messageRead j m) ++ rest) ≡ took (messageRead j m) (length (messageBytes (messageRead j m)))
@@ -102,14 +96,14 @@ sent-reads j m clear rest =
     ∙ ap (λ (x : Message). took x (length (messageBytes (messageRead j m)))) (sent-normal j m clear)
 
 clerk-bytes : (w : World) (busy : Bool) (rest : List ℕ) (ms : List Message) → Worded ms → ClerkHearsBytes w busy rest ms
-unfolding Clerk.receivedBytes
+unfolding ClerkEntry.bytesEntry
 clerk-bytes w busy rest [] quiet = tt
-clerk-bytes w busy rest (m ∷ ms) (word j c clear more) = ap (Clerk.readStep (w .clerk) busy) (sent-reads j c clear rest)
+clerk-bytes w busy rest (m ∷ ms) (word j c clear more) = rw (sent-reads j c clear rest)
 
 line-bytes : (w : World) (rest : List ℕ) (ms : List Message) → Worded ms → LineHearsBytes w rest ms
-unfolding Line.receivedBytes
+unfolding Line.receivedBytes LineEntry.bytesEntry
 line-bytes w rest [] quiet = tt
-line-bytes w rest (m ∷ ms) (word j c clear more) = ap (Line.readStep (w .line)) (sent-reads j c clear rest)
+line-bytes w rest (m ∷ ms) (word j c clear more) = rw (sent-reads j c clear rest)
 
 pub heard-as-bytes : HeardAsBytes
 heard-as-bytes w reach busy rest =

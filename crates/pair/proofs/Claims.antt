@@ -1,11 +1,11 @@
 -- The five claims of demand 3: what holds of one request's net holds of the world that it is read from.
 use Prim.Native.Nat.{ℕ}
 use mathlib.Core.Path.{_≡_, refl, sym, _∙_, ap, subst}
-use mathlib.Core.Bool.{Bool, true, false, true≢false, false≢true}
+use mathlib.Core.Bool.{Bool, true, false, false≢true}
 use mathlib.Core.Logic.{_⊎_, inl, inr}
 use mathlib.Core.List.{List, [], _∷_, map}
 use native.Mathlib.Omega.{arith}
-use Rattle.lists.specs.Words.{Bytes, wordsOf}
+use Rattle.lists.specs.Words.{Bytes}
 use Rattle.lists.specs.declared.words.Words.{Words}
 use Rattle.message.specs.Format.{requestBody}
 use Rattle.message.specs.declared.Kind.{Kind}
@@ -16,33 +16,21 @@ use Rattle.desk.specs.declared.Connection.{Connection}
 use Rattle.desk.specs.declared.Connection.the-variants as Connection
 use Rattle.desk.specs.declared.Keep.the-variants as Keep
 use Rattle.places.specs.Places as P
-use Rattle.clerk.specs.Steps.{askFlags}
+use Rattle.clerk.specs.Entry.{askFlags}
 use Rattle.clerk_table.specs.declared.record.Record as ClerkRecord
 use Rattle.clerk_table.specs.declared.table.State.the-variants as ClerkState
 use Rattle.line_table.specs.declared.record.Record as LineRecord
-use Rattle.line_table.specs.declared.table.State.the-variants as LineState
 use Rattle.pair_request.specs.Reading as R
 use Rattle.pair_request.specs.Listed as RL
 use Rattle.pair_request.proofs.Over.{Over}
 use Rattle.pair_request.proofs.Claims.{acked-was-accepted, TakesUp, accepts-by-request, both-hold-waiting, both-hold-live, quiet-pair, over-now, over-next}
-use Rattle.pair.specs.World.{World, Event, lineHears, clerkHolds, lineHolds, messagesOf, has, next, Allowed, Run, stop, then, startWorld, Reached, reached}
+use Rattle.pair.specs.World.{World, Event, lineHears, clerkHolds, lineHolds, messagesOf, next, Allowed, Run, stop, then, startWorld, Reached, reached}
 use Rattle.pair.specs.Claims.{Acknowledged, IsRequest, Requests, Heads, Stores, Accepted, AcknowledgedWasAccepted, Agree, DataAgree, KindAgrees, Listed, no-record, invoked, wait-answer, suspended, ringout, QuietListed, OverForGood}
-use Rattle.pair.proofs.Ends.{clerkRead, clerkRecord, lineRead, lineRecord, messageRead, keepRead, connRead, clerkStateRead, lineStateRead, suspendedRead}
+use Rattle.pair.proofs.Ends.{clerkRead, clerkRecord, lineRead, lineRecord, messageRead, keepRead, connRead, clerkStateRead}
 use Rattle.pair.proofs.Wires.{messages-hit}
-use Rattle.pair.proofs.Sim.{Sim, Good, Follows, stays, moves}
-use Rattle.pair.proofs.ClerkSteps.{Known}
-use Rattle.pair.proofs.Runs.{step-world, good-next, follows-reach, startPolicy, good-start, start-sim, known-start, run-good}
-
--- ---- what is held is what is read
-abbrev recordIn : {A : Type 0} → A → P.Held A → A
-recordIn r P.none = r
-recordIn r (P.one q) = q
-
-same-record : {A : Type 0} (q r : A) → P.one q ≡ P.one r → q ≡ r
-same-record q r e = ap (recordIn q) e
-
-not-none : {A : Type 0} {B : Type 0} (r : A) → P.none ≡ P.one r → B
-not-none r e = let z : _≡_ {A = ℕ} 0 1 = cc in absurd (omega (arith, z))
+use Rattle.pair.proofs.Changes.{not-one, the-one}
+use Rattle.pair.proofs.Sim.{Sim, Known, Good, Hearing}
+use Rattle.pair.proofs.Runs.{Follows, stays, moves, step-world, follows-reach, startPolicy, good-start, start-sim, known-start, run-good}
 
 pub known-world : (w : World) → Reached w → (p : R.Policy) × (Good p w × Known p w)
 known-world w (reached given keep retain b run) =
@@ -96,27 +84,26 @@ accepted-step {w} {e} {j} {n} run once r sim after before (moves x heard) h = go
     go true q = inr (before q)
     go false q =
         let t = accepts-by-request x r q h in
-        inl (stores-now sim after (t .2) (heard .only (t .0) (t .1)))
+        inl (stores-now sim after (t .2) (subst (Hearing w e j) (t .1) heard))
 
 run-told :
     (given : List ℕ) (keep retain : Bool) → Bytes given → {w : World} (run : Run (startWorld given keep retain) w) (j : Words) →
     Told (startPolicy given keep retain) j run
 unfolding Accepted
 run-told given keep retain b stop j = (R.start, (R.begin, (start-sim given keep retain j, λ e. absurd (false≢true e))))
-run-told given keep retain b (then {w} run e once) j =
-    let p = startPolicy given keep retain in
+run-told given keep retain b (then run e once) j =
     let h = run-told given keep retain b run j in
     let g = run-good run (good-start given keep retain b) (known-start given keep retain) in
-    let s = step-world p w (g .0) (g .1) e once j (h .0) (h .1 .0) (h .1 .1 .0) in
+    let s = step-world (g .0) (g .1) e once j (h .0) (h .1 .0) (h .1 .1 .0) in
     (s .0, (follows-reach (s .1 .0) (h .1 .0), (s .1 .1, accepted-step run once (h .1 .0) (h .1 .1 .0) (s .1 .1) (h .1 .1 .1) (s .1 .0))))
 
 -- an acknowledged record is read as a live one
 acknowledged-accepted :
     {p : R.Policy} (n : R.Net) (j : Words) (c : ClerkRecord.Record) (k : R.Clerk) → R.Reach p n → n .clerk ≡ k → P.one c ≡ clerkRead j k → Acknowledged c → n .accepted ≡ true
-acknowledged-accepted n j c R.absent r q e a = not-none c (sym e)
+acknowledged-accepted n j c R.absent r q e a = not-one (sym e)
 acknowledged-accepted n j c (R.waiting d ck) r q e a =
     absurd
-    (a (ap (λ (x : ClerkRecord.Record). x .connection) (same-record c (clerkRecord j d ck ClerkState.WaitAck Keep.Empty Connection.Empty) e)))
+    (a (ap (λ (x : ClerkRecord.Record). x .terms .connection) (the-one c (clerkRecord j d ck ClerkState.WaitAck Keep.Empty Connection.Empty) e)))
 acknowledged-accepted n j c (R.live d ck k m s) r q e a = acked-was-accepted d ck k m s r q
 
 pub acknowledged-was-accepted : AcknowledgedWasAccepted
@@ -124,76 +111,67 @@ acknowledged-was-accepted given keep retain b w run j c e a =
     let h = run-told given keep retain b run j in
     h .1 .1 .1 (acknowledged-accepted (h .0) j c (h .0 .clerk) (h .1 .0) refl (sym e ∙ h .1 .1 .0 .clerk) a)
 
--- ---- 2. the data agree
+-- ---- 2. the data agree, and the kind
+abbrev Agreed : ClerkRecord.Record → LineRecord.Record → Type 0
+Agreed c l = Agree c l × (c .terms .kind ≡ l .terms .kind)
+
 agree-waiting :
     (j : Words) (active : Bool) (d d′ : R.Data) (ck k : Bool) (n : R.Conn) (s : R.LState) → d ≡ d′ →
-    Agree (clerkRecord j d ck ClerkState.WaitAck Keep.Empty Connection.Empty) (lineRecord j active d′ k n s)
-agree-waiting j active d d′ ck k n s e =
-    record {
-      numberA = ap (λ (x : R.Data). x .numberA) e;
-      numberB = ap (λ (x : R.Data). x .numberB) e;
-      service = ap (λ (x : R.Data). x .service) e;
-      keep = λ a. absurd (a refl);
-      connection = λ a. absurd (a refl);
-    }
+    Agreed (clerkRecord j d ck ClerkState.WaitAck Keep.Empty Connection.Empty) (lineRecord j active d′ k n s)
+agree-waiting j active d d′ ck k n s e = (
+  record {
+    numberA = ap (λ (x : R.Data). x .numberA) e;
+    numberB = ap (λ (x : R.Data). x .numberB) e;
+    service = ap (λ (x : R.Data). x .service) e;
+    keep = λ a. absurd (a refl);
+    connection = λ a. absurd (a refl);
+  },
+  ap (λ (x : R.Data). x .kind) e,
+)
 
 agree-live :
     (j : Words) (active : Bool) (d d′ : R.Data) (ck k k′ : Bool) (n n′ : R.Conn) (x : R.CState) (y : R.LState) → d ≡ d′ → k ≡ k′ → n ≡ n′ →
-    Agree (clerkRecord j d ck (clerkStateRead x) (keepRead k) (connRead n)) (lineRecord j active d′ k′ n′ y)
-agree-live j active d d′ ck k k′ n n′ x y e f g =
-    record {
-      numberA = ap (λ (z : R.Data). z .numberA) e;
-      numberB = ap (λ (z : R.Data). z .numberB) e;
-      service = ap (λ (z : R.Data). z .service) e;
-      keep = λ a. ap keepRead f;
-      connection = λ a. ap connRead g;
-    }
+    Agreed (clerkRecord j d ck (clerkStateRead x) (keepRead k) (connRead n)) (lineRecord j active d′ k′ n′ y)
+agree-live j active d d′ ck k k′ n n′ x y e f g = (
+  record {
+    numberA = ap (λ (z : R.Data). z .numberA) e;
+    numberB = ap (λ (z : R.Data). z .numberB) e;
+    service = ap (λ (z : R.Data). z .service) e;
+    keep = λ a. ap keepRead f;
+    connection = λ a. ap connRead g;
+  },
+  ap (λ (z : R.Data). z .kind) e,
+)
 
 agree-net :
     {p : R.Policy} (n : R.Net) → R.Reach p n → (j : Words) (active : Bool) (c : ClerkRecord.Record) (l : LineRecord.Record) (k : R.Clerk) (m : R.Line) →
-    n .clerk ≡ k → n .line ≡ m → P.one c ≡ clerkRead j k → P.one l ≡ lineRead j active m → Agree c l
-agree-net n r j active c l R.absent m q s e f = not-none c (sym e)
-agree-net n r j active c l (R.waiting d ck) R.none q s e f = not-none l (sym f)
+    n .clerk ≡ k → n .line ≡ m → P.one c ≡ clerkRead j k → P.one l ≡ lineRead j active m → Agreed c l
+agree-net n r j active c l R.absent m q s e f = not-one (sym e)
+agree-net n r j active c l (R.waiting d ck) R.none q s e f = not-one (sym f)
 agree-net n r j active c l (R.waiting d ck) (R.holds d′ k x y) q s e f =
     let u = clerkRecord j d ck ClerkState.WaitAck Keep.Empty Connection.Empty in
     let v = lineRecord j active d′ k x y in
-    subst (λ a. Agree a l) (sym (same-record c u e))
-    (subst (λ b. Agree u b) (sym (same-record l v f)) (agree-waiting j active d d′ ck k x y (both-hold-waiting d d′ ck k x y r q s)))
-agree-net n r j active c l (R.live d ck k x t) R.none q s e f = not-none l (sym f)
+    subst (λ a. Agreed a l) (sym (the-one c u e))
+    (subst (λ b. Agreed u b) (sym (the-one l v f)) (agree-waiting j active d d′ ck k x y (both-hold-waiting d d′ ck k x y r q s)))
+agree-net n r j active c l (R.live d ck k x t) R.none q s e f = not-one (sym f)
 agree-net n r j active c l (R.live d ck k x t) (R.holds d′ k′ x′ y) q s e f =
     let u = clerkRecord j d ck (clerkStateRead t) (keepRead k) (connRead x) in
     let v = lineRecord j active d′ k′ x′ y in
     let h = both-hold-live d d′ ck k k′ x x′ t y r q s in
-    subst (λ a. Agree a l) (sym (same-record c u e))
-    (subst (λ b. Agree u b) (sym (same-record l v f)) (agree-live j active d d′ ck k k′ x x′ t y (h .0) (h .1) (h .2)))
+    subst (λ a. Agreed a l) (sym (the-one c u e))
+    (subst (λ b. Agreed u b) (sym (the-one l v f)) (agree-live j active d d′ ck k k′ x x′ t y (h .0) (h .1) (h .2)))
 
-pub data-agree : DataAgree
-data-agree w reach j c l e f =
-    let g = known-world w reach in
-    let k = g .1 .1 j in
+agreed : (w : World) → Reached w → (j : Words) (c : ClerkRecord.Record) (l : LineRecord.Record) → clerkHolds w j ≡ P.one c → lineHolds w j ≡ P.one l → Agreed c l
+agreed w reach j c l e f =
+    let k = known-world w reach .1 .1 j in
     let sim = k .1 .1 in
     agree-net (k .0) (k .1 .0) j (sim .active) c l (k .0 .clerk) (k .0 .line) refl refl (sym e ∙ sim .clerk) (sym f ∙ sim .line)
 
-kind-net :
-    {p : R.Policy} (n : R.Net) → R.Reach p n → (j : Words) (active : Bool) (c : ClerkRecord.Record) (l : LineRecord.Record) (k : R.Clerk) (m : R.Line) →
-    n .clerk ≡ k → n .line ≡ m → P.one c ≡ clerkRead j k → P.one l ≡ lineRead j active m → c .kind ≡ l .kind
-kind-net n r j active c l R.absent m q s e f = not-none c (sym e)
-kind-net n r j active c l (R.waiting d ck) R.none q s e f = not-none l (sym f)
-kind-net n r j active c l (R.waiting d ck) (R.holds d′ k x y) q s e f =
-    ap (λ (u : ClerkRecord.Record). u .kind) (same-record c (clerkRecord j d ck ClerkState.WaitAck Keep.Empty Connection.Empty) e)
-    ∙ ap (λ (z : R.Data). z .kind) (both-hold-waiting d d′ ck k x y r q s)
-    ∙ sym (ap (λ (v : LineRecord.Record). v .kind) (same-record l (lineRecord j active d′ k x y) f))
-kind-net n r j active c l (R.live d ck k x t) R.none q s e f = not-none l (sym f)
-kind-net n r j active c l (R.live d ck k x t) (R.holds d′ k′ x′ y) q s e f =
-    ap (λ (u : ClerkRecord.Record). u .kind) (same-record c (clerkRecord j d ck (clerkStateRead t) (keepRead k) (connRead x)) e)
-    ∙ ap (λ (z : R.Data). z .kind) (both-hold-live d d′ ck k k′ x x′ t y r q s .0)
-    ∙ sym (ap (λ (v : LineRecord.Record). v .kind) (same-record l (lineRecord j active d′ k′ x′ y) f))
+pub data-agree : DataAgree
+data-agree w reach j c l e f = agreed w reach j c l e f .0
 
 pub kind-agrees : KindAgrees
-kind-agrees w reach j c l e f =
-    let k = known-world w reach .1 .1 j in
-    let sim = k .1 .1 in
-    kind-net (k .0) (k .1 .0) j (sim .active) c l (k .0 .clerk) (k .0 .line) refl refl (sym e ∙ sim .clerk) (sym f ∙ sim .line)
+kind-agrees w reach j c l e f = agreed w reach j c l e f .1
 
 -- ---- 3. quiet wires mean a listed pair
 listed-read : {c : R.Clerk} {l : R.Line} (j : Words) (active : Bool) → RL.Listed c l → Listed (clerkRead j c) (lineRead j active l)
@@ -225,10 +203,10 @@ run-over :
     {p : R.Policy} {first w : World} → Run first w → Good p first → Known p first → (j : Words) (n : R.Net) → R.Reach p n → Sim j first n → Over n →
     (m : R.Net) × (R.Reach p m × (Sim j w m × Over m))
 run-over stop g known j n r sim h = (n, (r, (sim, h)))
-run-over {p} (then {w} run e once) g known j n r sim h =
+run-over (then run e once) g known j n r sim h =
     let i = run-over run g known j n r sim h in
     let here = run-good run g known in
-    let s = step-world p w (here .0) (here .1) e once j (i .0) (i .1 .0) (i .1 .1 .0) in
+    let s = step-world (here .0) (here .1) e once j (i .0) (i .1 .0) (i .1 .1 .0) in
     (s .0, (follows-reach (s .1 .0) (i .1 .0), (s .1 .1, follows-over (s .1 .0) (i .1 .1 .1))))
 
 pub over-for-good : OverForGood

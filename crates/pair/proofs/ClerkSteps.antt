@@ -1,71 +1,64 @@
--- What each step at the clerk's end makes of one request's net: by the end's reading where the step is about it, and nothing where it is about another.
-use Prim.Native.Nat.{ℕ}
+-- Each step at the clerk's end is about the request that it names: it moves that request's net by the end's reading, and leaves every other.
+use Prim.Native.Nat.{_/_}
 use mathlib.Core.Path.{_≡_, refl, sym, _∙_, ap, subst}
-use mathlib.Core.Bool.{Bool, true, false, true≢false, false≢true}
-use mathlib.Core.Logic.{_⊎_, inl, inr}
-use mathlib.Core.List.{List, [], _∷_, _++_, map}
-use native.Mathlib.Omega.{arith}
+use mathlib.Core.Bool.{Bool, true, false}
+use mathlib.Core.List.{List, [], _∷_, _++_}
 use Rattle.lists.specs.Lists.{both}
-use Rattle.lists.specs.Words.{wordsOf}
 use Rattle.lists.specs.declared.words.Words.{Words}
 use Rattle.message.specs.declared.Message.{Message}
 use Rattle.desk.specs.declared.outcome.Sending.{Sending}
 use Rattle.desk.specs.declared.outcome.Sending.the-variants as Sending
+use Rattle.terms.specs.Request.{canKeepSent}
+use Rattle.terms.specs.declared.request.Names.{Names}
+use Rattle.terms.specs.declared.request.Request.{Request}
 use Rattle.clerk_table.specs.declared.inputs.Act.{Act}
 use Rattle.clerk_table.specs.declared.inputs.Act.the-variants.{Accept, Resume, GoOn, Cancel}
+use Rattle.clerk_table.specs.declared.inputs.Input.{Input}
+use Rattle.clerk_table.specs.declared.inputs.Input.the-variants as Input
 use Rattle.clerk_table.specs.declared.table.Timer.{Timer}
 use Rattle.clerk_records.specs.Records as ClerkRecords
-use Rattle.clerk.specs.Steps.{asked, received, acted, reported}
+use Rattle.clerk.specs.Entry.{messageEntry}
+use Rattle.clerk.specs.Steps.{step, received}
 use Rattle.clerk.specs.declared.Desk.{Desk}
 use Rattle.clerk.specs.declared.steps.Stepped.{Stepped}
-use Rattle.clerk.specs.declared.steps.Asking.{Asking}
-use Rattle.clerk_sound.specs.Sound as ClerkSound
+use Rattle.clerk_sound.specs.Sound as Clerk
+use Rattle.clerk_sound.proofs.Reaching.{others-held}
 use Rattle.places.specs.Places as P
 use Rattle.pair_request.specs.Reading as R
 use Rattle.pair_request.proofs.Effects.{clerk-act-effect, act-plain, clerk-take-effect, take-plain}
 use Rattle.pair_request.proofs.Agree.{agreed, untaken}
-use Rattle.pair.specs.World.{World, History, Event, clerkHolds, asks, clerkActs, clerkReports, clerkHears, lineHears, messagesOf, nameOf, has, sentBy, taken, note, counts, clerkStepped, clerkHeard, withTakenUp, withRunOut, next, Typed, Allowed}
-use Rattle.pair.proofs.Ends.{clerkRead, messageRead, Clear, dataOf, clerkActRead, timerRead, ClerkStep}
-use Rattle.pair.proofs.Letters.{clear-kept, sent-name}
-use Rattle.pair.proofs.ClerkEnd.{clerk-hears, clerk-acts, clerk-reports, clerk-runs-out, AskStored, AskStep, refused, stored, clerk-asks}
-use Rattle.pair.proofs.Wires.{words?, messages-hit, messages-miss, messages-append, AllClear, no-message, one-more, clear-append, plain-clear, messages-own, messages-other, Worded, quiet, word, has-own, has-other}
-use Rattle.pair.proofs.Grounds.{clerk-placed, clerk-full}
-use Rattle.pair.proofs.Sim.{Sim, Good, Hearing, Follows, stays, moves, Step, Noted, unnoted, append-none, wire-own, wire-other, clerk-own, clerk-other}
+use Rattle.pair.specs.World.{World, History, Event, clerkDoes, clerkHears, clerkHolds, messagesOf, sentBy, done, counts, clerkStepped, clerkHeard, clerkNotes, withTakenUp, withRunOut, ClerkAllowed}
+use Rattle.pair.specs.Claims.{Heads, About, same}
+use Rattle.pair.proofs.Ends.{clerkRead, letterRead, messageRead, Clear, dataOf, askRead, clerkActRead, timerRead, ClerkStep}
+use Rattle.pair.proofs.Letters.{letter-name, clear-kept, sent-name, clear-ask}
+use Rattle.pair.proofs.ClerkEnd.{clerk-hears, clerk-acts, clerk-reports, clerk-runs-out, AskStep, refused, stored, clerk-asks}
+use Rattle.pair.proofs.Wires.{head-own, head-other, AllClear, no-message, one-more, plain-clear, Worded, quiet, word, worded-append, worded-sent, has-own, has-other}
+use Rattle.pair.proofs.Sim.{Sim, Known, Good, Noted, Unnoted, unnoted, Moves, about, nobody, somebody, Turned, unmoved, append-none, wire-other, clerk-own}
 
--- every identifier of the world has its net
-abbrev pub Known : R.Policy → World → Type 0
-Known p w = (j : Words) → (n : R.Net) × (R.Reach p n × Sim j w n)
-
--- ---- acts and timers
-absent-sends : (j : Words) (x : R.CAct) → AllClear j (R.clerkActs R.absent x .1)
+-- ---- what the clerk's end sends about a request: one that was taken up has an identifier that its bytes give back, one that was not is nowhere
+act-clear : {p : R.Policy} {j : Words} {w : World} {n : R.Net} → Sim j w n → R.Reach p n → (x : R.CAct) → AllClear j (R.clerkActs (n .clerk) x .1)
 unfolding R.clerkActs
-absent-sends j x = no-message
-
--- what an act sends: a request that was taken up has an identifier that its bytes give back, one that was not is nowhere
-pub act-clear : {p : R.Policy} {j : Words} {w : World} {n : R.Net} → Sim j w n → R.Reach p n → (x : R.CAct) → AllClear j (R.clerkActs (n .clerk) x .1)
 act-clear {j} {n} sim r x = go (n .used) refl
   where
     go : (b : Bool) → n .used ≡ b → AllClear j (R.clerkActs (n .clerk) x .1)
     go true e = plain-clear j (R.clerkActs (n .clerk) x .1) (act-plain (clerk-act-effect (n .clerk) x)) (sim .kept e)
-    go false e = subst (λ c. AllClear j (R.clerkActs c x .1)) (sym (untaken (agreed r) e .0)) (absent-sends j x)
+    go false e = subst (λ c. AllClear j (R.clerkActs c x .1)) (sym (untaken (agreed r) e .0)) no-message
 
-acting-own :
-    {p : R.Policy} {j : Words} {w : World} {n : R.Net} → Sim j w n → R.Reach p n → (x : R.CAct) (step : Stepped) (history : History) →
-    ClerkStep (w .clerk .words) step j (λ c. R.clerkActs c x) → Noted history (w .history) j (R.runsOut (n .clerk) x) false →
-    Sim j (clerkStepped w (w .down) step history) (R.next p n (R.clerkDoes x))
-unfolding R.next
-acting-own {w} {n} sim r x step history s h =
-    clerk-own sim (w .down) (n .down) (sim .down) (sim .downClear) step history (λ c. R.clerkActs c x) s (act-clear sim r x) (R.runsOut (n .clerk) x) h
+take-clear : (j : Words) (c : R.Clerk) (m : R.Msg) (busy : Bool) → Clear j m → AllClear j (R.clerkTakes c m busy .1)
+take-clear j c m busy clear = plain-clear j (R.clerkTakes c m busy .1) (take-plain (clerk-take-effect c m busy)) (clear-kept j m clear)
 
-pub acting-other :
-    {p : R.Policy} {j k : Words} {w : World} {n : R.Net} → Sim j w n → (m : R.Net) × (R.Reach p m × Sim k w m) → (k ≡ j → ⊥) → (x : R.CAct) (step : Stepped)
-    (history : History) → ClerkStep (w .clerk .words) step k (λ c. R.clerkActs c x) → Noted history (w .history) j false false →
-    Sim j (clerkStepped w (w .down) step history) n
-acting-other {w} sim its d x step history s h =
-    clerk-other sim (its .1 .1) d (w .down) refl step history (λ c. R.clerkActs c x) s (act-clear (its .1 .1) (its .1 .0) x) h
+-- ---- the history after an ask, a timer's report
+noted-ask : (h : History) (j : Words) → Noted (withTakenUp h true j) h j true false false false
+noted-ask h j = record { takenUp = has-own true j (h .takenUp); runOut = refl; guarded = refl; dropped = refl }
 
-does-not-hear : {w : World} {e : Event} {j : Words} {x : R.CAct} → Hearing w e j (R.clerkDoes x)
-does-not-hear = record { only = λ y q. let z : _≡_ {A = ℕ} 0 1 = cc in absurd (omega (arith, z)) }
+unnoted-ask : (h : History) (k j : Words) (so : Bool) → (k ≡ j → ⊥) → Unnoted (withTakenUp h so k) h j
+unnoted-ask h k j so d = record { takenUp = has-other so k j (h .takenUp) d; runOut = refl; guarded = refl; dropped = refl }
+
+noted-timer : (h : History) (j : Words) (so : Bool) → Noted (withRunOut h so j) h j false so false false
+noted-timer h j so = record { takenUp = refl; runOut = has-own so j (h .runOut); guarded = refl; dropped = refl }
+
+unnoted-timer : (h : History) (k j : Words) (so : Bool) → (k ≡ j → ⊥) → Unnoted (withRunOut h so k) h j
+unnoted-timer h k j so d = record { takenUp = refl; runOut = has-other so k j (h .runOut) d; guarded = refl; dropped = refl }
 
 -- an act is no timer
 act-no-timer : (c : R.Clerk) (act : Act) → R.runsOut c (clerkActRead act) ≡ false
@@ -74,253 +67,166 @@ act-no-timer c Resume = refl
 act-no-timer c GoOn = refl
 act-no-timer c Cancel = refl
 
-pub step-acts :
-    (p : R.Policy) (w : World) → Good p w → Known p w → (identifier : List ℕ) (act : Act) (j : Words) (n : R.Net) → R.Reach p n → Sim j w n →
-    (wordsOf identifier ≡ j) ⊎ (wordsOf identifier ≡ j → ⊥) → Step p w (clerkActs identifier act) j n
-unfolding next
-step-acts p w g known identifier act j n r sim (inl e) =
-    let s = clerk-acts (w .clerk) (clerk-placed (w .clerk) (g .clerk)) (clerk-full (w .clerk) (g .clerk)) identifier act in
-    let x = clerkActRead act in (
-      R.next p n (R.clerkDoes x),
-      (
-        moves (R.clerkDoes x) does-not-hear,
-        acting-own sim r x (acted (w .clerk) identifier act) (w .history)
-            (subst (λ k. ClerkStep (w .clerk .words) (acted (w .clerk) identifier act) k (λ c. R.clerkActs c x)) e s)
-            (subst (λ t. Noted (w .history) (w .history) j t false) (sym (act-no-timer (n .clerk) act)) (unnoted (w .history) j)),
-      ),
-    )
-step-acts p w g known identifier act j n r sim (inr d) =
-    let s = clerk-acts (w .clerk) (clerk-placed (w .clerk) (g .clerk)) (clerk-full (w .clerk) (g .clerk)) identifier act in
-    (n, (stays, acting-other sim (known (wordsOf identifier)) d (clerkActRead act) (acted (w .clerk) identifier act) (w .history) s (unnoted (w .history) j)))
-
--- the history after a timer's report
-noted-own : (h : History) (j : Words) (so : Bool) → Noted (withRunOut h so j) h j so false
-noted-own h j so = record { takenUp = refl; runOut = has-own so j (h .runOut); guarded = refl; dropped = refl }
-
-pub noted-other : (h : History) (k j : Words) (so : Bool) → (k ≡ j → ⊥) → Noted (withRunOut h so k) h j false false
-noted-other h k j so d = record { takenUp = refl; runOut = has-other so k j (h .runOut) d; guarded = refl; dropped = refl }
-
-pub step-timer :
-    (p : R.Policy) (w : World) → Good p w → Known p w → (identifier : List ℕ) (timer : Timer) (j : Words) (n : R.Net) → R.Reach p n → Sim j w n →
-    (wordsOf identifier ≡ j) ⊎ (wordsOf identifier ≡ j → ⊥) → Step p w (clerkReports identifier timer) j n
-unfolding next
-step-timer p w g known identifier timer j n r sim (inl e) =
-    let placed = clerk-placed (w .clerk) (g .clerk) in
-    let full = clerk-full (w .clerk) (g .clerk) in
-    let x = timerRead timer in
-    let step = reported (w .clerk) identifier timer in
-    let k = wordsOf identifier in
-    let its = subst (λ i. Sim i w n) (sym e) sim in
-    let so = both (counts timer) (taken (step .outcome)) in
-    let ran : so ≡ R.runsOut (n .clerk) x = clerk-runs-out (w .clerk) placed full identifier timer (n .clerk) (its .clerk) in
-    let h : Noted (withRunOut (w .history) so k) (w .history) k (R.runsOut (n .clerk) x) false =
-    subst (λ t. Noted (withRunOut (w .history) so k) (w .history) k t false) ran (noted-own (w .history) k so) in (
-      R.next p n (R.clerkDoes x),
-      (
-        moves (R.clerkDoes x) does-not-hear,
-        subst (λ i. Sim i (clerkStepped w (w .down) step (withRunOut (w .history) so k)) (R.next p n (R.clerkDoes x))) e
-            (acting-own its r x step (withRunOut (w .history) so k) (clerk-reports (w .clerk) placed full identifier timer) h),
-      ),
-    )
-step-timer p w g known identifier timer j n r sim (inr d) =
-    let step = reported (w .clerk) identifier timer in
-    let so = both (counts timer) (taken (step .outcome)) in
-    let s = clerk-reports (w .clerk) (clerk-placed (w .clerk) (g .clerk)) (clerk-full (w .clerk) (g .clerk)) identifier timer in (
-      n,
-      (
-        stays,
-        acting-other sim (known (wordsOf identifier)) d (timerRead timer) step (withRunOut (w .history) so (wordsOf identifier)) s
-            (noted-other (w .history) (wordsOf identifier) j so d),
-      ),
-    )
-
--- ---- a message delivered: the head of a wire is the head of the net's
-pub record Headed (j : Words) (m : Message) (rest : List Message) (ms : List R.Msg) : Type 0 where
-  pub code : R.Msg
-  pub left : List R.Msg
-  pub whole : ms ≡ code ∷ left
-  pub same : m ≡ messageRead j code
-  pub tail : messagesOf j rest ≡ map (messageRead j) left
-  pub clear : Clear j code
-  pub others : AllClear j left
-
-abbrev first : {A : Type 0} → A → List A → A
-first a [] = a
-first a (x ∷ xs) = x
-
-abbrev later : {A : Type 0} → List A → List A
-later [] = []
-later (x ∷ xs) = xs
-
-headed : (j : Words) (m : Message) (rest : List Message) (ms : List R.Msg) → AllClear j ms → m ∷ messagesOf j rest ≡ map (messageRead j) ms → Headed j m rest ms
-headed j m rest [] no-message e = let z : _≡_ {A = ℕ} 0 1 = cc in absurd (omega (arith, z))
-headed j m rest (c ∷ cs) (one-more h k) e =
-    record { code = c; left = cs; whole = refl; same = ap (first m) e; tail = ap later e; clear = h; others = k }
-
-pub head-own :
-    (j : Words) (m : Message) (rest wire : List Message) (ms : List R.Msg) → wire ≡ m ∷ rest → nameOf m ≡ j → AllClear j ms →
-    messagesOf j wire ≡ map (messageRead j) ms → Headed j m rest ms
-head-own j m rest wire ms e name c h = headed j m rest ms c (sym (messages-hit j m rest name) ∙ ap (messagesOf j) (sym e) ∙ h)
-
-abbrev Heard : R.Policy → World → Bool → List Message → Words → R.Net → Type 0
-Heard p w busy ms j n = (after : R.Net) × (Follows p w (clerkHears busy) j n after × Sim j (clerkHeard w busy ms) after)
-
-does-not-get : {w : World} {e : Event} {j : Words} {b : Bool} → Hearing w e j (R.clerkGets b)
-does-not-get = record { only = λ y q. let z : _≡_ {A = ℕ} 0 1 = cc in absurd (omega (arith, z)) }
-
-hears-own :
-    (p : R.Policy) (w : World) → Good p w → (busy : Bool) (m : Message) (rest : List Message) (j : Words) (n : R.Net) → Sim j w n → Headed j m rest (n .down) →
-    Heard p w busy (m ∷ rest) j n
-unfolding clerkHeard R.next R.clerkGetStep
-hears-own p w g busy m rest j n sim h =
-    let c = h .code in
-    let s = clerk-hears (w .clerk) (clerk-placed (w .clerk) (g .clerk)) (clerk-full (w .clerk) (g .clerk)) j c busy (h .clear) in
-    let sent = plain-clear j (R.clerkTakes (n .clerk) c busy .1) (take-plain (clerk-take-effect (n .clerk) c busy)) (clear-kept j c (h .clear)) in
-    let after = R.afterClerk n (h .left) false (R.clerkTakes (n .clerk) c busy) in
-    let there : Sim j (clerkStepped w rest (received (w .clerk) (messageRead j c) busy) (w .history)) after =
-    clerk-own sim rest (h .left) (h .tail) (h .others) (received (w .clerk) (messageRead j c) busy) (w .history) (λ x. R.clerkTakes x c busy) s sent false
-    (unnoted (w .history) j) in
-    let here = subst (λ x. Sim j (clerkStepped w rest (received (w .clerk) x busy) (w .history)) after) (sym (h .same)) there in (
-      R.next p n (R.clerkGets busy),
-      (
-        moves (R.clerkGets busy) does-not-get,
-        subst (λ x. Sim j (clerkStepped w rest (received (w .clerk) m busy) (w .history)) (R.clerkGetStep n busy x)) (sym (h .whole)) here,
-      ),
-    )
-
-pub hears-other :
-    (p : R.Policy) (w : World) → Good p w → Known p w → (busy : Bool) (k : Words) (c : R.Msg) → Clear k c → (rest : List Message) → w .down ≡ messageRead k c ∷ rest →
-    (j : Words) (n : R.Net) → Sim j w n → (k ≡ j → ⊥) → Sim j (clerkHeard w busy (messageRead k c ∷ rest)) n
-unfolding clerkHeard
-hears-other p w g known busy k c clear rest e j n sim d =
-    let s = clerk-hears (w .clerk) (clerk-placed (w .clerk) (g .clerk)) (clerk-full (w .clerk) (g .clerk)) k c busy clear in
-    let m = known k .0 in
-    let its = known k .1 .1 in
-    let kept = clear-kept k c clear in
-    let sent = plain-clear k (R.clerkTakes (m .clerk) c busy .1) (take-plain (clerk-take-effect (m .clerk) c busy)) kept in
-    let same = sym (messages-miss j (messageRead k c) rest (λ q. d (sym (sent-name k c kept) ∙ q))) ∙ ap (messagesOf j) (sym e) in
-    clerk-other sim its d rest same (received (w .clerk) (messageRead k c) busy) (w .history) (λ x. R.clerkTakes x c busy) s sent (unnoted (w .history) j)
-
-pub step-hears :
-    (p : R.Policy) (w : World) → Good p w → Known p w → (busy : Bool) (j : Words) (n : R.Net) → Sim j w n →
-    (ms : List Message) → w .down ≡ ms → Worded ms → Heard p w busy ms j n
-unfolding clerkHeard
-step-hears p w g known busy j n sim [] e quiet = (n, (stays, sim))
-step-hears p w g known busy j n sim (m ∷ rest) e (word k c clear others) = go (words? k j)
-  where
-    go : (k ≡ j) ⊎ (k ≡ j → ⊥) → Heard p w busy (messageRead k c ∷ rest) j n
-    go (inl q) =
-        hears-own p w g busy (messageRead k c) rest j n sim
-        (head-own j (messageRead k c) rest (w .down) (n .down) e (sent-name k c (clear-kept k c clear) ∙ q) (sim .downClear) (sim .down))
-    go (inr d) = (n, (stays, hears-other p w g known busy k c clear rest e j n sim d))
-
--- ---- an ask
-taking-own : (h : History) (j : Words) → has (withTakenUp h true j .takenUp) j ≡ true
-taking-own h j = has-own true j (h .takenUp)
-
-taking-other : (h : History) (k j : Words) (so : Bool) → (k ≡ j → ⊥) → Noted (withTakenUp h so k) h j false false
-taking-other h k j so d = record { takenUp = has-other so k j (h .takenUp) d; runOut = refl; guarded = refl; dropped = refl }
-
-does-not-ask : {w : World} {e : Event} {j : Words} {d : R.Data} {ck : Bool} {q : ℕ} → Hearing w e j (R.asks d ck q)
-does-not-ask = record { only = λ y q. let z : _≡_ {A = ℕ} 0 1 = cc in absurd (omega (arith, z)) }
-
--- a step that leaves the desk and sends nothing
-pub clerk-still :
-    {j : Words} {w : World} {n : R.Net} → Sim j w n → (step : Stepped) (history : History) → step .desk ≡ w .clerk → step .outcome .sending ≡ Sending.Nothing →
-    Noted history (w .history) j false false → Sim j (clerkStepped w (w .down) step history) n
-clerk-still {j} {w} sim step history e s h =
+module _ {p : R.Policy} {w : World} (g : Good p w) (known : Known p w) where
+  -- ---- a step about a request, and one about none
+  clerk-turn :
+      {e : Event} {k : Words} {after : Stepped} {answer : R.CAnswer} → About w e k → Clerk.Reached (after .desk) → ClerkStep after k answer → AllClear k (answer .1) →
+      ((j : Words) → (k ≡ j → ⊥) → P.held Clerk.clerkView j (ClerkRecords.records (after .desk .words)) ≡ clerkHolds w j) →
+      {rest : List Message} → Worded rest → ((j : Words) → (k ≡ j → ⊥) → messagesOf j rest ≡ messagesOf j (w .down)) →
+      {history : History} → ((j : Words) → (k ≡ j → ⊥) → Unnoted history (w .history) j) →
+      ((n : R.Net) → R.Reach p n → Sim k w n → Moves p w e (clerkStepped w rest after history) k n) → Turned p w e (clerkStepped w rest after history)
+  clerk-turn {k = k} {after} {answer} named reached s clear others worded rests unnoted own = (
     record {
-      clerk = ap (λ (d : Desk). P.held ClerkSound.clerkView j (ClerkRecords.records (d .words))) e ∙ sim .clerk;
-      active = sim .active;
-      line = sim .line;
-      up = ap (λ (x : Sending). messagesOf j (w .up ++ sentBy x)) s ∙ ap (messagesOf j) (append-none (w .up)) ∙ sim .up;
-      down = sim .down;
-      upClear = sim .upClear;
-      downClear = sim .downClear;
-      kept = sim .kept;
-      used = h .takenUp ∙ sim .used;
-      timedOut = h .runOut ∙ sim .timedOut;
-      guarded = h .guarded ∙ sim .guarded;
-      dropped = h .dropped ∙ sim .dropped;
-    }
+      clerk = reached;
+      line = g .line;
+      policy = g .policy;
+      up = worded-append (g .up) (subst Worded (sym (s .sends)) (worded-sent clear));
+      down = worded;
+    },
+    somebody k (about named) own
+        (λ j d.
+        record {
+          clerk = others j d;
+          line = same;
+          up = wire-other j k (w .up) (sentBy (after .outcome .sending)) (answer .1) (s .sends) clear d;
+          down = rests j d;
+          history = unnoted j d;
+        }),
+  )
 
-pub not-taking : (h : History) (k j : Words) → Noted (withTakenUp h false k) h j false false
-not-taking h k j = record { takenUp = refl; runOut = refl; guarded = refl; dropped = refl }
+  clerk-still :
+      {e : Event} (after : Stepped) {history : History} → Clerk.Reached (after .desk) → after .desk ≡ w .clerk → after .outcome .sending ≡ Sending.Nothing →
+      ((j : Words) → Unnoted history (w .history) j) → Turned p w e (clerkStepped w (w .down) after history)
+  clerk-still after reached d s unnoted =
+      let silent : w .up ++ sentBy (after .outcome .sending) ≡ w .up = ap (λ (x : Sending). w .up ++ sentBy x) s ∙ append-none (w .up) in (
+        record { clerk = reached; line = g .line; policy = g .policy; up = subst Worded (sym silent) (g .up); down = g .down },
+        nobody
+            (λ j.
+            record {
+              clerk = ap (λ (x : Desk). P.held Clerk.clerkView j (ClerkRecords.records (x .words))) d;
+              line = same;
+              up = ap (messagesOf j) silent;
+              down = refl;
+              history = unnoted j;
+            }),
+      )
 
--- the request's own ask, which is taken, at a net that was not taken up
-ask-own :
-    (w : World) (a : Asking) (n : R.Net) → Sim (wordsOf (a .identifier)) w n → AskStored (w .clerk) a (asked (w .clerk) a) →
-    Sim (wordsOf (a .identifier)) (clerkStepped w (w .down) (asked (w .clerk) a) (withTakenUp (w .history) true (wordsOf (a .identifier))))
-    (R.afterAsk n (dataOf a) (a .canKeep) (a .preference))
-ask-own w a n sim s =
-    let j = wordsOf (a .identifier) in
-    let m = R.request (dataOf a) (a .canKeep) (a .preference) in
-    record {
-      clerk = s .after;
-      active = sim .active;
-      line = sim .line;
-      up = wire-own j (w .up) (sentBy (asked (w .clerk) a .outcome .sending)) (n .up) (m ∷ []) (sim .up) (s .sends) (one-more (s .clear) no-message);
-      down = sim .down;
-      upClear = clear-append (sim .upClear) (one-more (s .clear) no-message);
-      downClear = sim .downClear;
-      kept = λ e. clear-kept j m (s .clear);
-      used = taking-own (w .history) j;
-      timedOut = sim .timedOut;
-      guarded = sim .guarded;
-      dropped = sim .dropped;
-    }
+  -- ---- an act, a timer's report
+  acting :
+      (k : Words) (x : R.CAct) (input : Input) (history : History) → About w (clerkDoes input) k → Clerk.Fair input →
+      ((c : R.Clerk) → clerkHolds w k ≡ clerkRead k c → ClerkStep (step (w .clerk) input) k (R.clerkActs c x)) →
+      ((n : R.Net) → Sim k w n → Noted history (w .history) k false (R.runsOut (n .clerk) x) false false) →
+      ((j : Words) → (k ≡ j → ⊥) → Unnoted history (w .history) j) → Turned p w (clerkDoes input) (clerkStepped w (w .down) (step (w .clerk) input) history)
+  unfolding R.next
+  acting k x input history named fair steps noted unnoted =
+      let its = known k .1 .1 in
+      clerk-turn named (Clerk.steps fair (g .clerk)) (steps (known k .0 .clerk) (its .clerk)) (act-clear its (known k .1 .0) x)
+      (λ j d. others-held (w .clerk) (g .clerk) input fair j (λ q. d (sym named ∙ q))) (g .down) (λ j d. refl) unnoted
+      (λ n r sim.
+      (R.clerkDoes x, (tt, clerk-own sim (sim .down) (sim .downClear) (steps (n .clerk) (sim .clerk)) (act-clear sim r x) (noted n sim) (sim .kept))))
 
-pub ask-other :
-    (w : World) (a : Asking) (j : Words) (n : R.Net) → Sim j w n → AskStored (w .clerk) a (asked (w .clerk) a) → (wordsOf (a .identifier) ≡ j → ⊥) → (so : Bool) →
-    Sim j (clerkStepped w (w .down) (asked (w .clerk) a) (withTakenUp (w .history) so (wordsOf (a .identifier)))) n
-ask-other w a j n sim s d so =
-    let k = wordsOf (a .identifier) in
-    let m = R.request (dataOf a) (a .canKeep) (a .preference) in
-    let h = taking-other (w .history) k j so d in
-    record {
-      clerk = s .others j d ∙ sim .clerk;
-      active = sim .active;
-      line = sim .line;
-      up = wire-other j k (w .up) (sentBy (asked (w .clerk) a .outcome .sending)) (m ∷ []) (s .sends) (one-more (s .clear) no-message) d ∙ sim .up;
-      down = sim .down;
-      upClear = sim .upClear;
-      downClear = sim .downClear;
-      kept = sim .kept;
-      used = h .takenUp ∙ sim .used;
-      timedOut = sim .timedOut;
-      guarded = sim .guarded;
-      dropped = sim .dropped;
-    }
+  clerk-act : (k : Words) (act : Act) → Turned p w (clerkDoes (Input.Act k act)) (clerkStepped w (w .down) (step (w .clerk) (Input.Act k act)) (w .history))
+  clerk-act k act =
+      acting k (clerkActRead act) (Input.Act k act) (w .history) refl (Clerk.acts k act) (clerk-acts (w .clerk) (g .clerk) k act)
+      (λ n sim. subst (λ t. Noted (w .history) (w .history) k false t false false) (sym (act-no-timer (n .clerk) act)) (unnoted (w .history) k))
+      (λ j d. unnoted (w .history) j)
 
-ask-fresh : (n : R.Net) (d : R.Data) (ck : Bool) (q : ℕ) → n .used ≡ false → R.askStep n d ck q (n .used) ≡ R.afterAsk n d ck q
-unfolding R.askStep
-ask-fresh n d ck q e = rw (e)
+  clerk-timer :
+      (k : Words) (timer : Timer) →
+      Turned p w (clerkDoes (Input.Timer k timer))
+      (clerkStepped w (w .down) (step (w .clerk) (Input.Timer k timer))
+      (withRunOut (w .history) (both (counts timer) (done (step (w .clerk) (Input.Timer k timer) .outcome))) k))
+  clerk-timer k timer =
+      let h = w .history in
+      let so = both (counts timer) (done (step (w .clerk) (Input.Timer k timer) .outcome)) in
+      acting k (timerRead timer) (Input.Timer k timer) (withRunOut h so k) refl (Clerk.times k timer)
+      (clerk-reports (w .clerk) (g .clerk) k timer)
+      (λ n sim.
+      subst (λ t. Noted (withRunOut h so k) h k false t false false) (clerk-runs-out (w .clerk) (g .clerk) k timer (n .clerk) (sim .clerk)) (noted-timer h k so))
+      (λ j d. unnoted-timer h k j so d)
 
-pub step-asks :
-    (p : R.Policy) (w : World) (a : Asking) → Allowed w (asks a) → (j : Words) (n : R.Net) → Sim j w n → AskStep (w .clerk) a (asked (w .clerk) a) →
-    (wordsOf (a .identifier) ≡ j) ⊎ (wordsOf (a .identifier) ≡ j → ⊥) → Step p w (asks a) j n
-unfolding next R.next
-step-asks p w a once j n sim (refused t e s) same =
-    let k = wordsOf (a .identifier) in (
-      n,
-      (
-        stays,
-        clerk-still sim (asked (w .clerk) a) (withTakenUp (w .history) (taken (asked (w .clerk) a .outcome)) k) e s
-            (subst (λ so. Noted (withTakenUp (w .history) so k) (w .history) j false false) (sym t) (not-taking (w .history) k j)),
-      ),
-    )
-step-asks p w a once j n sim (stored s) (inl e) =
-    let k = wordsOf (a .identifier) in
-    let its = subst (λ i. Sim i w n) (sym e) sim in
-    let fresh : n .used ≡ false = sym (its .used) ∙ once .1 (s .taken) in
-    let r = R.asks (dataOf a) (a .canKeep) (a .preference) in
-    let there = subst (λ (m : R.Net). Sim k (clerkStepped w (w .down) (asked (w .clerk) a) (withTakenUp (w .history) true k)) m)
-    (sym (ask-fresh n (dataOf a) (a .canKeep) (a .preference) fresh)) (ask-own w a n its s) in
-    let here = subst (λ so. Sim k (clerkStepped w (w .down) (asked (w .clerk) a) (withTakenUp (w .history) so k)) (R.next p n r)) (sym (s .taken)) there in (
-      R.next p n r,
-      (
-        moves r does-not-ask,
-        subst (λ i. Sim i (clerkStepped w (w .down) (asked (w .clerk) a) (withTakenUp (w .history) (taken (asked (w .clerk) a .outcome)) k)) (R.next p n r)) e here,
-      ),
-    )
-step-asks p w a once j n sim (stored s) (inr d) = (n, (stays, ask-other w a j n sim s d (taken (asked (w .clerk) a .outcome))))
+  -- ---- an ask
+  module _ (names : Names) (q : Request) (allowed : ClerkAllowed w (Input.Ask names q)) where
+    abbrev asked : Stepped
+    asked = step (w .clerk) (Input.Ask names q)
+
+    ask-reached : Clerk.Reached (asked .desk)
+    ask-reached = Clerk.steps (allowed .0) (g .clerk)
+
+    ask-taken :
+        done (asked .outcome) ≡ true → (n : R.Net) → Sim (names .identifier) w n →
+        R.askStep n (dataOf names q) (canKeepSent (q .flags)) (q .flags / 2) (n .used) ≡ R.afterAsk n (dataOf names q) (canKeepSent (q .flags)) (q .flags / 2)
+    unfolding R.askStep
+    ask-taken so n sim =
+        let fresh : n .used ≡ false = sym (sim .used) ∙ allowed .1 so in
+        rw fresh
+
+    clerk-ask :
+        AskStep (w .clerk) names q asked →
+        Turned p w (clerkDoes (Input.Ask names q)) (clerkStepped w (w .down) asked (withTakenUp (w .history) (done (asked .outcome)) (names .identifier)))
+    unfolding R.next
+    clerk-ask (refused so d s) =
+        clerk-still asked ask-reached d s (λ j. subst (λ b. Unnoted (withTakenUp (w .history) b (names .identifier)) (w .history) j) (sym so) (unnoted (w .history) j))
+    clerk-ask (stored so s) =
+        let k = names .identifier in
+        let clear : AllClear k (askRead names q ∷ []) = one-more (clear-ask names q (allowed .0)) no-message in
+        let noted : Noted (withTakenUp (w .history) (done (asked .outcome)) k) (w .history) k true false false false =
+        subst (λ b. Noted (withTakenUp (w .history) b k) (w .history) k true false false false) (sym so) (noted-ask (w .history) k) in
+        clerk-turn refl ask-reached s clear (others-held (w .clerk) (g .clerk) (Input.Ask names q) (allowed .0)) (g .down) (λ j d. refl)
+        (λ j d. unnoted-ask (w .history) k j (done (asked .outcome)) d)
+        (λ n r sim. (
+          R.asks (dataOf names q) (canKeepSent (q .flags)) (q .flags / 2),
+          (
+            tt,
+            subst (Sim k (clerkStepped w (w .down) asked (withTakenUp (w .history) (done (asked .outcome)) k))) (sym (ask-taken so n sim))
+                (clerk-own sim (sim .down) (sim .downClear) s clear noted (λ e. clear-kept k (askRead names q) (clear-ask names q (allowed .0)))),
+          ),
+        ))
+
+  -- ---- every input that a host gives
+  pub clerk-does :
+      (input : Input) → ClerkAllowed w input →
+      Turned p w (clerkDoes input) (clerkStepped w (w .down) (step (w .clerk) input) (clerkNotes (w .history) input (done (step (w .clerk) input .outcome))))
+  clerk-does (Input.Ask names q) allowed = clerk-ask names q allowed (clerk-asks (w .clerk) (g .clerk) names q)
+  clerk-does (Input.Message l busy) never = absurd never
+  clerk-does (Input.Act k act) allowed = clerk-act k act
+  clerk-does (Input.Timer k timer) allowed = clerk-timer k timer
+
+  -- ---- a message delivered
+  hears-as :
+      (busy : Bool) {m : Message} (k : Words) (c : R.Msg) → m ≡ messageRead k c → Clear k c →
+      received (w .clerk) m busy ≡ step (w .clerk) (Input.Message (letterRead k c) busy)
+  unfolding messageEntry
+  hears-as busy k c e clear = ap (λ (x : Message). received (w .clerk) x busy) e ∙ rw (clear .ranged, clear .back)
+
+  hears-step :
+      (busy : Bool) {m : Message} (k : Words) (c : R.Msg) → m ≡ messageRead k c → Clear k c → (x : R.Clerk) → clerkHolds w k ≡ clerkRead k x →
+      ClerkStep (received (w .clerk) m busy) k (R.clerkTakes x c busy)
+  hears-step busy k c e clear x h =
+      subst (λ (s : Stepped). ClerkStep s k (R.clerkTakes x c busy)) (sym (hears-as busy k c e clear)) (clerk-hears (w .clerk) (g .clerk) k c busy x h)
+
+  pub clerk-hear : (busy : Bool) (ms : List Message) → w .down ≡ ms → Worded ms → Turned p w (clerkHears busy) (clerkHeard w busy ms)
+  unfolding clerkHeard R.next R.clerkGetStep
+  clerk-hear busy [] e quiet = unmoved g
+  clerk-hear busy (m ∷ rest) e (word k c clear others) =
+      let name = sent-name k c (clear-kept k c clear) in
+      let fair = Clerk.hears (letterRead k c) busy in
+      let heard = sym (hears-as busy k c refl clear) in
+      let its = known k in
+      clerk-turn (subst (λ (ms : List Message). Heads ms k) (sym e) name)
+      (subst (λ (s : Stepped). Clerk.Reached (s .desk)) heard (Clerk.steps fair (g .clerk)))
+      (hears-step busy k c refl clear (its .0 .clerk) (its .1 .1 .clerk)) (take-clear k (its .0 .clerk) c busy clear)
+      (λ j d.
+      subst (λ (s : Stepped). P.held Clerk.clerkView j (ClerkRecords.records (s .desk .words)) ≡ clerkHolds w j) heard
+      (others-held (w .clerk) (g .clerk) (Input.Message (letterRead k c) busy) fair j (λ q. d (sym (letter-name k c) ∙ q))))
+      others (λ j d. head-other e name d) (λ j d. unnoted (w .history) j)
+      (λ n r sim.
+      let h = head-own e name (sim .downClear) (sim .down) in (
+        R.clerkGets busy,
+        (
+          tt,
+          subst (λ y. Sim k (clerkStepped w rest (received (w .clerk) (messageRead k c) busy) (w .history)) (R.clerkGetStep n busy y)) (sym (h .whole))
+              (clerk-own sim (h .tail) (h .others) (hears-step busy k (h .code) (h .same) (h .clear) (n .clerk) (sim .clerk))
+              (take-clear k (n .clerk) (h .code) busy (h .clear)) (unnoted (w .history) k) (sim .kept)),
+        ),
+      ))

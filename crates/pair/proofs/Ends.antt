@@ -1,12 +1,12 @@
 -- One request's records and messages, read in the words of crate pair_request; and what it is for a step of a desk to do what the reading says.
-use Prim.Native.Nat.{ℕ}
+use Prim.Native.Nat.{ℕ, _/_}
 use mathlib.Core.Path.{_≡_}
 use mathlib.Core.Bool.{Bool, true, false}
-use mathlib.Core.List.{List, [], _∷_, map}
+use mathlib.Core.List.{List, map}
 use Rattle.lists.specs.Choice.{pick}
 use Rattle.lists.specs.Words.{wordsOf, bytesOf}
 use Rattle.lists.specs.declared.words.Words.{Words}
-use Rattle.message.specs.Format.{requestBody, inRange}
+use Rattle.message.specs.Format.{inRange}
 use Rattle.message.specs.declared.Carrier.the-variants as Carrier
 use Rattle.message.specs.declared.Body.the-variants as Body
 use Rattle.message.specs.declared.Message.{Message}
@@ -17,6 +17,10 @@ use Rattle.desk.specs.declared.Connection.the-variants as Connection
 use Rattle.desk.specs.declared.Keep.{Keep}
 use Rattle.desk.specs.declared.Keep.the-variants as Keep
 use Rattle.desk.specs.declared.letter.Letter.{Letter}
+use Rattle.terms.specs.Request.{canKeepSent, requestLetter}
+use Rattle.terms.specs.declared.Terms.{Terms}
+use Rattle.terms.specs.declared.request.Names.{Names}
+use Rattle.terms.specs.declared.request.Request.{Request}
 use Rattle.places.specs.Places as P
 use Rattle.clerk_table.specs.declared.table.State as ClerkStates
 use Rattle.clerk_table.specs.declared.table.State.the-variants as ClerkState
@@ -26,9 +30,8 @@ use Rattle.clerk_table.specs.declared.record.Record as ClerkRecord
 use Rattle.clerk_table.specs.declared.inputs.Act as ClerkActs
 use Rattle.clerk_table.specs.declared.inputs.Act.the-variants as ClerkAct
 use Rattle.clerk_records.specs.Records as ClerkRecords
-use Rattle.clerk.specs.Steps.{askFlags}
+use Rattle.clerk.specs.Entry.{askFlags}
 use Rattle.clerk.specs.declared.steps.Stepped as ClerkStepped
-use Rattle.clerk.specs.declared.steps.Asking.{Asking}
 use Rattle.clerk_sound.specs.Sound.{clerkView}
 use Rattle.line_table.specs.declared.table.State as LineStates
 use Rattle.line_table.specs.declared.table.State.the-variants as LineState
@@ -41,7 +44,6 @@ use Rattle.line.specs.declared.steps.Stepped as LineStepped
 use Rattle.line_sound.specs.Sound.{lineView}
 use Rattle.pair_request.specs.Reading as R
 use Rattle.pair.specs.World.{sentBy}
-use Rattle.desk.specs.Letter.{numberWords}
 
 -- ---- choices and states
 abbrev pub keepRead : Bool → Keep
@@ -69,19 +71,20 @@ suspendedRead (R.await m) = m
 suspendedRead R.alert = false
 
 -- ---- what an end holds of the request with an identifier
-abbrev pub clerkRecord : Words → R.Data → Bool → ClerkStates.State → Keep → Connection → ClerkRecord.Record
-clerkRecord identifier d ck state keep connection =
+abbrev pub termsRead : Words → R.Data → Keep → Connection → Terms
+termsRead identifier d keep connection =
     record {
       identifier = identifier;
       numberA = d .numberA;
       numberB = d .numberB;
       service = d .service;
       kind = d .kind;
-      state = state;
       keep = keep;
       connection = connection;
-      canKeep = ck;
     }
+
+abbrev pub clerkRecord : Words → R.Data → Bool → ClerkStates.State → Keep → Connection → ClerkRecord.Record
+clerkRecord identifier d ck state keep connection = record { terms = termsRead identifier d keep connection; state = state; canKeep = ck }
 
 abbrev pub clerkRead : Words → R.Clerk → P.Held ClerkRecord.Record
 clerkRead identifier R.absent = P.none
@@ -91,18 +94,7 @@ clerkRead identifier (R.live d ck k n s) = P.one (clerkRecord identifier d ck (c
 -- the activity mark is no part of the reading
 abbrev pub lineRecord : Words → Bool → R.Data → Bool → R.Conn → R.LState → LineRecord.Record
 lineRecord identifier active d k n s =
-    record {
-      identifier = identifier;
-      numberA = d .numberA;
-      numberB = d .numberB;
-      service = d .service;
-      kind = d .kind;
-      state = lineStateRead s;
-      keep = keepRead k;
-      connection = connRead n;
-      active = active;
-      suspended = suspendedRead s;
-    }
+    record { terms = termsRead identifier d (keepRead k) (connRead n); state = lineStateRead s; active = active; suspended = suspendedRead s }
 
 abbrev pub lineRead : Words → Bool → R.Line → P.Held LineRecord.Record
 lineRead identifier active R.none = P.none
@@ -113,15 +105,15 @@ abbrev pub byConn : {A : Type 0} → R.Conn → A → A → A
 byConn R.ret retained released = retained
 byConn R.rls retained released = released
 
+-- whom a request names, and what it asks for
+abbrev pub namesRead : Words → R.Data → Names
+namesRead identifier d = record { identifier = identifier; numberA = d .numberA; numberB = d .numberB }
+
+abbrev pub requestRead : R.Data → Bool → ℕ → Request
+requestRead d ck q = record { kind = d .kind; service = d .service; flags = askFlags ck q }
+
 abbrev pub letterRead : Words → R.Msg → Letter
-letterRead identifier (R.request d ck q) =
-    record {
-      carrier = Carrier.Setup;
-      identifier = identifier;
-      numberA = d .numberA;
-      numberB = d .numberB;
-      body = requestBody (d .kind) (d .service) (askFlags ck q);
-    }
+letterRead identifier (R.request d ck q) = requestLetter (namesRead identifier d) (requestRead d ck q)
 letterRead identifier (R.result k n) = plainLetter identifier (byConn n Carrier.Connect Carrier.ReleaseComplete) (Body.RequestResult (pick k 1 0))
 letterRead identifier (R.denied short) = plainLetter identifier Carrier.ReleaseComplete (Body.RequestError (pick short 1 2))
 letterRead identifier (R.exec n) = plainLetter identifier (byConn n Carrier.Facility Carrier.Setup) Body.CcExecPossible
@@ -138,17 +130,23 @@ abbrev pub messageRead : Words → R.Msg → Message
 messageRead identifier m = messageOf (letterRead identifier m)
 
 -- a message as it was sent: it is in range, and read as a letter it is the letter that was sent
-pub record Clear (identifier : Words) (m : R.Msg) : Type 0 where
-  pub back : letterOf (messageRead identifier m) ≡ letterRead identifier m
-  pub ranged : inRange (messageRead identifier m) ≡ true
+pub record ClearLetter (l : Letter) : Type 0 where
+  pub back : letterOf (messageOf l) ≡ l
+  pub ranged : inRange (messageOf l) ≡ true
+
+abbrev pub Clear : Words → R.Msg → Type 0
+Clear identifier m = ClearLetter (letterRead identifier m)
 
 -- an identifier that its sixteen bytes give back
 abbrev pub Kept : Words → Type 0
 Kept identifier = wordsOf (bytesOf identifier) ≡ identifier
 
--- the data of an ask
-abbrev pub dataOf : Asking → R.Data
-dataOf a = record { numberA = numberWords (a .numberA); numberB = numberWords (a .numberB); service = a .service; kind = a .kind }
+-- an ask's data, and its message
+abbrev pub dataOf : Names → Request → R.Data
+dataOf names q = record { numberA = names .numberA; numberB = names .numberB; service = q .service; kind = q .kind }
+
+abbrev pub askRead : Names → Request → R.Msg
+askRead names q = R.request (dataOf names q) (canKeepSent (q .flags)) (q .flags / 2)
 
 -- ---- inputs
 abbrev pub clerkActRead : ClerkActs.Act → R.CAct
@@ -170,26 +168,12 @@ lineActRead LineAct.Cancel = R.cancels
 abbrev pub policyOf : List ℕ → R.Policy
 policyOf words = record { keeps = keeps words; default = pick (retains words) R.ret R.rls }
 
--- ---- a step of a desk that is about one request, and what it does to that request and to every other
-pub record ClerkStep (before : List ℕ) (step : ClerkStepped.Stepped) (identifier : Words) (reading : R.Clerk → R.CAnswer) : Type 0 where
-  pub others :
-      (other : Words) → (identifier ≡ other → ⊥) →
-      P.held clerkView other (ClerkRecords.records (step .desk .words)) ≡ P.held clerkView other (ClerkRecords.records before)
-  pub itself :
-      (c : R.Clerk) → P.held clerkView identifier (ClerkRecords.records before) ≡ clerkRead identifier c →
-      P.held clerkView identifier (ClerkRecords.records (step .desk .words)) ≡ clerkRead identifier (reading c .0)
-  pub sends :
-      (c : R.Clerk) → P.held clerkView identifier (ClerkRecords.records before) ≡ clerkRead identifier c →
-      sentBy (step .outcome .sending) ≡ map (messageRead identifier) (reading c .1)
+-- ---- what a step of a desk does to the request that it is about
+pub record ClerkStep (after : ClerkStepped.Stepped) (identifier : Words) (answer : R.CAnswer) : Type 0 where
+  pub itself : P.held clerkView identifier (ClerkRecords.records (after .desk .words)) ≡ clerkRead identifier (answer .0)
+  pub sends : sentBy (after .outcome .sending) ≡ map (messageRead identifier) (answer .1)
 
-pub record LineStep (before : List ℕ) (step : LineStepped.Stepped) (identifier : Words) (reading : R.Line → R.LAnswer) : Type 0 where
-  pub others :
-      (other : Words) → (identifier ≡ other → ⊥) →
-      P.held lineView other (LineRecords.records (step .desk .words)) ≡ P.held lineView other (LineRecords.records before)
-  pub itself :
-      (l : R.Line) (active : Bool) → P.held lineView identifier (LineRecords.records before) ≡ lineRead identifier active l →
-      (after : Bool) × (P.held lineView identifier (LineRecords.records (step .desk .words)) ≡ lineRead identifier after (reading l .0))
-  pub sends :
-      (l : R.Line) (active : Bool) → P.held lineView identifier (LineRecords.records before) ≡ lineRead identifier active l →
-      sentBy (step .outcome .sending) ≡ map (messageRead identifier) (reading l .1)
-  pub settings : policyOf (step .desk .words) ≡ policyOf before
+pub record LineStep (after : LineStepped.Stepped) (identifier : Words) (answer : R.LAnswer) : Type 0 where
+  pub active : Bool
+  pub itself : P.held lineView identifier (LineRecords.records (after .desk .words)) ≡ lineRead identifier active (answer .0)
+  pub sends : sentBy (after .outcome .sending) ≡ map (messageRead identifier) (answer .1)

@@ -1,12 +1,13 @@
--- What the laws of each desk give to a world: a reached desk has its records placed and all its words, a started one holds nothing.
+-- What the laws of each desk give to a world: a reached desk has its records placed and all its words, a step leaves the requests that it does not name, and a started desk holds nothing.
 use Prim.Native.Nat.{ℕ, suc}
-use mathlib.Core.Path.{_≡_, refl, sym, _∙_, ap}
-use mathlib.Core.Bool.{Bool, true, false}
+use mathlib.Core.Path.{_≡_, refl, _∙_, ap}
+use mathlib.Core.Bool.{Bool, false}
 use mathlib.Core.List.{List, [], _∷_}
-use lib.ListN.{length, getD}
+use lib.ListN.{length}
 use Rattle.lists.specs.declared.words.Words.{Words}
 use Rattle.places.specs.Places as P
 use Rattle.places.proofs.Holding.{identified-unused}
+use Rattle.clerk_records.specs.Layout as ClerkLayout
 use Rattle.clerk_records.specs.Records as ClerkRecords
 use Rattle.clerk.specs.Steps.{startedDesk}
 use Rattle.clerk.specs.declared.Desk as ClerkDesk
@@ -14,6 +15,7 @@ use Rattle.clerk_sound.specs.Sound as ClerkSound
 use Rattle.clerk_sound.proofs.Start as ClerkStart
 use Rattle.clerk_sound.proofs.Reaching as ClerkReaching
 use Rattle.line_table.specs.Search.{used}
+use Rattle.line_records.specs.Layout as LineLayout
 use Rattle.line_records.specs.Records as LineRecords
 use Rattle.line.specs.Start.{started}
 use Rattle.line.specs.declared.Desk as LineDesk
@@ -21,17 +23,17 @@ use Rattle.line_sound.specs.Sound as LineSound
 use Rattle.line_sound.proofs.Starting as LineStarting
 use Rattle.line_sound.proofs.Reaching as LineReaching
 
-pub clerk-placed : (d : ClerkDesk.Desk) → ClerkSound.Reached d → P.Placed ClerkSound.clerkView (ClerkRecords.records (d .words))
-clerk-placed d r = ClerkReaching.reached-sound d r .placed
+pub clerk-placed : {d : ClerkDesk.Desk} → ClerkSound.Reached d → P.Placed ClerkSound.clerkView (ClerkRecords.records (d .words))
+clerk-placed {d} r = ClerkReaching.reached-sound d r .placed
 
-pub clerk-full : (d : ClerkDesk.Desk) → ClerkSound.Reached d → length (d .words) ≡ 192
-clerk-full d r = ClerkReaching.reached-full d r
+pub clerk-full : {d : ClerkDesk.Desk} → ClerkSound.Reached d → length (d .words) ≡ ClerkLayout.words
+clerk-full {d} r = ClerkReaching.reached-full d r
 
-pub line-placed : (d : LineDesk.Desk) → LineSound.Reached d → P.Placed LineSound.lineView (LineRecords.records (d .words))
-line-placed d r = LineReaching.reached-sound d r .placed
+pub line-placed : {d : LineDesk.Desk} → LineSound.Reached d → P.Placed LineSound.lineView (LineRecords.records (d .words))
+line-placed {d} r = LineReaching.reached-sound d r .placed
 
-pub line-full : (d : LineDesk.Desk) → LineSound.Reached d → length (d .words) ≡ 498
-line-full d r = LineReaching.reached-sound d r .full
+pub line-full : {d : LineDesk.Desk} → LineSound.Reached d → length (d .words) ≡ LineLayout.words
+line-full {d} r = LineReaching.reached-sound d r .full
 
 -- a list without a used record holds nothing
 held-nothing : {A : Type 0} (v : P.View A) (j : Words) (rs : List A) → ((i : ℕ) → v .used (P.at v rs i) ≡ false) → P.held v j rs ≡ P.none

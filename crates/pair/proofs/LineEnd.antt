@@ -3,12 +3,12 @@ use Prim.Native.Nat.{ℕ}
 use mathlib.Core.Path.{_≡_, refl, sym, ap, _∙_, subst}
 use mathlib.Core.Bool.{Bool, true, false}
 use mathlib.Core.List.{List, []}
-use lib.ListN.{length, getD}
+use lib.ListN.{getD}
 use lib.Dec.{ltb}
 use native.Mathlib.Omega.{arith}
 use Rattle.lists.specs.Choice.{pick}
 use Rattle.lists.specs.Lists.{first, count}
-use Rattle.lists.specs.Words.{wordsOf, sameWords}
+use Rattle.lists.specs.Words.{sameWords}
 use Rattle.lists.specs.declared.Found.{Found}
 use Rattle.lists.specs.declared.Found.the-variants.{At, Nothing}
 use Rattle.lists.specs.declared.words.Words.{Words}
@@ -23,43 +23,50 @@ use Rattle.desk.specs.Carriers.{carrierFits}
 use Rattle.desk.specs.declared.Connection.the-variants as Connection
 use Rattle.desk.specs.declared.letter.Letter.{Letter}
 use Rattle.desk.specs.declared.outcome.Sending.the-variants as Sending
+use Rattle.terms.specs.declared.request.Names.{Names}
 use Rattle.places.specs.Places as P
 use Rattle.places.proofs.Holding.{held-found, held-missed, meant-its}
-use Rattle.clerk.specs.Steps.{askFlags}
-use Rattle.line_table.specs.Inputs.{meantBy, rowFor, rowOfAct, replyMissed}
+use Rattle.clerk.specs.Entry.{askFlags}
+use Rattle.line_table.specs.Inputs.{messageFor, rowFor, rowOfAct, replyMissed}
 use Rattle.line_table.specs.Line.{allows}
 use Rattle.line_table.specs.Record.{refusedPlan}
-use Rattle.line_table.specs.Search.{ofLine, passes, duplicateOf}
-use Rattle.line_table.specs.Step.{taken}
+use Rattle.line_table.specs.Search.{ofLine, passes}
+use Rattle.line_table.specs.Step.{rowTaken}
 use Rattle.line_table.specs.declared.table.Row.{Row}
 use Rattle.line_table.specs.declared.table.Row.the-variants.{GuardRunsOut}
 use Rattle.line_table.specs.declared.record.Record.{Record}
+use Rattle.line_table.specs.declared.record.Decision.{Decision}
+use Rattle.line_table.specs.declared.record.Decision.the-variants.{Refuse, Deny}
 use Rattle.line_table.specs.declared.record.Plan.{Plan}
 use Rattle.line_table.specs.declared.inputs.Act.{Act}
 use Rattle.line_table.specs.declared.inputs.Input.{Input}
 use Rattle.line_table.specs.declared.inputs.Input.the-variants as Input
+use Rattle.line_table.specs.declared.inputs.RecordMessage.{RecordMessage}
+use Rattle.line_table.specs.declared.inputs.RecordMessage.the-variants as Message
 use Rattle.line_table.specs.declared.inputs.Meant.the-variants as Meant
+use Rattle.line_table.specs.declared.search.Sought.the-variants.{Duplicate}
 use Rattle.line_records.specs.Records.{blank, records, meant, place}
 use Rattle.line_records.specs.Lines.{noLine, lines, lineAt}
-use Rattle.line_plan.specs.Plan.{holdsFor, takesCall, rowPlan, inputFound, inputPlan, deniedPlan, newRecord, storedPlan, placePlan, countedPlan, duplicatePlan, admittedPlan, linePlan, requestPlan, messagePlan, ownFound, ownPlan}
-use Rattle.line.specs.Steps.{stepped, received, acted, guardReported}
+use Rattle.line_plan.specs.Decide.{lineMost, holdsFor, takesCall, rowDecision, recordFound, recordDecision, storeFound, countedDecision, duplicateFound, admittedDecision, lineFound, requestDecision, messageDecision, ownFound, ownDecision, decided}
+use Rattle.line_plan.specs.Plan.{newRecord, storedPlan, planOf, planFor}
+use Rattle.line.specs.Steps.{made, step}
 use Rattle.line.specs.declared.Desk.{Desk}
-use Rattle.line.specs.declared.steps.Stepped.{Stepped}
-use Rattle.line_sound.specs.Sound.{lineView}
+use Rattle.line_sound.specs.Sound.{lineView, Reached}
 use Rattle.pair_request.specs.Reading as R
-use Rattle.pair.specs.World as World
-use Rattle.pair.proofs.Ends.{keepRead, lineRecord, lineRead, letterRead, messageRead, Clear, lineActRead, policyOf, LineStep}
-use Rattle.pair.proofs.LineRows.{Answers, wordOf, nothing-done, ringout-found, suspend-found, resume-found, cancel-found, ringout-missed, suspend-missed, resume-missed, cancel-missed, ownRow, own-missed, act-found, guard-found, requestRead, request-stored, request-denied}
-use Rattle.pair.proofs.LineChanges.{Fair, stays, stores, no-one, found-read, fair-row, Does, plan-step, missed-does, found-does}
+use Rattle.pair.specs.World.{done}
+use Rattle.pair.proofs.Ends.{keepRead, lineRecord, lineRead, namesRead, requestRead, letterRead, lineActRead, policyOf, LineStep}
+use Rattle.pair.proofs.Changes.{stays, stores, not-one, pick-ap}
+use Rattle.pair.proofs.LineRows.{Answers, wordOf, nothing-done, recordMessage, rowPlan, record-found, record-missed, ownRow, own-missed, act-found, guard-found, request-stored, request-denied}
+use Rattle.pair.proofs.LineChanges.{OwnChange, found-read, own-row, Does, plan-step, missed-does, found-does}
 
 -- whether the line of what is held can take a call
 abbrev freeHeld : List ℕ → P.Held Record → Bool
 freeHeld ws P.none = true
-freeHeld ws (P.one r) = takesCall ws (r .numberB)
+freeHeld ws (P.one r) = takesCall ws (r .terms .numberB)
 
 request-meant :
     (kind : Kind) (service flags : ℕ) →
-    meantBy (requestBody kind service flags) ≡ Meant.Request (record { kind = kind; service = service; flags = flags })
+    messageFor (requestBody kind service flags) ≡ Meant.Request (record { kind = kind; service = service; flags = flags })
 request-meant Ccbs service flags = refl
 request-meant Ccnr service flags = refl
 
@@ -69,221 +76,238 @@ request-carried Ccbs service flags = refl
 request-carried Ccnr service flags = refl
 
 module _ (ws : List ℕ) (identifier : Words) where
-  abbrev here : P.Held Record
-  here = P.held lineView identifier (records ws)
+  abbrev rs : List Record
+  rs = records ws
 
-  -- what the desk does with a message, with its word on it
-  abbrev Heard : R.Msg → Plan → Type 0
-  Heard m plan = (w : R.Word) × Does ws identifier plan (λ l. R.lineTakes (policyOf ws) l m w)
+  abbrev here : P.Held Record
+  here = P.held lineView identifier rs
+
+  abbrev heard : R.Msg → Input
+  heard m = Input.Message (letterRead identifier m)
+
+  -- what a decision on a message does, with the desk's word on it
+  abbrev Heard : R.Msg → Decision → Type 0
+  Heard m decision = (w : R.Word) × Does ws identifier (planOf ws (heard m) decision) (λ l. R.lineTakes (policyOf ws) l m w)
 
   -- ---- a message about a record
-  fair-input :
-      (letter : Letter) (input : Input) (i : ℕ) → meant identifier (records ws) ≡ At i →
-      Fair (records ws) identifier (inputFound ws letter input (At i) .change)
-  fair-input letter input i e =
-      let r = getD (records ws) i blank in
-      let row = rowFor input (takesCall ws (r .numberB)) (r .keep) in
-      pick-elim (λ (plan : Plan). Fair (records ws) identifier (plan .change)) (holdsFor row r)
-      (λ h.
-      pick-elim (λ (plan : Plan). Fair (records ws) identifier (plan .change)) (carrierFits (letter .body) (r .connection) (letter .carrier))
-      (λ g. fair-row (records ws) identifier i e row)
-      (λ g. stays))
-      (λ h. stays)
+  module _ (message : RecordMessage) (n′ : R.Conn) where
+    abbrev code : R.Msg
+    code = recordMessage message n′
 
-  module _ (m : R.Msg) (letter : Letter) (input : Input)
-      (missed :
-      (b : Bool) (w : R.Word) → Answers (refusedPlan 6 (replyMissed input (letter .identifier))) identifier b R.none (R.lineTakes (policyOf ws) R.none m w))
-      (found :
-      (i : ℕ) (b free : Bool) (d : R.Data) (k : Bool) (n : R.Conn) (s : R.LState) →
-      Answers (rowPlan i (lineRecord identifier b d k n s) letter input (rowFor input free (keepRead k))) identifier b (R.holds d k n s)
-      (R.lineTakes (policyOf ws) (R.holds d k n s) m (wordOf R.takes free)))
-    where
-      input-does :
-          (f : Found) → meant identifier (records ws) ≡ f →
-          Does ws identifier (inputFound ws letter input f) (λ l. R.lineTakes (policyOf ws) l m (wordOf R.takes (freeHeld ws here)))
-      unfolding meant
-      input-does Nothing e =
-          missed-does ws identifier (λ l. R.lineTakes (policyOf ws) l m (wordOf R.takes (freeHeld ws here)))
-          (refusedPlan 6 (replyMissed input (letter .identifier))) e stays (λ b. missed b (wordOf R.takes (freeHeld ws here)))
-      input-does (At i) e =
-          found-does ws identifier (λ l. R.lineTakes (policyOf ws) l m (wordOf R.takes (freeHeld ws here))) i
-          (λ r. rowPlan i r letter input (rowFor input (takesCall ws (r .numberB)) (r .keep))) e (fair-input letter input i e)
-          (λ b d k n s q.
-          let f : takesCall ws (d .numberB) ≡ freeHeld ws here = sym (ap (freeHeld ws) (held-found lineView (records ws) identifier i e ∙ ap P.one q)) in
-          subst
-          (λ (free : Bool).
-          Answers (rowPlan i (lineRecord identifier b d k n s) letter input (rowFor input (takesCall ws (d .numberB)) (keepRead k))) identifier b
-          (R.holds d k n s) (R.lineTakes (policyOf ws) (R.holds d k n s) m (wordOf R.takes free)))
-          f (found i b (takesCall ws (d .numberB)) d k n s))
+    abbrev letter : Letter
+    letter = letterRead identifier code
 
-      input-heard : Heard m (inputFound ws letter input (meant identifier (records ws)))
-      input-heard = (wordOf R.takes (freeHeld ws here), input-does (meant identifier (records ws)) refl)
+    abbrev rowAt : Record → Row
+    rowAt r = rowFor message (takesCall ws (r .terms .numberB)) (r .terms .keep)
+
+    row-at :
+        (i : ℕ) →
+        planOf ws (heard code) (rowDecision i (getD rs i blank) letter message (rowAt (getD rs i blank)))
+        ≡ rowPlan i (getD rs i blank) letter message (rowAt (getD rs i blank))
+    unfolding planOf
+    row-at i =
+        let r = getD rs i blank in
+        pick-ap (planOf ws (heard code)) (holdsFor (rowAt r) r) _ _
+        ∙ ap (λ (plan : Plan). pick (holdsFor (rowAt r) r) plan (planOf ws (heard code) (Refuse 7 (replyMissed message))))
+        (pick-ap (planOf ws (heard code)) (carrierFits (letter .body) (r .terms .connection) (letter .carrier)) _ _)
+
+    own-at :
+        (i : ℕ) → meant identifier rs ≡ At i →
+        OwnChange rs identifier (rowPlan i (getD rs i blank) letter message (rowAt (getD rs i blank)) .change)
+    own-at i e =
+        let r = getD rs i blank in
+        pick-elim (λ (plan : Plan). OwnChange rs identifier (plan .change)) (holdsFor (rowAt r) r)
+        (λ h.
+        pick-elim (λ (plan : Plan). OwnChange rs identifier (plan .change)) (carrierFits (letter .body) (r .terms .connection) (letter .carrier))
+        (λ g. own-row rs identifier i r e (rowAt r))
+        (λ g. stays))
+        (λ h. stays)
+
+    record-does :
+        (f : Found) → meant identifier rs ≡ f →
+        Does ws identifier (planOf ws (heard code) (recordFound ws letter message f)) (λ l. R.lineTakes (policyOf ws) l code (wordOf R.takes (freeHeld ws here)))
+    unfolding planOf meant
+    record-does Nothing e =
+        missed-does ws identifier (λ l. R.lineTakes (policyOf ws) l code (wordOf R.takes (freeHeld ws here)))
+        (planOf ws (heard code) (Refuse 6 (replyMissed message))) e stays
+        (λ b. record-missed identifier b (policyOf ws) message n′ (wordOf R.takes (freeHeld ws here)))
+    record-does (At i) e =
+        let reading : R.Line → R.LAnswer = λ l. R.lineTakes (policyOf ws) l code (wordOf R.takes (freeHeld ws here)) in
+        subst (λ (plan : Plan). Does ws identifier plan reading) (sym (row-at i))
+        (found-does ws identifier reading i (λ r. rowPlan i r letter message (rowAt r)) e (own-at i e)
+        (λ b d k n s q.
+        let f : takesCall ws (d .numberB) ≡ freeHeld ws here = sym (ap (freeHeld ws) (held-found lineView rs identifier i e ∙ ap P.one q)) in
+        subst
+        (λ (free : Bool).
+        Answers (rowPlan i (lineRecord identifier b d k n s) letter message (rowFor message (takesCall ws (d .numberB)) (keepRead k))) identifier b
+        (R.holds d k n s) (R.lineTakes (policyOf ws) (R.holds d k n s) code (wordOf R.takes free)))
+        f (record-found identifier b (policyOf ws) i message n′ (takesCall ws (d .numberB)) d k n s)))
+
+    record-heard : Heard code (recordFound ws letter message (meant identifier rs))
+    record-heard = (wordOf R.takes (freeHeld ws here), record-does (meant identifier rs) refl)
 
   -- ---- a request
   -- a record with its identifier would be a duplicate
-  new-identifier :
-      (letter : Letter) → letter .identifier ≡ identifier → first (passes (duplicateOf letter)) (records ws) ≡ Nothing →
-      meant identifier (records ws) ≡ Nothing
+  new-identifier : (names : Names) → names .identifier ≡ identifier → first (passes (Duplicate names)) rs ≡ Nothing → meant identifier rs ≡ Nothing
   unfolding meant
-  new-identifier letter same none = by (meant identifier (records ws)) refl
+  new-identifier names same none = by (meant identifier rs) refl
     where
-      by : (f : Found) → meant identifier (records ws) ≡ f → meant identifier (records ws) ≡ Nothing
+      by : (f : Found) → meant identifier rs ≡ f → meant identifier rs ≡ Nothing
       by Nothing e = e
       by (At i) e =
-          let r = getD (records ws) i blank in
-          let its = meant-its lineView (records ws) identifier i e in
-          let inside = first-below (P.identified lineView identifier) 0 (records ws) i e in
-          let never = first-none (passes (duplicateOf letter)) (records ws) blank none i (omega (arith, inside)) in
-          let t : sameWords (r .identifier) (letter .identifier) ≡ true = words-same (r .identifier) (letter .identifier) (its .1 ∙ sym same) in
+          let r = getD rs i blank in
+          let its = meant-its lineView rs identifier i e in
+          let inside = first-below (P.identified lineView identifier) 0 rs i e in
+          let never = first-none (passes (Duplicate names)) rs blank none i (omega (arith, inside)) in
+          let t : sameWords (r .terms .identifier) (names .identifier) ≡ true = words-same (r .terms .identifier) (names .identifier) (its .1 ∙ sym same) in
           absurd (no-true (sym (rw (its .0, t) at never)))
 
   module _ (d : R.Data) (ck : Bool) (q : ℕ) where
-    abbrev asked : Letter
-    asked = letterRead identifier (R.request d ck q)
+    abbrev asked : R.Msg
+    asked = R.request d ck q
 
-    denied : (short : Bool) → Heard (R.request d ck q) (deniedPlan asked (pick short 1 2))
-    denied short =
-        (wordOf (R.denies short) true, record { fair = stays; answer = λ l b e. request-denied ws identifier b short true d ck q l })
+    denied : (short : Bool) → Heard asked (Deny (pick short 1 2))
+    unfolding planOf
+    denied short = (wordOf (R.denies short) true, record { own = stays; answer = λ l b e. request-denied ws identifier b short true d ck q l })
 
-    place-heard :
-        (busy : Bool) (f : Found) → meant identifier (records ws) ≡ Nothing → place (records ws) ≡ f →
-        Heard (R.request d ck q) (placePlan ws asked (requestRead d ck q) busy f)
-    place-heard busy Nothing new e = denied true
-    place-heard busy (At i) new e = (
-      wordOf R.takes true,
-      missed-does ws identifier (λ l. R.lineTakes (policyOf ws) l (R.request d ck q) (wordOf R.takes true))
-          (storedPlan i (newRecord ws asked (requestRead d ck q) busy)) new
-          (stores i (newRecord ws asked (requestRead d ck q) busy) e new refl refl)
-          (λ b. request-stored ws i identifier b busy true d ck q),
-    )
+    store-heard : (busy : Bool) (f : Found) → meant identifier rs ≡ Nothing → place rs ≡ f → Heard asked (storeFound (requestRead d ck q) busy f)
+    unfolding planOf meant place
+    store-heard busy Nothing new e = denied true
+    store-heard busy (At i) new e =
+        let r = newRecord ws (namesRead identifier d) (requestRead d ck q) busy in (
+          wordOf R.takes true,
+          missed-does ws identifier (λ l. R.lineTakes (policyOf ws) l asked (wordOf R.takes true)) (storedPlan i r) new (stores i r e new)
+              (λ b. request-stored ws i identifier b busy true d ck q),
+        )
 
     duplicate-heard :
-        (busy : Bool) (f : Found) → first (passes (duplicateOf asked)) (records ws) ≡ f →
-        Heard (R.request d ck q) (duplicatePlan ws asked (requestRead d ck q) busy f)
-    unfolding countedPlan
+        (busy : Bool) (f : Found) → first (passes (Duplicate (namesRead identifier d))) rs ≡ f →
+        Heard asked (duplicateFound ws (namesRead identifier d) (requestRead d ck q) busy f)
+    unfolding countedDecision
     duplicate-heard busy (At i) e = denied true
     duplicate-heard busy Nothing e =
-        pick-elim (Heard (R.request d ck q)) (ltb (count (ofLine (d .numberB)) (records ws)) 5)
-        (λ t. place-heard busy (place (records ws)) (new-identifier asked refl e) refl)
+        pick-elim (Heard asked) (ltb (count (ofLine (d .numberB)) rs) lineMost)
+        (λ t. store-heard busy (place rs) (new-identifier (namesRead identifier d) refl e) refl)
         (λ t. denied true)
 
-    line-heard : (f : Found) → Heard (R.request d ck q) (linePlan ws asked (requestRead d ck q) f)
-    unfolding admittedPlan
+    line-heard : (f : Found) → Heard asked (lineFound ws (namesRead identifier d) (requestRead d ck q) f)
+    unfolding admittedDecision
     line-heard Nothing = denied false
     line-heard (At k) =
         let line = getD (lines ws) k noLine in
-        pick-elim (Heard (R.request d ck q)) (allows line (d .kind))
-        (λ t. duplicate-heard (line .busy) (first (passes (duplicateOf asked)) (records ws)) refl)
+        pick-elim (Heard asked) (allows line (d .kind))
+        (λ t. duplicate-heard (line .busy) (first (passes (Duplicate (namesRead identifier d))) rs) refl)
         (λ t. denied false)
 
-    request-plan : messagePlan ws asked ≡ linePlan ws asked (requestRead d ck q) (lineAt (d .numberB) (lines ws))
-    unfolding messagePlan requestPlan
-    request-plan = rw (request-meant (d .kind) (d .service) (askFlags ck q), request-carried (d .kind) (d .service) (askFlags ck q))
-
-    request-heard : Heard (R.request d ck q) (messagePlan ws asked)
-    request-heard = subst (Heard (R.request d ck q)) (sym request-plan) (line-heard (lineAt (d .numberB) (lines ws)))
+    request-heard : Heard asked (messageDecision ws (letterRead identifier asked))
+    unfolding messageDecision requestDecision
+    request-heard =
+        rw (request-meant (d .kind) (d .service) (askFlags ck q), request-carried (d .kind) (d .service) (askFlags ck q))
+        (line-heard (lineAt (d .numberB) (lines ws)))
 
   -- ---- every message
   -- a message that goes to the clerk
   not-here : (w : R.Word) × Does ws identifier (refusedPlan 3 Sending.Nothing) (λ l. (l, []))
-  not-here = (wordOf R.takes true, record { fair = stays; answer = λ l b e. nothing-done 3 identifier b l })
+  not-here = (wordOf R.takes true, record { own = stays; answer = λ l b e. nothing-done 3 identifier b l })
 
-  message-heard : (m : R.Msg) → Heard m (messagePlan ws (letterRead identifier m))
-  unfolding messagePlan inputPlan R.lineTakes
+  message-heard : (m : R.Msg) → Heard m (messageDecision ws (letterRead identifier m))
+  unfolding messageDecision recordDecision planOf R.lineTakes
   message-heard (R.request d ck q) = request-heard d ck q
   message-heard (R.result k n) = not-here
   message-heard (R.denied short) = not-here
   message-heard (R.exec n) = not-here
-  message-heard R.ringout =
-      input-heard R.ringout (letterRead identifier R.ringout) Input.Ringout (λ b w. ringout-missed identifier b (policyOf ws) w)
-      (λ i b free d k n s. ringout-found i identifier b (policyOf ws) R.takes free d k n s)
+  message-heard R.ringout = record-heard Message.Ringout R.ret
   message-heard R.busyAgain = not-here
   message-heard R.noMatch = not-here
-  message-heard (R.suspend n′) =
-      input-heard (R.suspend n′) (letterRead identifier (R.suspend n′)) Input.Suspend (λ b w. suspend-missed identifier b (policyOf ws) w n′)
-      (λ i b free d k n s. suspend-found i identifier b (policyOf ws) R.takes free n′ d k n s)
-  message-heard (R.resume n′) =
-      input-heard (R.resume n′) (letterRead identifier (R.resume n′)) Input.Resume (λ b w. resume-missed identifier b (policyOf ws) w n′)
-      (λ i b free d k n s. resume-found i identifier b (policyOf ws) R.takes free n′ d k n s)
-  message-heard (R.cancel n′) =
-      input-heard (R.cancel n′) (letterRead identifier (R.cancel n′)) Input.Cancel (λ b w. cancel-missed identifier b (policyOf ws) w n′)
-      (λ i b free d k n s. cancel-found i identifier b (policyOf ws) R.takes free n′ d k n s)
+  message-heard (R.suspend n) = record-heard Message.Suspend n
+  message-heard (R.resume n) = record-heard Message.Resume n
+  message-heard (R.cancel n) = record-heard Message.Cancel n
   message-heard R.alerts = not-here
   message-heard R.failed = not-here
 
   -- ---- acts and the guard
-  own-does :
-      (row : Row) (x : R.LAct) →
-      ((i : ℕ) (b : Bool) (d : R.Data) (k : Bool) (n : R.Conn) (s : R.LState) →
-      Answers (ownRow i row (lineRecord identifier b d k n s)) identifier b (R.holds d k n s) (R.lineActs (R.holds d k n s) x)) →
-      (f : Found) → meant identifier (records ws) ≡ f → Does ws identifier (ownFound ws row f) (λ l. R.lineActs l x)
-  own-does row x found Nothing e =
-      missed-does ws identifier (λ l. R.lineActs l x) (refusedPlan 6 Sending.Nothing) e stays (λ b. own-missed identifier b x)
-  own-does row x found (At i) e =
-      found-does ws identifier (λ l. R.lineActs l x) i (ownRow i row) e
-      (pick-elim (λ (plan : Plan). Fair (records ws) identifier (plan .change)) (holdsFor row (getD (records ws) i blank))
-      (λ h. fair-row (records ws) identifier i e row)
-      (λ h. stays))
-      (λ b d k n s q. found i b d k n s)
+  module _ (input : Input) (row : Row) where
+    abbrev acting : Found → Plan
+    acting f = planOf ws input (ownFound ws row f)
+
+    acting-at : (i : ℕ) → acting (At i) ≡ ownRow i row (getD rs i blank)
+    unfolding planOf
+    acting-at i = pick-ap (planOf ws input) (holdsFor row (getD rs i blank)) _ _
+
+    own-does :
+        (x : R.LAct) →
+        ((i : ℕ) (b : Bool) (d : R.Data) (k : Bool) (n : R.Conn) (s : R.LState) →
+        Answers (ownRow i row (lineRecord identifier b d k n s)) identifier b (R.holds d k n s) (R.lineActs (R.holds d k n s) x)) →
+        (f : Found) → meant identifier rs ≡ f → Does ws identifier (acting f) (λ l. R.lineActs l x)
+    unfolding planOf
+    own-does x found Nothing e = missed-does ws identifier (λ l. R.lineActs l x) (acting Nothing) e stays (λ b. own-missed identifier b x)
+    own-does x found (At i) e =
+        subst (λ (plan : Plan). Does ws identifier plan (λ l. R.lineActs l x)) (sym (acting-at i))
+        (found-does ws identifier (λ l. R.lineActs l x) i (ownRow i row) e
+        (pick-elim (λ (plan : Plan). OwnChange rs identifier (plan .change)) (holdsFor row (getD rs i blank))
+        (λ h. own-row rs identifier i (getD rs i blank) e row)
+        (λ h. stays))
+        (λ b d k n s q. found i b d k n s))
 
 -- ---- the desk's steps
-module _ (d : Desk) (placed : P.Placed lineView (records (d .words))) (full : length (d .words) ≡ 498) where
-  received-plan :
-      (identifier : Words) (m : R.Msg) → Clear identifier m →
-      received d (messageRead identifier m) ≡ stepped d (messagePlan (d .words) (letterRead identifier m))
-  unfolding received
-  received-plan identifier m clear = rw (clear .ranged, clear .back)
-
+module _ (d : Desk) (reached : Reached d) where
   pub line-hears :
-      (identifier : Words) (m : R.Msg) → Clear identifier m →
-      (w : R.Word) × LineStep (d .words) (received d (messageRead identifier m)) identifier (λ l. R.lineTakes (policyOf (d .words)) l m w)
-  line-hears identifier m clear =
-      let heard = message-heard (d .words) identifier m in
-      let reading : R.Line → R.LAnswer = λ l. R.lineTakes (policyOf (d .words)) l m (heard .0) in (
+      (j : Words) (m : R.Msg) →
+      (w : R.Word) × ((l : R.Line) (b : Bool) → P.held lineView j (records (d .words)) ≡ lineRead j b l →
+      LineStep (step d (Input.Message (letterRead j m))) j (R.lineTakes (policyOf (d .words)) l m w))
+  unfolding step planFor decided
+  line-hears j m =
+      let heard = message-heard (d .words) j m in (
         heard .0,
-        subst (λ (step : Stepped). LineStep (d .words) step identifier reading) (sym (received-plan identifier m clear))
-            (plan-step d placed full identifier (messagePlan (d .words) (letterRead identifier m)) reading (heard .1)),
+        plan-step d reached j (planFor (d .words) (Input.Message (letterRead j m))) (λ l. R.lineTakes (policyOf (d .words)) l m (heard .0)) (heard .1),
       )
 
-  pub line-acts :
-      (identifier : List ℕ) (act : Act) →
-      LineStep (d .words) (acted d identifier act) (wordsOf identifier) (λ l. R.lineActs l (lineActRead act))
-  unfolding acted ownPlan
-  line-acts identifier act =
-      plan-step d placed full (wordsOf identifier) (ownPlan (d .words) (wordsOf identifier) (rowOfAct act)) (λ l. R.lineActs l (lineActRead act))
-      (own-does (d .words) (wordsOf identifier) (rowOfAct act) (lineActRead act) (λ i b. act-found i (wordsOf identifier) b act)
-      (meant (wordsOf identifier) (records (d .words))) refl)
+  own-step :
+      (j : Words) (input : Input) (row : Row) (x : R.LAct) →
+      ((i : ℕ) (b : Bool) (d : R.Data) (k : Bool) (n : R.Conn) (s : R.LState) →
+      Answers (ownRow i row (lineRecord j b d k n s)) j b (R.holds d k n s) (R.lineActs (R.holds d k n s) x)) →
+      (l : R.Line) (b : Bool) → P.held lineView j (records (d .words)) ≡ lineRead j b l →
+      LineStep (made d (planOf (d .words) input (ownFound (d .words) row (meant j (records (d .words)))))) j (R.lineActs l x)
+  own-step j input row x found =
+      plan-step d reached j (planOf (d .words) input (ownFound (d .words) row (meant j (records (d .words))))) (λ l. R.lineActs l x)
+      (own-does (d .words) j input row x found (meant j (records (d .words))) refl)
 
-  pub line-guards : (identifier : List ℕ) → LineStep (d .words) (guardReported d identifier) (wordsOf identifier) (λ l. R.lineActs l R.guard)
-  unfolding guardReported ownPlan
-  line-guards identifier =
-      plan-step d placed full (wordsOf identifier) (ownPlan (d .words) (wordsOf identifier) GuardRunsOut) (λ l. R.lineActs l R.guard)
-      (own-does (d .words) (wordsOf identifier) GuardRunsOut R.guard (λ i b. guard-found i (wordsOf identifier) b)
-      (meant (wordsOf identifier) (records (d .words))) refl)
+  pub line-acts :
+      (j : Words) (act : Act) (l : R.Line) (b : Bool) → P.held lineView j (records (d .words)) ≡ lineRead j b l →
+      LineStep (step d (Input.Act j act)) j (R.lineActs l (lineActRead act))
+  unfolding step planFor decided ownDecision
+  line-acts j act = own-step j (Input.Act j act) (rowOfAct act) (lineActRead act) (λ i b. act-found i j b act)
+
+  pub line-guards :
+      (j : Words) (l : R.Line) (b : Bool) → P.held lineView j (records (d .words)) ≡ lineRead j b l →
+      LineStep (step d (Input.Guard j)) j (R.lineActs l R.guard)
+  unfolding step planFor decided ownDecision
+  line-guards j = own-step j (Input.Guard j) GuardRunsOut R.guard (λ i b. guard-found i j b)
 
 -- ---- the guard's report is taken where a request is held
 guard-taken :
     (i : ℕ) (identifier : Words) (b : Bool) (d : R.Data) (k : Bool) (n : R.Conn) (s : R.LState) →
-    World.taken (ownRow i GuardRunsOut (lineRecord identifier b d k n s) .outcome) ≡ true
-unfolding taken
+    done (ownRow i GuardRunsOut (lineRecord identifier b d k n s) .outcome) ≡ true
+unfolding rowTaken
 guard-taken i identifier b d k n R.idle = refl
 guard-taken i identifier b d k n (R.await m) = refl
 guard-taken i identifier b d k n R.alert = refl
 
 guard-ends-found :
     (ws : List ℕ) (identifier : Words) (l : R.Line) (b : Bool) (f : Found) → meant identifier (records ws) ≡ f →
-    P.held lineView identifier (records ws) ≡ lineRead identifier b l → World.taken (ownFound ws GuardRunsOut f .outcome) ≡ R.guardEnds l R.guard
-unfolding meant
+    P.held lineView identifier (records ws) ≡ lineRead identifier b l →
+    done (acting ws identifier (Input.Guard identifier) GuardRunsOut f .outcome) ≡ R.guardEnds l R.guard
+unfolding meant planOf
 guard-ends-found ws identifier R.none b Nothing e h = refl
-guard-ends-found ws identifier R.none b (At i) e h = absurd (no-one (sym h ∙ held-found lineView (records ws) identifier i e))
-guard-ends-found ws identifier (R.holds d k n s) b Nothing e h = absurd (no-one (sym (held-missed lineView (records ws) identifier e) ∙ h))
+guard-ends-found ws identifier R.none b (At i) e h = not-one (sym h ∙ held-found lineView (records ws) identifier i e)
+guard-ends-found ws identifier (R.holds d k n s) b Nothing e h = not-one (sym (held-missed lineView (records ws) identifier e) ∙ h)
 guard-ends-found ws identifier (R.holds d k n s) b (At i) e h =
-    ap (λ (r : Record). World.taken (ownRow i GuardRunsOut r .outcome)) (found-read ws identifier b d k n s i e h)
+    ap (λ (plan : Plan). done (plan .outcome)) (acting-at ws identifier (Input.Guard identifier) GuardRunsOut i)
+    ∙ ap (λ (r : Record). done (ownRow i GuardRunsOut r .outcome)) (found-read ws identifier b d k n s i e h)
     ∙ guard-taken i identifier b d k n s
 
 pub guard-ends :
-    (d : Desk) (identifier : List ℕ) (l : R.Line) (b : Bool) →
-    P.held lineView (wordsOf identifier) (records (d .words)) ≡ lineRead (wordsOf identifier) b l →
-    World.taken (guardReported d identifier .outcome) ≡ R.guardEnds l R.guard
-unfolding guardReported ownPlan
-guard-ends d identifier l b h = guard-ends-found (d .words) (wordsOf identifier) l b (meant (wordsOf identifier) (records (d .words))) refl h
+    (d : Desk) (identifier : Words) (l : R.Line) (b : Bool) → P.held lineView identifier (records (d .words)) ≡ lineRead identifier b l →
+    done (step d (Input.Guard identifier) .outcome) ≡ R.guardEnds l R.guard
+unfolding step planFor decided ownDecision
+guard-ends d identifier l b h = guard-ends-found (d .words) identifier l b (meant identifier (records (d .words))) refl h

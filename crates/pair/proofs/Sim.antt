@@ -1,19 +1,22 @@
--- One request's part of a world: what the ends hold of it, its messages and its history, as a net of crate pair_request; and what a step of a desk makes of it.
-use Prim.Native.Nat.{ℕ}
-use mathlib.Core.Path.{_≡_, refl, sym, _∙_, ap, subst}
+-- One request's part of a world: what the ends hold of it, its messages and its history, as a net of crate pair_request. A step is about one request, whose net it moves, or about none; every other it leaves.
+use mathlib.Core.Path.{_≡_, refl, sym, _∙_, ap}
 use mathlib.Core.Bool.{Bool, true, false}
 use mathlib.Core.List.{List, [], _∷_, _++_, map}
 use Rattle.lists.specs.declared.words.Words.{Words}
 use Rattle.message.specs.declared.Message.{Message}
+use Rattle.places.specs.Places as P
 use Rattle.clerk.specs.declared.steps.Stepped as ClerkStepped
 use Rattle.clerk_sound.specs.Sound as ClerkSound
+use Rattle.line_table.specs.declared.record.Record as LineRecord
+use Rattle.line_records.specs.Change.{activated}
 use Rattle.line.specs.declared.steps.Stepped as LineStepped
 use Rattle.line_sound.specs.Sound as LineSound
 use Rattle.pair_request.specs.Reading as R
-use Rattle.pair.specs.World.{World, History, Event, lineHears, clerkHolds, lineHolds, messagesOf, has, sentBy, clerkStepped, lineStepped, next}
-use Rattle.pair.specs.Claims.{Heads}
-use Rattle.pair.proofs.Ends.{clerkRead, lineRead, messageRead, Kept, policyOf, ClerkStep, LineStep}
-use Rattle.pair.proofs.Wires.{messages-append, AllClear, clear-append, messages-own, messages-other, Worded}
+use Rattle.pair.specs.World.{World, History, Event, lineHears, clerkHolds, lineHolds, messagesOf, has, sentBy, withDropped, clerkStepped, lineStepped, next}
+use Rattle.pair.specs.Claims.{Heads, About, Drops, Unaltered, same, marked}
+use Rattle.pair.proofs.Ends.{clerkRead, lineRecord, lineRead, messageRead, Kept, policyOf, ClerkStep, LineStep}
+use Rattle.pair.proofs.Changes.{not-one, the-one}
+use Rattle.pair.proofs.Wires.{messages-append, AllClear, clear-append, messages-own, messages-other, Worded, has-own}
 
 pub record Sim (j : Words) (w : World) (n : R.Net) : Type 0 where
   pub clerk : clerkHolds w j ≡ clerkRead j (n .clerk)
@@ -29,6 +32,10 @@ pub record Sim (j : Words) (w : World) (n : R.Net) : Type 0 where
   pub guarded : has (w .history .guarded) j ≡ n .guarded
   pub dropped : has (w .history .dropped) j ≡ n .dropped
 
+-- every identifier of the world has its net
+abbrev pub Known : R.Policy → World → Type 0
+Known p w = (j : Words) → (n : R.Net) × (R.Reach p n × Sim j w n)
+
 -- what holds of the whole world: both desks are reached, the settings are the start's, and every message is as a desk sent it
 pub record Good (p : R.Policy) (w : World) : Type 0 where
   pub clerk : ClerkSound.Reached (w .clerk)
@@ -37,27 +44,89 @@ pub record Good (p : R.Policy) (w : World) : Type 0 where
   pub up : Worded (w .up)
   pub down : Worded (w .down)
 
--- a step of the world leaves the net or is a step of it; only a delivery of the request's own message to the line is one there
-pub record Hearing (w : World) (e : Event) (j : Words) (r : R.Event) : Type 0 where
-  pub only : (x : R.Word) → r ≡ R.lineGets x → (e ≡ lineHears) × Heads (w .up) j
-
-pub data Follows (p : R.Policy) (w : World) (e : Event) (j : Words) (n : R.Net) : R.Net → Type 0 where
-  stays : Follows p w e j n n
-  moves : (r : R.Event) → Hearing w e j r → Follows p w e j n (R.next p n r)
-
-abbrev pub Step : R.Policy → World → Event → Words → R.Net → Type 0
-Step p w e j n = (after : R.Net) × (Follows p w e j n after × Sim j (next w e) after)
-
--- ---- the history of one identifier after a step: a T1 or T2 report taken, a guard report taken
-pub record Noted (after before : History) (j : Words) (t g : Bool) : Type 0 where
-  pub takenUp : has (after .takenUp) j ≡ has (before .takenUp) j
+-- ---- the history of one identifier after a step: whether it was taken up, ran out, was guarded, lost a message
+pub record Noted (after before : History) (j : Words) (u t g x : Bool) : Type 0 where
+  pub takenUp : has (after .takenUp) j ≡ R.or u (has (before .takenUp) j)
   pub runOut : has (after .runOut) j ≡ R.or t (has (before .runOut) j)
   pub guarded : has (after .guarded) j ≡ R.or g (has (before .guarded) j)
-  pub dropped : has (after .dropped) j ≡ has (before .dropped) j
+  pub dropped : has (after .dropped) j ≡ R.or x (has (before .dropped) j)
 
-pub unnoted : (h : History) (j : Words) → Noted h h j false false
+abbrev pub Unnoted : History → History → Words → Type 0
+Unnoted after before j = Noted after before j false false false false
+
+pub unnoted : (h : History) (j : Words) → Unnoted h h j
 unnoted h j = record { takenUp = refl; runOut = refl; guarded = refl; dropped = refl }
 
+-- ---- what a step makes of a request
+-- of one that it leaves: nothing, except that a busy report may mark its activity
+pub record Left (w : World) (e : Event) (after : World) (j : Words) : Type 0 where
+  pub clerk : clerkHolds after j ≡ clerkHolds w j
+  pub line : Unaltered e (lineHolds w j) (lineHolds after j)
+  pub up : messagesOf j (after .up) ≡ messagesOf j (w .up)
+  pub down : messagesOf j (after .down) ≡ messagesOf j (w .down)
+  pub history : Unnoted (after .history) (w .history) j
+
+-- only a delivery of the request's own message to the line is one in its net
+abbrev pub Hearing : World → Event → Words → R.Event → Type 0
+Hearing w e j (R.asks d ck q) = Unit
+Hearing w e j (R.clerkDoes x) = Unit
+Hearing w e j (R.lineDoes x) = Unit
+Hearing w e j (R.clerkGets busy) = Unit
+Hearing w e j (R.lineGets x) = (e ≡ lineHears) × Heads (w .up) j
+Hearing w e j R.losesUp = Unit
+Hearing w e j R.losesDown = Unit
+
+-- the one that it is about is named, or loses a message and keeps its records
+pub data Named (w : World) (e : Event) (after : World) (j : Words) : Type 0 where
+  about : About w e j → Named w e after j
+  loses : Drops w e j → clerkHolds after j ≡ clerkHolds w j → lineHolds after j ≡ lineHolds w j → Named w e after j
+
+-- and its net makes a step
+abbrev pub Moves : R.Policy → World → Event → World → Words → R.Net → Type 0
+Moves p w e after j n = (r : R.Event) × (Hearing w e j r × Sim j after (R.next p n r))
+
+pub data Turn (p : R.Policy) (w : World) (e : Event) (after : World) : Type 0 where
+  nobody : ((j : Words) → Left w e after j) → Turn p w e after
+  somebody :
+      (k : Words) → Named w e after k → ((n : R.Net) → R.Reach p n → Sim k w n → Moves p w e after k n) → ((j : Words) → (k ≡ j → ⊥) → Left w e after j) →
+      Turn p w e after
+
+-- a good world stays good
+abbrev pub Turned : R.Policy → World → Event → World → Type 0
+Turned p w e after = Good p after × Turn p w e after
+
+-- a step that is none
+pub unmoved : {p : R.Policy} {w : World} {e : Event} → Good p w → Turned p w e w
+unmoved {w = w} g = (g, nobody (λ j. record { clerk = refl; line = same; up = refl; down = refl; history = unnoted (w .history) j }))
+
+-- ---- a request that is left has the same net
+unaltered-read :
+    {e : Event} {before after : P.Held LineRecord.Record} → Unaltered e before after →
+    (j : Words) (l : R.Line) (b : Bool) → before ≡ lineRead j b l → (c : Bool) × (after ≡ lineRead j c l)
+unaltered-read same j l b e = (b, e)
+unaltered-read (marked r t) j R.none b e = not-one (sym e)
+unaltered-read (marked r t) j (R.holds d k n s) b e =
+    (true, ap (λ (x : LineRecord.Record). P.one (activated x)) (the-one r (lineRecord j b d k n s) e))
+
+pub left-sim : {w : World} {e : Event} {after : World} {j : Words} {n : R.Net} → Left w e after j → Sim j w n → Sim j after n
+left-sim {j = j} {n = n} left sim =
+    let line = unaltered-read (left .line) j (n .line) (sim .active) (sim .line) in
+    record {
+      clerk = left .clerk ∙ sim .clerk;
+      active = line .0;
+      line = line .1;
+      up = left .up ∙ sim .up;
+      down = left .down ∙ sim .down;
+      upClear = sim .upClear;
+      downClear = sim .downClear;
+      kept = sim .kept;
+      used = left .history .takenUp ∙ sim .used;
+      timedOut = left .history .runOut ∙ sim .timedOut;
+      guarded = left .history .guarded ∙ sim .guarded;
+      dropped = left .history .dropped ∙ sim .dropped;
+    }
+
+-- ---- wires
 map-append : {A B : Type 0} (f : A → B) (xs ys : List A) → map f (xs ++ ys) ≡ map f xs ++ map f ys
 map-append f [] ys = refl
 map-append f (x ∷ xs) ys = ap (λ zs. f x ∷ zs) (map-append f xs ys)
@@ -67,7 +136,7 @@ append-none [] = refl
 append-none (x ∷ xs) = ap (λ zs. x ∷ zs) (append-none xs)
 
 -- a wire to which the request's own messages were added, and one to which another's were
-pub wire-own :
+wire-own :
     (j : Words) (ms sent : List Message) (before added : List R.Msg) → messagesOf j ms ≡ map (messageRead j) before →
     sent ≡ map (messageRead j) added → AllClear j added → messagesOf j (ms ++ sent) ≡ map (messageRead j) (before ++ added)
 wire-own j ms sent before added e s c =
@@ -82,65 +151,55 @@ pub wire-other :
 wire-other j k ms sent added s c d =
     messages-append j ms sent ∙ ap (λ x. messagesOf j ms ++ x) (ap (messagesOf j) s ∙ messages-other k j added c d) ∙ append-none (messagesOf j ms)
 
--- ---- a step of the clerk's desk, about the request itself and about another
-pub clerk-own :
-    {j : Words} {w : World} {n : R.Net} → Sim j w n → (rest : List Message) (left : List R.Msg) →
-    messagesOf j rest ≡ map (messageRead j) left → AllClear j left →
-    (step : ClerkStepped.Stepped) (history : History) (reading : R.Clerk → R.CAnswer) → ClerkStep (w .clerk .words) step j reading →
-    AllClear j (reading (n .clerk) .1) → (t : Bool) → Noted history (w .history) j t false →
-    Sim j (clerkStepped w rest step history) (R.afterClerk n left t (reading (n .clerk)))
-clerk-own {j} {w} {n} sim rest left e c step history reading s clear t h =
+-- ---- the net of the request that a step is about
+-- after a step of the clerk's desk
+abbrev clerkNet : R.Net → List R.Msg → Bool → Bool → R.CAnswer → R.Net
+clerkNet n left u t answer =
     record {
-      clerk = s .itself (n .clerk) (sim .clerk);
+      clerk = answer .0;
+      up = n .up ++ answer .1;
+      line = n .line;
+      down = left;
+      used = R.or u (n .used);
+      accepted = n .accepted;
+      timedOut = R.or t (n .timedOut);
+      guarded = n .guarded;
+      dropped = n .dropped;
+    }
+
+pub clerk-own :
+    {j : Words} {w : World} {n : R.Net} → Sim j w n → {rest : List Message} {left : List R.Msg} → messagesOf j rest ≡ map (messageRead j) left → AllClear j left →
+    {step : ClerkStepped.Stepped} {history : History} {answer : R.CAnswer} → ClerkStep step j answer → AllClear j (answer .1) →
+    {u t : Bool} → Noted history (w .history) j u t false false → (R.or u (n .used) ≡ true → Kept j) →
+    Sim j (clerkStepped w rest step history) (clerkNet n left u t answer)
+clerk-own {j} {w} {n} sim e c {step} {answer = answer} s clear {u} {t} h kept =
+    record {
+      clerk = s .itself;
       active = sim .active;
       line = sim .line;
-      up = wire-own j (w .up) (sentBy (step .outcome .sending)) (n .up) (reading (n .clerk) .1) (sim .up) (s .sends (n .clerk) (sim .clerk)) clear;
+      up = wire-own j (w .up) (sentBy (step .outcome .sending)) (n .up) (answer .1) (sim .up) (s .sends) clear;
       down = e;
       upClear = clear-append (sim .upClear) clear;
       downClear = c;
-      kept = sim .kept;
-      used = h .takenUp ∙ sim .used;
+      kept = kept;
+      used = h .takenUp ∙ ap (R.or u) (sim .used);
       timedOut = h .runOut ∙ ap (R.or t) (sim .timedOut);
       guarded = h .guarded ∙ sim .guarded;
       dropped = h .dropped ∙ sim .dropped;
     }
 
-pub clerk-other :
-    {j k : Words} {w : World} {n m : R.Net} → Sim j w n → Sim k w m → (k ≡ j → ⊥) → (rest : List Message) →
-    messagesOf j rest ≡ messagesOf j (w .down) →
-    (step : ClerkStepped.Stepped) (history : History) (reading : R.Clerk → R.CAnswer) → ClerkStep (w .clerk .words) step k reading →
-    AllClear k (reading (m .clerk) .1) → Noted history (w .history) j false false → Sim j (clerkStepped w rest step history) n
-clerk-other {j} {k} {w} {n} {m} sim its d rest e step history reading s clear h =
-    record {
-      clerk = s .others j d ∙ sim .clerk;
-      active = sim .active;
-      line = sim .line;
-      up = wire-other j k (w .up) (sentBy (step .outcome .sending)) (reading (m .clerk) .1) (s .sends (m .clerk) (its .clerk)) clear d ∙ sim .up;
-      down = e ∙ sim .down;
-      upClear = sim .upClear;
-      downClear = sim .downClear;
-      kept = sim .kept;
-      used = h .takenUp ∙ sim .used;
-      timedOut = h .runOut ∙ sim .timedOut;
-      guarded = h .guarded ∙ sim .guarded;
-      dropped = h .dropped ∙ sim .dropped;
-    }
-
--- ---- a step of the line desk, about the request itself and about another
+-- after a step of the line desk
 pub line-own :
-    {j : Words} {w : World} {n : R.Net} → Sim j w n → (rest : List Message) (left : List R.Msg) →
-    messagesOf j rest ≡ map (messageRead j) left → AllClear j left →
-    (step : LineStepped.Stepped) (history : History) (reading : R.Line → R.LAnswer) → LineStep (w .line .words) step j reading →
-    AllClear j (reading (n .line) .1) → (g : Bool) → Noted history (w .history) j false g →
-    Sim j (lineStepped w rest step history) (R.afterLine n left g (reading (n .line)))
-line-own {j} {w} {n} sim rest left e c step history reading s clear g h =
+    {j : Words} {w : World} {n : R.Net} → Sim j w n → {rest : List Message} {left : List R.Msg} → messagesOf j rest ≡ map (messageRead j) left → AllClear j left →
+    {step : LineStepped.Stepped} {history : History} {answer : R.LAnswer} → LineStep step j answer → AllClear j (answer .1) →
+    {g : Bool} → Noted history (w .history) j false false g false → Sim j (lineStepped w rest step history) (R.afterLine n left g answer)
+line-own {j} {w} {n} sim e c {step} {answer = answer} s clear {g} h =
     record {
       clerk = sim .clerk;
-      active = s .itself (n .line) (sim .active) (sim .line) .0;
-      line = s .itself (n .line) (sim .active) (sim .line) .1;
+      active = s .active;
+      line = s .itself;
       up = e;
-      down = wire-own j (w .down) (sentBy (step .outcome .sending)) (n .down) (reading (n .line) .1) (sim .down)
-          (s .sends (n .line) (sim .active) (sim .line)) clear;
+      down = wire-own j (w .down) (sentBy (step .outcome .sending)) (n .down) (answer .1) (sim .down) (s .sends) clear;
       upClear = c;
       downClear = clear-append (sim .downClear) clear;
       kept = sim .kept;
@@ -150,23 +209,25 @@ line-own {j} {w} {n} sim rest left e c step history reading s clear g h =
       dropped = h .dropped ∙ sim .dropped;
     }
 
-pub line-other :
-    {j k : Words} {w : World} {n m : R.Net} → Sim j w n → Sim k w m → (k ≡ j → ⊥) → (rest : List Message) →
-    messagesOf j rest ≡ messagesOf j (w .up) →
-    (step : LineStepped.Stepped) (history : History) (reading : R.Line → R.LAnswer) → LineStep (w .line .words) step k reading →
-    AllClear k (reading (m .line) .1) → Noted history (w .history) j false false → Sim j (lineStepped w rest step history) n
-line-other {j} {k} {w} {n} {m} sim its d rest e step history reading s clear h =
+-- after a drop, by what is left of the wires
+abbrev pub lossy : World → List Message → List Message → Words → World
+lossy w up down k = record { clerk = w .clerk; up = up; line = w .line; down = down; history = withDropped (w .history) k }
+
+pub lost-own :
+    {j : Words} {w : World} {n : R.Net} → Sim j w n → {up down : List Message} {u d : List R.Msg} → messagesOf j up ≡ map (messageRead j) u → AllClear j u →
+    messagesOf j down ≡ map (messageRead j) d → AllClear j d → Sim j (lossy w up down j) (R.lost n u d)
+lost-own {j} {w} sim e c f b =
     record {
       clerk = sim .clerk;
       active = sim .active;
-      line = s .others j d ∙ sim .line;
-      up = e ∙ sim .up;
-      down = wire-other j k (w .down) (sentBy (step .outcome .sending)) (reading (m .line) .1) (s .sends (m .line) (its .active) (its .line)) clear d ∙ sim .down;
-      upClear = sim .upClear;
-      downClear = sim .downClear;
+      line = sim .line;
+      up = e;
+      down = f;
+      upClear = c;
+      downClear = b;
       kept = sim .kept;
-      used = h .takenUp ∙ sim .used;
-      timedOut = h .runOut ∙ sim .timedOut;
-      guarded = h .guarded ∙ sim .guarded;
-      dropped = h .dropped ∙ sim .dropped;
+      used = sim .used;
+      timedOut = sim .timedOut;
+      guarded = sim .guarded;
+      dropped = has-own true j (w .history .dropped);
     }

@@ -4,6 +4,7 @@ use mathlib.Core.Path.{_≡_, refl, sym, _∙_, ap}
 use mathlib.Core.Bool.{Bool, true, false}
 use mathlib.Core.Logic.{_⊎_, inl, inr}
 use mathlib.Core.List.{List, [], _∷_, _++_, map}
+use native.Mathlib.Omega.{arith}
 use Rattle.lists.specs.Words.{sameWords}
 use Rattle.lists.specs.declared.words.Words.{Words}
 use Rattle.lists.proofs.WordsLaws.{same-words-true, same-words-false, words-same, words-differ}
@@ -66,6 +67,38 @@ unfolding messagesOf
 messages-other j other [] no-message d = refl
 messages-other j other (m ∷ ms) (one-more c h) d =
     messages-miss other (messageRead j m) (map (messageRead j) ms) (λ e. d (sym (sent-name j m (clear-kept j m c)) ∙ e)) ∙ messages-other j other ms h d
+
+-- ---- the head of a wire is the head of its request's net
+pub record Headed (j : Words) (m : Message) (rest : List Message) (ms : List Msg) : Type 0 where
+  pub code : Msg
+  pub left : List Msg
+  pub whole : ms ≡ code ∷ left
+  pub same : m ≡ messageRead j code
+  pub tail : messagesOf j rest ≡ map (messageRead j) left
+  pub clear : Clear j code
+  pub others : AllClear j left
+
+abbrev first : {A : Type 0} → A → List A → A
+first a [] = a
+first a (x ∷ xs) = x
+
+abbrev later : {A : Type 0} → List A → List A
+later [] = []
+later (x ∷ xs) = xs
+
+headed : (j : Words) (m : Message) (rest : List Message) (ms : List Msg) → AllClear j ms → m ∷ messagesOf j rest ≡ map (messageRead j) ms → Headed j m rest ms
+headed j m rest [] no-message e = let z : _≡_ {A = ℕ} 0 1 = cc in absurd (omega (arith, z))
+headed j m rest (c ∷ cs) (one-more h k) e =
+    record { code = c; left = cs; whole = refl; same = ap (first m) e; tail = ap later e; clear = h; others = k }
+
+pub head-own :
+    {j : Words} {m : Message} {rest wire : List Message} {ms : List Msg} → wire ≡ m ∷ rest → nameOf m ≡ j → AllClear j ms →
+    messagesOf j wire ≡ map (messageRead j) ms → Headed j m rest ms
+head-own {j} {m} {rest} {wire} {ms} e name c h = headed j m rest ms c (sym (messages-hit j m rest name) ∙ ap (messagesOf j) (sym e) ∙ h)
+
+-- and the messages of every other request are behind it
+pub head-other : {j k : Words} {m : Message} {rest wire : List Message} → wire ≡ m ∷ rest → nameOf m ≡ k → (k ≡ j → ⊥) → messagesOf j rest ≡ messagesOf j wire
+head-other {j} {k} {m} {rest} {wire} e name d = sym (messages-miss j m rest (λ q. d (sym name ∙ q))) ∙ ap (messagesOf j) (sym e)
 
 -- a wire on which every message is as some desk sent it
 pub data Worded : List Message → Type 0 where

@@ -170,7 +170,7 @@ next w dropsUp = upDropped w (w .up)
 next w dropsDown = downDropped w (w .down)
 
 -- ---- runs
--- a message comes by the wire alone; every other input is one that the entry makes of what a host gives; every identifier is taken up by at most one ask that is not refused
+-- a message comes by the wire alone; an ask is one that the entry makes of what a host gives, and every identifier is taken up by at most one ask that is not refused
 abbrev pub ClerkAllowed : World → ClerkInput.Input → Type 0
 ClerkAllowed w (AtClerk.Ask names q) =
     ClerkSound.Fair (AtClerk.Ask names q)

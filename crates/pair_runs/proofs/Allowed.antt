@@ -1,61 +1,89 @@
--- A run from a list of events, by tests that compute: each ask has its sixteen bytes, and no identifier is taken up twice.
-use Prim.Native.Nat.{ℕ, zero, suc}
+-- A run from a list of events, by tests that compute: each ask is one that the entry makes, and no identifier is taken up twice.
+use Prim.Native.Nat.{ℕ, zero, suc, _/_}
 use mathlib.Core.Path.{_≡_, refl}
 use mathlib.Core.Bool.{Bool, true, false, not, false≢true}
 use mathlib.Core.List.{List, [], _∷_}
-use lib.Dec.{T, ltb, eqb, ltb→lt, eqb→eq, lit<}
-use lib.ListN.{length}
+use lib.Dec.{ltb, lit<}
+use borrow.Author.Tests.{ltb-true}
 use Rattle.lists.specs.Choice.{pick}
 use Rattle.lists.specs.Lists.{both}
-use Rattle.lists.specs.Words.{Bytes, wordsOf}
+use Rattle.lists.specs.Words.{Bytes, bytesOf, sameWords}
 use Rattle.lists.proofs.Lists.{both-parts}
+use Rattle.lists.proofs.WordsLaws.{same-words-true, length-bytesOf, bytes-bytesOf}
+use Rattle.message.specs.Format.{inRange}
+use Rattle.terms.specs.Request.{canKeepSent}
+use Rattle.terms.specs.declared.request.Names.{Names}
+use Rattle.terms.specs.declared.request.Request.{Request}
+use Rattle.clerk_table.specs.declared.inputs.Input.the-variants as AtClerk
+use Rattle.clerk.specs.Entry.{askMessage, askNames, askEntry}
 use Rattle.clerk.specs.Steps as Clerk
-use Rattle.clerk.specs.declared.steps.Asking.{Asking}
-use Rattle.pair.specs.World.{World, Event, asks, clerkActs, clerkReports, clerkHears, lineHears, lineReports, lineLooks, lineActs, guardReports, dropsUp, dropsDown, has, taken, next, Typed, Allowed, Run, stop, then, reached}
+use Rattle.clerk.specs.declared.entry.Asking.{Asking}
+use Rattle.clerk.specs.declared.entry.Entry.the-variants.{Given}
+use Rattle.clerk_sound.specs.Sound as ClerkSound
+use Rattle.line_table.specs.declared.inputs.Input.the-variants as AtLine
+use Rattle.pair.specs.World.{World, Event, clerkDoes, lineDoes, clerkHears, lineHears, dropsUp, dropsDown, has, done, next, Allowed, Run, stop, then, reached}
+use Rattle.pair.proofs.Letters.{flags-sent}
 use Rattle.pair_runs.specs.Runs.{play, Row, oneLine, start, EachReached}
 
--- ---- sixteen bytes
+-- ---- the bytes of the line that is given
 abbrev pub allBytes : List ℕ → Bool
 allBytes [] = true
 allBytes (x ∷ xs) = both (ltb x 256) (allBytes xs)
 
-abbrev pub sixteenBytes : List ℕ → Bool
-sixteenBytes xs = both (eqb (length xs) 16) (allBytes xs)
-
-pub so : (b : Bool) → b ≡ true → T b
-so true e = tt
-so false e = absurd (false≢true e)
-
 pub bytes-told : (xs : List ℕ) → allBytes xs ≡ true → Bytes xs
 bytes-told [] e i = lit< tt
-bytes-told (x ∷ xs) e zero = ltb→lt x 256 (so (ltb x 256) (both-parts (ltb x 256) (allBytes xs) e .0))
+bytes-told (x ∷ xs) e zero = ltb-true x 256 (both-parts (ltb x 256) (allBytes xs) e .0)
 bytes-told (x ∷ xs) e (suc i) = bytes-told xs (both-parts (ltb x 256) (allBytes xs) e .1) i
 
-pub sixteen-told : (xs : List ℕ) → sixteenBytes xs ≡ true → (length xs ≡ 16) × Bytes xs
-sixteen-told xs e =
-    let parts = both-parts (eqb (length xs) 16) (allBytes xs) e in
-    (eqb→eq (length xs) 16 (so (eqb (length xs) 16) (parts .0)), bytes-told xs (parts .1))
-
--- ---- what is allowed
-abbrev pub typed : Asking → Bool
-typed a = both (sixteenBytes (a .identifier)) (both (sixteenBytes (a .numberA)) (sixteenBytes (a .numberB)))
-
-pub typed-told : (a : Asking) → typed a ≡ true → Typed a
-typed-told a e =
-    let parts = both-parts (sixteenBytes (a .identifier)) (both (sixteenBytes (a .numberA)) (sixteenBytes (a .numberB))) e in
-    let others = both-parts (sixteenBytes (a .numberA)) (sixteenBytes (a .numberB)) (parts .1) in
-    let identifier = sixteen-told (a .identifier) (parts .0) in
-    let numberA = sixteen-told (a .numberA) (others .0) in
-    let numberB = sixteen-told (a .numberB) (others .1) in
+-- ---- an ask: the one that a host would give
+abbrev asking : Names → Request → Asking
+asking names q =
     record {
-      numbers = record { lengthA = numberA .0; bytesA = numberA .1; lengthB = numberB .0; bytesB = numberB .1 };
-      identifier = identifier .1;
-      whole = identifier .0;
+      identifier = bytesOf (names .identifier);
+      kind = q .kind;
+      numberA = bytesOf (names .numberA);
+      numberB = bytesOf (names .numberB);
+      service = q .service;
+      canKeep = canKeepSent (q .flags);
+      preference = q .flags / 2;
     }
 
--- an ask that is taken takes up an identifier that was not taken up before
-abbrev pub once : World → Asking → Bool
-once w a = pick (taken (Clerk.asked (w .clerk) a .outcome)) (not (has (w .history .takenUp) (wordsOf (a .identifier)))) true
+asking-typed : (names : Names) (q : Request) → ClerkSound.Typed (asking names q)
+asking-typed names q =
+    record {
+      lengthIdentifier = length-bytesOf (names .identifier);
+      bytesIdentifier = bytes-bytesOf (names .identifier);
+      lengthA = length-bytesOf (names .numberA);
+      bytesA = bytes-bytesOf (names .numberA);
+      lengthB = length-bytesOf (names .numberB);
+      bytesB = bytes-bytesOf (names .numberB);
+    }
+
+-- it names what is asked for
+abbrev sameNames : Names → Names → Bool
+sameNames a b = both (sameWords (a .identifier) (b .identifier)) (both (sameWords (a .numberA) (b .numberA)) (sameWords (a .numberB) (b .numberB)))
+
+same-names-told : (a b : Names) → sameNames a b ≡ true → a ≡ b
+same-names-told a b e =
+    let i = both-parts (sameWords (a .identifier) (b .identifier)) (both (sameWords (a .numberA) (b .numberA)) (sameWords (a .numberB) (b .numberB))) e in
+    let n = both-parts (sameWords (a .numberA) (b .numberA)) (sameWords (a .numberB) (b .numberB)) (i .1) in
+    rw (same-words-true (a .identifier) (b .identifier) (i .0), same-words-true (a .numberA) (b .numberA) (n .0), same-words-true (a .numberB) (b .numberB) (n .1))
+
+abbrev fair : Names → Request → Bool
+fair names q = both (ltb (q .flags / 2) 3) (both (inRange (askMessage (asking names q))) (sameNames (askNames (asking names q)) names))
+
+fair-told : (names : Names) (q : Request) → fair names q ≡ true → ClerkSound.Fair (AtClerk.Ask names q)
+unfolding askEntry
+fair-told names q e =
+    let a = asking names q in
+    let p = both-parts (ltb (q .flags / 2) 3) (both (inRange (askMessage a)) (sameNames (askNames a) names)) e in
+    let r = both-parts (inRange (askMessage a)) (sameNames (askNames a) names) (p .1) in
+    let entry : askEntry a ≡ Given (AtClerk.Ask names q) = rw (p .0, r .0, same-names-told (askNames a) names (r .1), flags-sent (q .flags)) in
+    ClerkSound.asks a (asking-typed names q) entry
+
+-- an ask that is not refused takes up an identifier that was not taken up before
+abbrev pub once : World → Names → Request → Bool
+once w names q = pick (done (Clerk.step (w .clerk) (AtClerk.Ask names q) .outcome)) (not (has (w .history .takenUp) (names .identifier))) true
 
 pub once-told : (take had : Bool) → pick take (not had) true ≡ true → take ≡ true → had ≡ false
 once-told true true e t = absurd (false≢true e)
@@ -63,31 +91,38 @@ once-told true false e t = refl
 once-told false true e t = absurd (false≢true t)
 once-told false false e t = refl
 
+-- ---- what is allowed
 abbrev pub allowed : World → Event → Bool
-allowed w (asks a) = both (typed a) (once w a)
-allowed w (clerkActs identifier act) = true
-allowed w (clerkReports identifier timer) = true
+allowed w (clerkDoes (AtClerk.Ask names q)) = both (fair names q) (once w names q)
+allowed w (clerkDoes (AtClerk.Message l busy)) = false
+allowed w (clerkDoes (AtClerk.Act identifier act)) = true
+allowed w (clerkDoes (AtClerk.Timer identifier timer)) = true
+allowed w (lineDoes (AtLine.Message l)) = false
+allowed w (lineDoes (AtLine.Act identifier act)) = true
+allowed w (lineDoes (AtLine.Guard identifier)) = true
+allowed w (lineDoes (AtLine.Report number busy)) = true
+allowed w (lineDoes (AtLine.Look number)) = true
 allowed w (clerkHears busy) = true
 allowed w lineHears = true
-allowed w (lineReports digits busy) = true
-allowed w (lineLooks digits) = true
-allowed w (lineActs identifier act) = true
-allowed w (guardReports identifier) = true
 allowed w dropsUp = true
 allowed w dropsDown = true
 
 pub allowed-told : (w : World) (e : Event) → allowed w e ≡ true → Allowed w e
-allowed-told w (asks a) so =
-    let parts = both-parts (typed a) (once w a) so in
-    (typed-told a (parts .0), once-told (taken (Clerk.asked (w .clerk) a .outcome)) (has (w .history .takenUp) (wordsOf (a .identifier))) (parts .1))
-allowed-told w (clerkActs identifier act) so = tt
-allowed-told w (clerkReports identifier timer) so = tt
+allowed-told w (clerkDoes (AtClerk.Ask names q)) so =
+    let parts = both-parts (fair names q) (once w names q) so in (
+      fair-told names q (parts .0),
+      once-told (done (Clerk.step (w .clerk) (AtClerk.Ask names q) .outcome)) (has (w .history .takenUp) (names .identifier)) (parts .1),
+    )
+allowed-told w (clerkDoes (AtClerk.Message l busy)) so = false≢true so
+allowed-told w (clerkDoes (AtClerk.Act identifier act)) so = tt
+allowed-told w (clerkDoes (AtClerk.Timer identifier timer)) so = tt
+allowed-told w (lineDoes (AtLine.Message l)) so = false≢true so
+allowed-told w (lineDoes (AtLine.Act identifier act)) so = tt
+allowed-told w (lineDoes (AtLine.Guard identifier)) so = tt
+allowed-told w (lineDoes (AtLine.Report number busy)) so = tt
+allowed-told w (lineDoes (AtLine.Look number)) so = tt
 allowed-told w (clerkHears busy) so = tt
 allowed-told w lineHears so = tt
-allowed-told w (lineReports digits busy) so = tt
-allowed-told w (lineLooks digits) so = tt
-allowed-told w (lineActs identifier act) so = tt
-allowed-told w (guardReports identifier) so = tt
 allowed-told w dropsUp so = tt
 allowed-told w dropsDown so = tt
 

@@ -6,10 +6,11 @@ use Rattle.lists.specs.Lists.{firstFrom, count}
 use Rattle.lists.specs.Words.{word, octets, wordsOf, bytesOf, sameWords}
 use Rattle.message.specs.Number.{numberAt, fieldAt, scanAt, digitsAt, digitsInRange}
 use Rattle.message.specs.Format.{inRange}
-use Rattle.store.specs.Rows.{rows, putRow, dropRow}
+use Rattle.store.specs.Rows.{rows, putRow, dropRow, rowsFit, removedRow}
 use Rattle.desk.specs.Letter.{numberWords, letterOf, messageOf}
 use Rattle.desk.specs.Carriers.{carrierFits}
 use Rattle.terms.specs.Codes.{kindOf, keepOf, connectionOf}
+use Rattle.terms.specs.Terms.{termsOf}
 use Rattle.desk.specs.declared.Connection.{Connection}
 use Rattle.desk.specs.declared.Connection.the-variants.{Empty, Ret, Rls}
 use Rattle.places.specs.Places.{Held, none, one, held}
@@ -17,14 +18,17 @@ use Rattle.clerk_table.specs.Step as ClerkStep
 use Rattle.clerk_records.specs.Codes as ClerkCodes
 use Rattle.clerk_records.specs.Records as ClerkRecords
 use Rattle.clerk_plan.specs.Plan as ClerkPlan
+use Rattle.clerk.specs.Entry as ClerkEntry
 use Rattle.clerk.specs.Steps as Clerk
 use Rattle.line_table.specs.Step as LineStep
 use Rattle.line_records.specs.Codes as LineCodes
 use Rattle.line_records.specs.Records as LineRecords
 use Rattle.line_records.specs.Lines as Lines
 use Rattle.line_records.specs.Change as Change
+use Rattle.line_plan.specs.Decide as Decide
 use Rattle.line_plan.specs.Plan as LinePlan
 use Rattle.line.specs.Start as Start
+use Rattle.line.specs.Entry as LineEntry
 use Rattle.line.specs.Steps as Line
 use Rattle.pair.specs.World.{World, Event, clerkHolds, lineHolds, Reached, reached, stop, messagesOf, has, clerkHeard, lineHeard, upDropped, downDropped, next}
 use Rattle.pair_runs.specs.Runs.{Shown, TableReached, Premises, play, seen, table, first, oneLine, start, stored, acknowledged, over}
@@ -32,7 +36,7 @@ use Rattle.pair_runs.proofs.Allowed.{bytes-told, runs, run-told, allRun
 
 -- all that a run computes with: who names this unfolds every definition on its line
 unfoldable all : Bool
-unfolding firstFrom count word octets wordsOf bytesOf sameWords numberAt fieldAt scanAt digitsAt digitsInRange inRange rows putRow dropRow numberWords letterOf messageOf carrierFits kindOf keepOf connectionOf held ClerkStep.taken ClerkCodes.stateOf ClerkRecords.recordOf ClerkRecords.records ClerkRecords.meant ClerkRecords.place ClerkRecords.applied ClerkPlan.messagePlan ClerkPlan.ownPlan ClerkPlan.askPlan Clerk.asked Clerk.received Clerk.acted Clerk.reported LineStep.taken LineCodes.stateOf LineRecords.recordOf LineRecords.records LineRecords.meant LineRecords.place LineRecords.putRecord LineRecords.removed Lines.lineOf Lines.lines Lines.lineAt Lines.overLine Lines.putLine Lines.keeps Lines.retains Lines.withSettings Change.markPlace Change.marked Change.statusStored Change.reported Change.applied LinePlan.takesCall LinePlan.inputPlan LinePlan.countedPlan LinePlan.admittedPlan LinePlan.requestPlan LinePlan.messagePlan LinePlan.ownPlan LinePlan.offerAt LinePlan.lookPlan LinePlan.reportPlan Start.goodLine Start.lineTaken Start.takeLines Start.started Line.received Line.lineReported Line.looked Line.acted Line.guardReported messagesOf has clerkHeard lineHeard upDropped downDropped next
+unfolding firstFrom count word octets wordsOf bytesOf sameWords numberAt fieldAt scanAt digitsAt digitsInRange inRange rows putRow dropRow rowsFit removedRow numberWords letterOf messageOf carrierFits kindOf keepOf connectionOf termsOf held ClerkStep.rowTaken ClerkCodes.stateOf ClerkRecords.recordOf ClerkRecords.records ClerkRecords.meant ClerkRecords.place ClerkRecords.applied ClerkPlan.decided ClerkPlan.planOf ClerkPlan.planFor ClerkEntry.messageEntry Clerk.step LineStep.rowTaken LineCodes.stateOf LineRecords.recordOf LineRecords.records LineRecords.meant LineRecords.place LineRecords.putRecord LineRecords.removed Lines.lineOf Lines.lines Lines.lineAt Lines.overLine Lines.putLine Lines.keeps Lines.retains Lines.withSettings Change.markPlace Change.marked Change.statusStored Change.withReport Change.applied Decide.takesCall Decide.recordDecision Decide.countedDecision Decide.admittedDecision Decide.requestDecision Decide.messageDecision Decide.ownDecision Decide.offerAt Decide.lookDecision Decide.reportDecision Decide.decided LinePlan.planOf LinePlan.planFor Start.goodLine Start.lineTaken Start.takeLines Start.started LineEntry.messageEntry Line.step Line.entered messagesOf has clerkHeard lineHeard upDropped downDropped next
 all = true
 
 pub shown : Shown

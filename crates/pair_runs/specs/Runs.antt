@@ -8,17 +8,24 @@ use Rattle.lists.specs.Words.{wordsOf}
 use Rattle.lists.specs.declared.words.Words.{Words}
 use Rattle.message.specs.declared.Kind.the-variants.{Ccbs}
 use Rattle.terms.specs.Codes.{keepCode, flagCode}
+use Rattle.desk.specs.Letter.{numberWords}
 use Rattle.desk.specs.declared.Connection.the-variants.{Empty}
 use Rattle.places.specs.Places.{Held, none, one}
+use Rattle.clerk_table.specs.declared.inputs.Act as ClerkAct
 use Rattle.clerk_table.specs.declared.inputs.Act.the-variants as User
+use Rattle.clerk_table.specs.declared.inputs.Input.the-variants as AtClerk
 use Rattle.clerk_table.specs.declared.record.Record as ClerkRecord
+use Rattle.clerk_table.specs.declared.table.Timer.{Timer}
 use Rattle.clerk_table.specs.declared.table.Timer.the-variants.{T2}
 use Rattle.clerk_records.specs.Codes as ClerkCodes
-use Rattle.clerk.specs.declared.steps.Asking.{Asking}
+use Rattle.clerk.specs.Entry.{askNames, askRequest}
+use Rattle.clerk.specs.declared.entry.Asking.{Asking}
+use Rattle.line_table.specs.declared.inputs.Act as LineAct
 use Rattle.line_table.specs.declared.inputs.Act.the-variants as Far
+use Rattle.line_table.specs.declared.inputs.Input.the-variants as AtLine
 use Rattle.line_table.specs.declared.record.Record as LineRecord
 use Rattle.line_records.specs.Codes as LineCodes
-use Rattle.pair.specs.World.{World, Event, asks, clerkActs, clerkReports, clerkHears, lineHears, lineReports, lineLooks, lineActs, guardReports, dropsUp, dropsDown, clerkHolds, lineHolds, messagesOf, has, next, startWorld, Reached}
+use Rattle.pair.specs.World.{World, Event, clerkDoes, lineDoes, clerkHears, lineHears, dropsUp, dropsDown, clerkHolds, lineHolds, messagesOf, has, next, startWorld, Reached}
 use Rattle.pair.specs.Claims.{Acknowledged, NoRequest}
 
 -- events one after the other
@@ -71,8 +78,8 @@ seen w identifier =
     (told (λ (c : ClerkRecord.Record). ClerkCodes.stateCode (c .state)) (clerkHolds w identifier))
     (told (λ (l : LineRecord.Record). LineCodes.stateCode (l .state)) (lineHolds w identifier))
     (told (λ (l : LineRecord.Record). flagCode (l .suspended)) (lineHolds w identifier))
-    (told (λ (c : ClerkRecord.Record). keepCode (c .keep)) (clerkHolds w identifier))
-    (told (λ (l : LineRecord.Record). keepCode (l .keep)) (lineHolds w identifier))
+    (told (λ (c : ClerkRecord.Record). keepCode (c .terms .keep)) (clerkHolds w identifier))
+    (told (λ (l : LineRecord.Record). keepCode (l .terms .keep)) (lineHolds w identifier))
     (length (messagesOf identifier (w .up)))
     (length (messagesOf identifier (w .down)))
     (flagCode (has (w .history .dropped) identifier))
@@ -107,6 +114,28 @@ oneLine = numberB ++ (3 ∷ [])
 abbrev pub start : Bool → World
 start retain = startWorld oneLine true retain
 
+-- what a host puts in at each end, as the entry makes it of these bytes; the line is always the one
+abbrev asks : Asking → Event
+asks a = clerkDoes (AtClerk.Ask (askNames a) (askRequest a))
+
+abbrev clerkActs : List ℕ → ClerkAct.Act → Event
+clerkActs identifier act = clerkDoes (AtClerk.Act (wordsOf identifier) act)
+
+abbrev clerkReports : List ℕ → Timer → Event
+clerkReports identifier timer = clerkDoes (AtClerk.Timer (wordsOf identifier) timer)
+
+abbrev lineActs : List ℕ → LineAct.Act → Event
+lineActs identifier act = lineDoes (AtLine.Act (wordsOf identifier) act)
+
+abbrev guardReports : List ℕ → Event
+guardReports identifier = lineDoes (AtLine.Guard (wordsOf identifier))
+
+abbrev lineReports : Bool → Event
+lineReports busy = lineDoes (AtLine.Report (numberWords numberB) busy)
+
+abbrev lineLooks : Event
+lineLooks = lineDoes (AtLine.Look (numberWords numberB))
+
 -- ---- the runs, each from the start
 -- the request is heard and stored; its result is still under way
 abbrev pub stored : List Event
@@ -118,10 +147,10 @@ acknowledged = stored ++ (clerkHears false ∷ [])
 
 -- a Look, and ccExecPossible is heard: User A is not busy, or busy and ccSuspend is heard
 abbrev recalled : List Event
-recalled = lineLooks numberB ∷ clerkHears false ∷ []
+recalled = lineLooks ∷ clerkHears false ∷ []
 
 abbrev suspends : List Event
-suspends = lineLooks numberB ∷ clerkHears true ∷ lineHears ∷ []
+suspends = lineLooks ∷ clerkHears true ∷ lineHears ∷ []
 
 -- accept, and ccRingout is heard
 abbrev ringsOut : List Event
@@ -140,11 +169,11 @@ denied = acknowledged ++ (asks (askFor second) ∷ lineHears ∷ clerkHears fals
 
 -- a cancel while ccExecPossible is under way
 abbrev crossed : List Event
-crossed = acknowledged ++ (lineLooks numberB ∷ clerkActs first User.Cancel ∷ [])
+crossed = acknowledged ++ (lineLooks ∷ clerkActs first User.Cancel ∷ [])
 
 -- accept, but the line is busy again when ccRingout is heard
 abbrev busyAgain : List Event
-busyAgain = acknowledged ++ (recalled ++ (clerkActs first User.Accept ∷ lineReports numberB true ∷ lineHears ∷ []))
+busyAgain = acknowledged ++ (recalled ++ (clerkActs first User.Accept ∷ lineReports true ∷ lineHears ∷ []))
 
 -- its error is heard
 abbrev kept : List Event
@@ -203,7 +232,7 @@ table =
     -- kept at both ends
     row kept first (sees 2 1 0 2 2 0 0 0 0 0) ∷
     -- then the line is free, a Look offers it again, and it is completed
-    row (kept ++ (lineReports numberB false ∷ (recalled ++ (ringsOut ++ completes)))) first (sees 0 0 0 0 0 0 0 0 0 0) ∷
+    row (kept ++ (lineReports false ∷ (recalled ++ (ringsOut ++ completes)))) first (sees 0 0 0 0 0 0 0 0 0 0) ∷
     -- a T2 report is taken, its ccCancel is dropped: the line's end still holds the request
     row runOut first (sees 0 1 0 0 2 0 0 1 1 0) ∷
     -- a guard report is taken and its ccCancel dropped: nobody holds it
@@ -214,7 +243,7 @@ table =
 abbrev pub Shown : Type 0
 Shown = (retain : Bool) → map (λ (r : Row). seen (ends retain r) (wordsOf (r .identifier))) table ≡ map (λ (r : Row). r .said) table
 
--- every row ends in a world of a run: each ask has its sixteen bytes, and no identifier is taken up twice
+-- every row ends in a world of a run: each ask is one that the entry makes, and no identifier is taken up twice
 abbrev pub EachReached : Bool → List Row → Type 0
 EachReached retain [] = Unit
 EachReached retain (r ∷ rs) = Reached (ends retain r) × EachReached retain rs
@@ -246,5 +275,5 @@ pub record RunOut : Type 0 where
 
 pub record Premises : Type 0 where
   pub acknowledged : BothHold Acknowledged
-  pub before : BothHold (λ (c : ClerkRecord.Record). c .connection ≡ Empty)
+  pub before : BothHold (λ (c : ClerkRecord.Record). c .terms .connection ≡ Empty)
   pub over : RunOut

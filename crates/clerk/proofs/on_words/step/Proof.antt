@@ -1,4 +1,5 @@
 -- By the entry.
+use Rattle.clerk.specs.Steps.{entered}
 use borrow.Author.Needs.{needs}
 use Rattle.clerk.proofs.on_words.step.Statement.{statement}
 use Rattle.clerk.proofs.on_words.step.Tie as tie
@@ -16,9 +17,11 @@ step-input-requires : tie.Need-step-input-requires
 step-input-requires c κs = search needs
 
 returns : tie.Need-returns
+unfolding entered
 returns c = rw (c .before .before .entry .given .1, c .refused .ensures)
 
 returns-2 : tie.Need-returns-2
+unfolding entered
 returns-2 c = rw (c .before .before .before .entry2 .given .1) (c .step-input .ensures)
 
 pub step-spec : {M : Type 1} → statement M
