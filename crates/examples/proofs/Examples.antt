@@ -8,22 +8,26 @@ use Rattle.lists.specs.Words.{word, wordsOf, sameWords}
 use Rattle.message.specs.Number.{numberAt, fieldAt, scanAt, digitsAt, digitsInRange}
 use Rattle.message.specs.Format.{inRange}
 use Rattle.message.specs.Wire.{messageAt}
-use Rattle.store.specs.Rows.{rows, putRow, dropRow}
+use Rattle.store.specs.Rows.{rows, putRow, dropRow, rowsFit, removedRow}
 use Rattle.desk.specs.Carriers.{carrierFits}
-use Rattle.terms.specs.Codes.{kindOf, keepOf, connectionOf}
 use Rattle.desk.specs.Letter.{numberWords, letterOf}
+use Rattle.terms.specs.Codes.{kindOf, keepOf, connectionOf}
+use Rattle.terms.specs.Terms.{termsOf}
 use Rattle.clerk_table.specs.Step as ClerkStep
 use Rattle.clerk_records.specs.Codes as ClerkCodes
 use Rattle.clerk_records.specs.Records as ClerkRecords
 use Rattle.clerk_plan.specs.Plan as ClerkPlan
+use Rattle.clerk.specs.Entry as ClerkEntry
 use Rattle.clerk.specs.Steps as Clerk
 use Rattle.line_table.specs.Step as LineStep
 use Rattle.line_records.specs.Codes as LineCodes
 use Rattle.line_records.specs.Records as LineRecords
-use Rattle.line_records.specs.Lines.{lineOf, lines, lineAt, overLine, putLine, keeps, retains, withSettings}
-use Rattle.line_records.specs.Change.{markPlace, marked, statusStored, reported, applied}
-use Rattle.line_plan.specs.Plan.{countedPlan, admittedPlan, requestPlan, messagePlan, offerAt, lookPlan, reportPlan}
-use Rattle.line.specs.Start.{goodLine, lineTaken, takeLines, started}
+use Rattle.line_records.specs.Lines as Lines
+use Rattle.line_records.specs.Change as Change
+use Rattle.line_plan.specs.Decide as Decide
+use Rattle.line_plan.specs.Plan as LinePlan
+use Rattle.line.specs.Start as Start
+use Rattle.line.specs.Entry as LineEntry
 use Rattle.line.specs.Steps as Line
 use Rattle.examples.specs.Tells.{joined, outcomeTells, clerkTells, lineTells, held, status}
 use Rattle.examples.specs.Scenes.{identifier, oneDigit, busyLine, accepted, again, filled, unknown, noReply, lookedBefore, busyThenFree, lookedAfter, invoked, possible, ringout, busyAgain, timerThree}
@@ -56,7 +60,7 @@ desks :
     (4 ∷ 1 ∷ 1 ∷ 0 ∷ 0 ∷ 0 ∷ []) ∷
     (5 ∷ 2 ∷ 1 ∷ 9 ∷ 0 ∷ 5 ∷ 2 ∷ 1 ∷ []) ∷
     []
-unfolding joined outcomeTells clerkTells lineTells held status firstFrom count word wordsOf sameWords numberAt fieldAt scanAt digitsAt digitsInRange inRange rows putRow dropRow carrierFits kindOf keepOf connectionOf numberWords letterOf ClerkStep.taken ClerkCodes.stateOf ClerkRecords.recordOf ClerkRecords.records ClerkRecords.meant ClerkRecords.place ClerkRecords.applied ClerkPlan.messagePlan ClerkPlan.ownPlan ClerkPlan.askPlan Clerk.asked Clerk.received Clerk.acted Clerk.reported LineStep.taken LineCodes.stateOf LineRecords.recordOf LineRecords.records LineRecords.meant LineRecords.place LineRecords.putRecord LineRecords.removed lineOf lines lineAt overLine putLine keeps retains withSettings markPlace marked statusStored reported applied countedPlan admittedPlan requestPlan messagePlan offerAt lookPlan reportPlan goodLine lineTaken takeLines started Line.received Line.lineReported Line.looked
+unfolding joined outcomeTells clerkTells lineTells held status firstFrom count word wordsOf sameWords numberAt fieldAt scanAt digitsAt digitsInRange inRange rows putRow dropRow rowsFit removedRow carrierFits kindOf keepOf connectionOf termsOf numberWords letterOf ClerkStep.rowTaken ClerkCodes.stateOf ClerkRecords.recordOf ClerkRecords.records ClerkRecords.meant ClerkRecords.place ClerkRecords.applied ClerkPlan.decided ClerkPlan.planOf ClerkPlan.planFor ClerkEntry.askEntry ClerkEntry.messageEntry ClerkEntry.actEntry ClerkEntry.timerEntry Clerk.step Clerk.entered LineStep.rowTaken LineCodes.stateOf LineRecords.recordOf LineRecords.records LineRecords.meant LineRecords.place LineRecords.putRecord LineRecords.removed Lines.lineOf Lines.lines Lines.lineAt Lines.overLine Lines.putLine Lines.keeps Lines.retains Lines.withSettings Change.markPlace Change.marked Change.statusStored Change.withReport Change.applied Decide.countedDecision Decide.admittedDecision Decide.requestDecision Decide.messageDecision Decide.offerAt Decide.lookDecision Decide.reportDecision Decide.decided LinePlan.planOf LinePlan.planFor Start.goodLine Start.lineTaken Start.takeLines Start.started LineEntry.messageEntry LineEntry.reportEntry LineEntry.lookEntry Line.step Line.entered
 desks = refl
 
 -- examples 1 to 5, in six rows, before those of the desks

@@ -17,7 +17,7 @@ use Rattle.clerk_table.specs.declared.inputs.Act.the-variants.{Accept}
 use Rattle.clerk.specs.Steps as Clerk
 use Rattle.clerk.specs.declared.Desk as ClerkDesk
 use Rattle.clerk.specs.declared.steps.Stepped as ClerkStepped
-use Rattle.clerk.specs.declared.steps.Asking.{Asking}
+use Rattle.clerk.specs.declared.entry.Asking.{Asking}
 use Rattle.line.specs.Start.{started}
 use Rattle.line.specs.Steps as Line
 use Rattle.line.specs.declared.Desk as LineDesk

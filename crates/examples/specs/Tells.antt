@@ -73,7 +73,7 @@ outcomeTells outcome = outcome .refusal ∷ sendingTells (outcome .sending)
 -- ---- the clerk's record of an identifier: state (1 Wait-Ack, 2 Invoked, 3 Wait-Answer, 4 Ringout, 5 Suspended), keep choice (1 ends,
 -- 2 kept), connection choice (1 RET, 2 RLS); 0 for no record
 abbrev pub clerkRecordTells : ClerkRecord.Record → List ℕ
-clerkRecordTells r = ClerkCodes.stateCode (r .state) ∷ keepCode (r .keep) ∷ connectionCode (r .connection) ∷ []
+clerkRecordTells r = ClerkCodes.stateCode (r .state) ∷ keepCode (r .terms .keep) ∷ connectionCode (r .terms .connection) ∷ []
 
 abbrev pub clerkFoundTells : List ClerkRecord.Record → Found → List ℕ
 clerkFoundTells rs Nothing = 0 ∷ []
@@ -87,7 +87,7 @@ clerkTells d identifier = clerkRecordsTell (ClerkRecords.records (d .words)) ide
 
 -- ---- the line desk's record of an identifier: state (1 Invoked, 2 Await, 3 Alert), then the choices as above; 0 for no record
 abbrev pub lineRecordTells : LineRecord.Record → List ℕ
-lineRecordTells r = LineCodes.stateCode (r .state) ∷ keepCode (r .keep) ∷ connectionCode (r .connection) ∷ []
+lineRecordTells r = LineCodes.stateCode (r .state) ∷ keepCode (r .terms .keep) ∷ connectionCode (r .terms .connection) ∷ []
 
 abbrev pub lineFoundTells : List LineRecord.Record → Found → List ℕ
 lineFoundTells rs Nothing = 0 ∷ []

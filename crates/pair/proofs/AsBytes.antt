@@ -23,6 +23,7 @@ use Rattle.writer.proofs.RoundTrip.{round-trip}
 use Rattle.clerk.specs.Entry as ClerkEntry
 use Rattle.clerk.specs.Entry.{askFlags}
 use Rattle.line.specs.Entry as LineEntry
+use Rattle.clerk.specs.Steps as Clerk
 use Rattle.line.specs.Steps as Line
 use Rattle.pair_request.specs.Reading as R
 use Rattle.pair.specs.World.{World}
@@ -96,7 +97,7 @@ sent-reads j m clear rest =
     ∙ ap (λ (x : Message). took x (length (messageBytes (messageRead j m)))) (sent-normal j m clear)
 
 clerk-bytes : (w : World) (busy : Bool) (rest : List ℕ) (ms : List Message) → Worded ms → ClerkHearsBytes w busy rest ms
-unfolding ClerkEntry.bytesEntry
+unfolding Clerk.receivedBytes ClerkEntry.bytesEntry
 clerk-bytes w busy rest [] quiet = tt
 clerk-bytes w busy rest (m ∷ ms) (word j c clear more) = rw (sent-reads j c clear rest)
 

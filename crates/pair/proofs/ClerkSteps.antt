@@ -18,7 +18,7 @@ use Rattle.clerk_table.specs.declared.inputs.Input.the-variants as Input
 use Rattle.clerk_table.specs.declared.table.Timer.{Timer}
 use Rattle.clerk_records.specs.Records as ClerkRecords
 use Rattle.clerk.specs.Entry.{messageEntry}
-use Rattle.clerk.specs.Steps.{step, received}
+use Rattle.clerk.specs.Steps.{step, entered, received}
 use Rattle.clerk.specs.declared.Desk.{Desk}
 use Rattle.clerk.specs.declared.steps.Stepped.{Stepped}
 use Rattle.clerk_sound.specs.Sound as Clerk
@@ -196,7 +196,7 @@ module _ {p : R.Policy} {w : World} (g : Good p w) (known : Known p w) where
   hears-as :
       (busy : Bool) {m : Message} (k : Words) (c : R.Msg) → m ≡ messageRead k c → Clear k c →
       received (w .clerk) m busy ≡ step (w .clerk) (Input.Message (letterRead k c) busy)
-  unfolding messageEntry
+  unfolding messageEntry entered
   hears-as busy k c e clear = ap (λ (x : Message). received (w .clerk) x busy) e ∙ rw (clear .ranged, clear .back)
 
   hears-step :

@@ -3,11 +3,11 @@ use mathlib.Core.Path.{_≡_}
 use mathlib.Core.List.{[], _∷_}
 use denote.Ref.{now}
 use Rattle.clerk.specs.Steps.{deskOf, answeredBytes, receivedBytes}
-use Rattle.clerk.proofs.lent.receive_bytes.Symbol as callee
-use Rattle.clerk.proofs.lent.receive_bytes.Met as callee-thm
-use Rattle.lent.proofs.clerk_desk.receive_bytes.Key.{name as #self}
-use Rattle.lent.proofs.clerk_desk.receive_bytes.Statement.{statement}
-use Rattle.lent.proofs.clerk_desk.receive_bytes.Code as code
+use Rattle.clerk.proofs.on_words.step_bytes.Symbol as callee
+use Rattle.clerk.proofs.on_words.step_bytes.Met as callee-thm
+use Rattle.lent.proofs.clerk_desk.step_bytes.Key.{name as #self}
+use Rattle.lent.proofs.clerk_desk.step_bytes.Statement.{statement}
+use Rattle.lent.proofs.clerk_desk.step_bytes.Code as code
 use Rattle.lent.proofs.Desks.{clerk-desk}
 use Rattle.lent.proofs.Rows.{of-bool, of-slice}
 use Rattle.lent.proofs.Values.{bytes-outcome}
@@ -22,6 +22,6 @@ shape = record {
   Said = λ _ ws a r ws′. answeredBytes (deskOf ws′) r ≡ receivedBytes (deskOf ws) (now (a .0)) (a .1 .0);
 }
 
-pub receive-bytes-spec : {M : Type 1} → statement M
+pub step-bytes-spec : {M : Type 1} → statement M
 unfolding code.routine
-receive-bytes-spec 𝓤 H 𝓜 𝓖 𝓡 = proved shape (two shape) 𝓤 H 𝓜 𝓖 𝓡 code.env #self (code.unfolded 𝓤 H 𝓜 𝓡) callee.routine code.calls-clerk·lent·receive-bytes (callee-thm.met 𝓤 H 𝓜 𝓖 𝓡)
+step-bytes-spec 𝓤 H 𝓜 𝓖 𝓡 = proved shape (two shape) 𝓤 H 𝓜 𝓖 𝓡 code.env #self (code.unfolded 𝓤 H 𝓜 𝓡) callee.routine code.calls-clerk·on-words·step-bytes (callee-thm.met 𝓤 H 𝓜 𝓖 𝓡)
