@@ -1,8 +1,8 @@
 // A step of the line desk, on a desk that is lent: its words are lent on and change where they stand.
-use line::Desk;
-use line::entry::Entry;
 use desk::outcome::BytesOutcome;
 use desk::outcome::Outcome;
+use line::Desk;
+use line::entry::Entry;
 ghost use mathlib.Core.Path.{_≡_};
 ghost use Rattle.line.specs.Steps.{answered, answeredBytes, entered, receivedBytes};
 

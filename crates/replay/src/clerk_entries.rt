@@ -1,7 +1,7 @@
-// The clerk's codes: each entry is read, played on the clerk's desk and printed. The desk goes in by value and comes back with
-// the place of the next entry.
+// The clerk's codes: an entry of the script is read as what the desk's door takes, and that is played on the desk's words and printed.
 use crate::clerk_lines::print_clerk;
 use crate::fields::behind;
+use crate::fields::byte_before;
 use crate::fields::byte_in;
 use crate::fields::digits_at;
 use crate::fields::identifier_at;
@@ -11,67 +11,31 @@ use crate::outcome_line::print_outcome;
 use crate::outcome_line::print_started;
 use crate::script::Next;
 use crate::script::RunRead;
-use crate::script::run;
 use crate::script::run_at;
-use clerk::Desk;
-use clerk::steps::Asking;
-use clerk::steps::Stepped;
-use clerk::steps::act;
-use clerk::steps::ask;
-use clerk::steps::receive_bytes;
-use clerk::steps::report;
+use clerk::entry::Asking;
+use clerk::entry::Entry;
+use clerk::entry::act_entry;
+use clerk::entry::ask_entry;
+use clerk::entry::bytes_entry;
+use clerk::entry::timer_entry;
+use clerk::on_words::step;
 use clerk::steps::start;
+use clerk_records::WORDS;
 use clerk_table::inputs::Act;
 use clerk_table::table::Timer;
 use message::Kind;
+use printing::part;
 
-// Where the next entry begins, and the desk afterwards.
-pub struct Played {
-    pub next: Next,
-    pub desk: Desk,
+// What the desk is given, how many bytes were left unread, and where the next entry begins; or that this one can't be played.
+enum ClerkRead {
+    Given(Entry, usize, usize),
+    Stop,
 }
 
 // The places of an ask's two numbers of digits, of what follows them, and of the next entry.
-pub enum AskRead {
+enum AskRead {
     Places(usize, usize, usize, usize),
     Ended,
-}
-
-// An entry that can't be played leaves the desk as it is.
-pub fn stopped(d: Desk) -> Played {
-    Played {
-        next: Next::Stop,
-        desk: d,
-    }
-}
-
-fn told(line: &mut [u8], number: usize, step: Stepped, next: usize) -> Played {
-    let d = step.desk;
-    let outcome = step.outcome;
-    print_outcome(line, number, outcome, 0);
-    Played {
-        next: Next::At(next),
-        desk: d,
-    }
-}
-
-// Code 2.
-pub fn play_start(next: usize, number: usize, line: &mut [u8]) -> Played {
-    print_started(line, number);
-    let d = start();
-    Played {
-        next: Next::At(next),
-        desk: d,
-    }
-}
-
-// Code 64.
-pub fn play_print(next: usize, number: usize, line: &mut [u8], d: Desk) -> Played {
-    print_clerk(line, number, d);
-    Played {
-        next: Next::At(next),
-        desk: d,
-    }
 }
 
 // The two numbers of digits stand behind an identifier and a kind; four bytes follow them.
@@ -121,119 +85,141 @@ fn ask_listed(kind: u8, canKeep: u8) -> bool {
 }
 
 // Code 16.
-pub fn play_ask(script: &[u8], at: usize, number: usize, line: &mut [u8], d: Desk) -> Played {
+fn read_ask(script: &[u8], at: usize) -> ClerkRead {
     match ask_places(script, at) {
-        AskRead::Ended => stopped(d),
+        AskRead::Ended => ClerkRead::Stop,
         AskRead::Places(a, b, rest, next) => {
             if ask_listed(byte_in(script, at, 16), byte_in(script, rest, 2)) {
-                let step = ask(d, asking(script, at, a, b, rest));
-                return told(line, number, step, next);
+                let entry = ask_entry(asking(script, at, a, b, rest));
+                return ClerkRead::Given(entry, 0, next);
             }
-            stopped(d)
+            ClerkRead::Stop
         }
     }
 }
 
-fn bytes_to(
-    bytes: &[u8],
-    busy: bool,
-    next: usize,
-    number: usize,
-    line: &mut [u8],
-    d: Desk,
-) -> Played {
-    let step = receive_bytes(d, bytes, busy);
-    let after = step.desk;
-    let outcome = step.outcome;
-    print_outcome(line, number, outcome, left_of(bytes.len(), step.next));
-    Played {
-        next: Next::At(next),
-        desk: after,
-    }
+fn given_bytes(bytes: &[u8], busy: bool, next: usize) -> ClerkRead {
+    let read = bytes_entry(bytes, busy);
+    let entry = read.entry;
+    ClerkRead::Given(entry, left_of(bytes.len(), read.next), next)
 }
 
 // Code 17: User A's word, and then a run.
-pub fn play_bytes(script: &[u8], at: usize, number: usize, line: &mut [u8], d: Desk) -> Played {
+fn read_bytes(script: &[u8], at: usize) -> ClerkRead {
     match behind(script, at, 1) {
-        Next::Stop => stopped(d),
+        Next::Stop => ClerkRead::Stop,
         Next::At(place) => match run_at(script, place) {
-            RunRead::Ended => stopped(d),
+            RunRead::Ended => ClerkRead::Stop,
             RunRead::Run(first, next) => match byte_in(script, at, 0) {
-                0 => bytes_to(run(script, first, next), false, next, number, line, d),
-                1 => bytes_to(run(script, first, next), true, next, number, line, d),
-                _ => stopped(d),
+                0 => given_bytes(part(script, first, next), false, next),
+                1 => given_bytes(part(script, first, next), true, next),
+                _ => ClerkRead::Stop,
             },
         },
     }
 }
 
-fn act_to(
-    identifier: [u8; 16],
-    what: Act,
-    next: usize,
-    number: usize,
-    line: &mut [u8],
-    d: Desk,
-) -> Played {
-    let step = act(d, identifier, what);
-    told(line, number, step, next)
+// What is done to a request that the entry names: an act of User A, or a timer that ran out.
+enum Named {
+    Act(Act),
+    Timer(Timer),
+    Unlisted,
 }
 
-// Codes 18 and 20: an act that has no choice.
-pub fn play_act(
+// Codes 18 to 21, by the entry's last byte where there is a choice.
+fn named_by(code: u8, choice: u8) -> Named {
+    match code {
+        18 => Named::Act(Act::Accept),
+        19 => match choice {
+            0 => Named::Act(Act::Resume),
+            1 => Named::Act(Act::GoOn),
+            _ => Named::Unlisted,
+        },
+        20 => Named::Act(Act::Cancel),
+        _ => match choice {
+            1 => Named::Timer(Timer::T1),
+            2 => Named::Timer(Timer::T2),
+            3 => Named::Timer(Timer::T3),
+            _ => Named::Unlisted,
+        },
+    }
+}
+
+fn given_named(named: Named, identifier: [u8; 16], next: usize) -> ClerkRead {
+    match named {
+        Named::Act(act) => ClerkRead::Given(act_entry(identifier, act), 0, next),
+        Named::Timer(timer) => ClerkRead::Given(timer_entry(identifier, timer), 0, next),
+        Named::Unlisted => ClerkRead::Stop,
+    }
+}
+
+// An identifier, and the choice of a code that has one.
+fn named_size(code: u8) -> usize {
+    match code {
+        19 => 17,
+        21 => 17,
+        _ => 16,
+    }
+}
+
+fn read_named(code: u8, script: &[u8], at: usize) -> ClerkRead {
+    match behind(script, at, named_size(code)) {
+        Next::Stop => ClerkRead::Stop,
+        Next::At(next) => given_named(
+            named_by(code, byte_before(script, next)),
+            identifier_at(script, at),
+            next,
+        ),
+    }
+}
+
+fn read_entry(code: u8, script: &[u8], at: usize) -> ClerkRead {
+    match code {
+        16 => read_ask(script, at),
+        17 => read_bytes(script, at),
+        18..=21 => read_named(code, script, at),
+        _ => ClerkRead::Stop,
+    }
+}
+
+fn play_given(entry: Entry, left: usize, number: usize, words: &mut [u64; WORDS]) {
+    let outcome = step(words, entry);
+    print_outcome(number, outcome, left);
+}
+
+fn play_read(read: ClerkRead, number: usize, words: &mut [u64; WORDS]) -> Next {
+    match read {
+        ClerkRead::Stop => Next::Stop,
+        ClerkRead::Given(entry, left, next) => {
+            play_given(entry, left, number, words);
+            Next::At(next)
+        }
+    }
+}
+
+// Code 2.
+fn play_start(next: usize, number: usize, words: &mut [u64; WORDS]) -> Next {
+    let d = start();
+    let kept = d.words;
+    *words = kept;
+    print_started(number);
+    Next::At(next)
+}
+
+// The entry behind its code.
+pub fn play_clerk(
+    code: u8,
     script: &[u8],
     at: usize,
     number: usize,
-    line: &mut [u8],
-    d: Desk,
-    what: Act,
-) -> Played {
-    match behind(script, at, 16) {
-        Next::Stop => stopped(d),
-        Next::At(next) => act_to(identifier_at(script, at), what, next, number, line, d),
-    }
-}
-
-// Code 19.
-pub fn play_free(script: &[u8], at: usize, number: usize, line: &mut [u8], d: Desk) -> Played {
-    match behind(script, at, 17) {
-        Next::Stop => stopped(d),
-        Next::At(next) => match byte_in(script, at, 16) {
-            0 => act_to(
-                identifier_at(script, at),
-                Act::Resume,
-                next,
-                number,
-                line,
-                d,
-            ),
-            1 => act_to(identifier_at(script, at), Act::GoOn, next, number, line, d),
-            _ => stopped(d),
-        },
-    }
-}
-
-fn report_to(
-    identifier: [u8; 16],
-    timer: Timer,
-    next: usize,
-    number: usize,
-    line: &mut [u8],
-    d: Desk,
-) -> Played {
-    let step = report(d, identifier, timer);
-    told(line, number, step, next)
-}
-
-// Code 21.
-pub fn play_timer(script: &[u8], at: usize, number: usize, line: &mut [u8], d: Desk) -> Played {
-    match behind(script, at, 17) {
-        Next::Stop => stopped(d),
-        Next::At(next) => match byte_in(script, at, 16) {
-            1 => report_to(identifier_at(script, at), Timer::T1, next, number, line, d),
-            2 => report_to(identifier_at(script, at), Timer::T2, next, number, line, d),
-            3 => report_to(identifier_at(script, at), Timer::T3, next, number, line, d),
-            _ => stopped(d),
-        },
+    words: &mut [u64; WORDS],
+) -> Next {
+    match code {
+        2 => play_start(at, number, words),
+        64 => {
+            print_clerk(number, words);
+            Next::At(at)
+        }
+        _ => play_read(read_entry(code, script, at), number, words),
     }
 }

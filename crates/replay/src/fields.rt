@@ -1,6 +1,8 @@
 // The fields of an entry. Where the entry's end was found in the script, each function has the field that stands at a place;
 // past the script's end every byte is 0, so that none has a `requires`.
 use crate::script::Next;
+use crate::script::RunRead;
+use crate::script::run_at;
 ghost use Prim.Native.Nat.{_<_};
 
 // The place so many bytes on, or that the script ends before it.
@@ -14,6 +16,14 @@ pub fn behind(script: &[u8], at: usize, count: usize) -> Next {
     Next::Stop
 }
 
+// The place so many bytes behind a run.
+pub fn behind_run(script: &[u8], at: usize, count: usize) -> Next {
+    match run_at(script, at) {
+        RunRead::Ended => Next::Stop,
+        RunRead::Run(_, place) => behind(script, place, count),
+    }
+}
+
 // The byte so many places behind a place.
 pub fn byte_in(script: &[u8], at: usize, offset: usize) -> u8 {
     if script.len() <= at {
@@ -21,6 +31,14 @@ pub fn byte_in(script: &[u8], at: usize, offset: usize) -> u8 {
     }
     if offset < script.len() - at {
         return script[at + offset];
+    }
+    0
+}
+
+// The byte before a place: the last one of what ends there.
+pub fn byte_before(script: &[u8], place: usize) -> u8 {
+    if 0 < place {
+        return byte_in(script, place - 1, 0);
     }
     0
 }

@@ -1,332 +1,181 @@
-// The line desk's codes: each entry is read, played on the line desk and printed. The desk's words are lent from entry to entry, since it
-// is large and a call that hands it on by value takes most of the time; each answers the place of the next entry.
+// The line desk's codes: an entry of the script is read as what the desk's door takes, and that is played on the desk's words and printed.
 use crate::fields::behind;
+use crate::fields::behind_run;
+use crate::fields::byte_before;
 use crate::fields::byte_in;
 use crate::fields::digits_at;
 use crate::fields::identifier_at;
 use crate::fields::left_of;
 use crate::line_lines::print_line_desk;
-use crate::lines_given::lines_size;
 use crate::lines_given::take_lines;
 use crate::outcome_line::print_outcome;
-use crate::script::ByteRead;
 use crate::script::Next;
 use crate::script::RunRead;
-use crate::script::byte_at;
-use crate::script::run;
 use crate::script::run_at;
-use line::Desk;
+use line::entry::Entry;
+use line::entry::act_entry;
+use line::entry::bytes_entry;
+use line::entry::guard_entry;
+use line::entry::look_entry;
+use line::entry::report_entry;
+use line::on_words::step;
 use line::start::start;
-use line::steps::Stepped;
-use line::steps::act;
-use line::steps::look;
-use line::steps::receive_bytes;
-use line::steps::report_guard;
-use line::steps::report_line;
+use line_records::WORDS;
 use line_table::inputs::Act;
+use printing::part;
 
-// The desk of the program's start: no lines, does not keep, does not retain.
-pub fn first_desk() -> Desk {
-    let none = [0u8; 17];
-    let step = start(&none[0..0], false, false);
-    step.desk
+// What the desk is given, how many bytes were left unread, and where the next entry begins; or that this one can't be played.
+enum LineRead {
+    Given(Entry, usize, usize),
+    Stop,
 }
 
-// The desk of a step is stored, and its outcome printed.
-fn told(
-    line: &mut [u8],
-    number: usize,
-    step: Stepped,
-    next: usize,
-    words: &mut [u64; 498],
-) -> Next {
-    let after = step.desk;
-    let kept = after.words;
-    *words = kept;
-    let outcome = step.outcome;
-    print_outcome(line, number, outcome, 0);
-    Next::At(next)
-}
-
-// Code 65.
-fn play_print(next: usize, number: usize, line: &mut [u8], words: &[u64; 498]) -> Next {
-    print_line_desk(line, number, words);
-    Next::At(next)
-}
-
-// A refused start leaves the desk as it was.
-fn start_to(
-    given: &[u8],
-    keep: bool,
-    retain: bool,
-    next: usize,
-    number: usize,
-    line: &mut [u8],
-    words: &mut [u64; 498],
-) -> Next {
-    let step = start(given, keep, retain);
-    let outcome = step.outcome;
-    if outcome.refusal == 0 {
-        return told(line, number, step, next, words);
-    }
-    print_outcome(line, number, outcome, 0);
-    Next::At(next)
-}
-
-// The settings: 1 keeps, 2 retains by default.
-fn start_by(
-    given: &[u8],
-    settings: u8,
-    next: usize,
-    number: usize,
-    line: &mut [u8],
-    words: &mut [u64; 498],
-) -> Next {
-    match settings {
-        0 => start_to(given, false, false, next, number, line, words),
-        1 => start_to(given, true, false, next, number, line, words),
-        2 => start_to(given, false, true, next, number, line, words),
-        3 => start_to(given, true, true, next, number, line, words),
-        _ => Next::Stop,
-    }
-}
-
-// The lines behind their count, and the settings.
-fn start_counted(
-    script: &[u8],
-    at: usize,
-    count: u8,
-    number: usize,
-    line: &mut [u8],
-    words: &mut [u64; 498],
-) -> Next {
-    let mut given = [0u8; 4335];
-    match take_lines(script, at, count as usize, &mut given) {
-        Next::Stop => Next::Stop,
-        Next::At(place) => match byte_at(script, place) {
-            ByteRead::Ended => Next::Stop,
-            ByteRead::Byte(settings, next) => start_by(
-                run(&given, 0, lines_size(count)),
-                settings,
-                next,
-                number,
-                line,
-                words,
-            ),
-        },
-    }
-}
-
-// Code 1.
-fn play_start(
-    script: &[u8],
-    at: usize,
-    number: usize,
-    line: &mut [u8],
-    words: &mut [u64; 498],
-) -> Next {
-    match byte_at(script, at) {
-        ByteRead::Ended => Next::Stop,
-        ByteRead::Byte(count, first) => start_counted(script, first, count, number, line, words),
-    }
-}
-
-fn bytes_to(
-    bytes: &[u8],
-    next: usize,
-    number: usize,
-    line: &mut [u8],
-    words: &mut [u64; 498],
-) -> Next {
-    let step = receive_bytes(Desk { words: *words }, bytes);
-    let after = step.desk;
-    let kept = after.words;
-    *words = kept;
-    let outcome = step.outcome;
-    print_outcome(line, number, outcome, left_of(bytes.len(), step.next));
-    Next::At(next)
+fn given_bytes(bytes: &[u8], next: usize) -> LineRead {
+    let read = bytes_entry(bytes);
+    let entry = read.entry;
+    LineRead::Given(entry, left_of(bytes.len(), read.next), next)
 }
 
 // Code 32.
-fn play_bytes(
-    script: &[u8],
-    at: usize,
-    number: usize,
-    line: &mut [u8],
-    words: &mut [u64; 498],
-) -> Next {
+fn read_bytes(script: &[u8], at: usize) -> LineRead {
     match run_at(script, at) {
-        RunRead::Ended => Next::Stop,
-        RunRead::Run(first, next) => bytes_to(run(script, first, next), next, number, line, words),
+        RunRead::Ended => LineRead::Stop,
+        RunRead::Run(first, next) => given_bytes(part(script, first, next), next),
     }
 }
 
-fn report_to(
-    digits: [u8; 16],
-    busy: bool,
-    next: usize,
-    number: usize,
-    line: &mut [u8],
-    words: &mut [u64; 498],
-) -> Next {
-    let step = report_line(Desk { words: *words }, digits, busy);
-    told(line, number, step, next, words)
-}
-
-// Code 33: digits, and then the line's status.
-fn play_report(
-    script: &[u8],
-    at: usize,
-    number: usize,
-    line: &mut [u8],
-    words: &mut [u64; 498],
-) -> Next {
-    match run_at(script, at) {
-        RunRead::Ended => Next::Stop,
-        RunRead::Run(_, place) => match byte_at(script, place) {
-            ByteRead::Ended => Next::Stop,
-            ByteRead::Byte(status, next) => match status {
-                0 => report_to(digits_at(script, at), false, next, number, line, words),
-                1 => report_to(digits_at(script, at), true, next, number, line, words),
-                _ => Next::Stop,
-            },
-        },
+// Code 33, by the entry's last byte, the line's status.
+fn given_report(digits: [u8; 16], status: u8, next: usize) -> LineRead {
+    match status {
+        0 => LineRead::Given(report_entry(digits, false), 0, next),
+        1 => LineRead::Given(report_entry(digits, true), 0, next),
+        _ => LineRead::Stop,
     }
 }
 
-fn look_to(
-    digits: [u8; 16],
-    next: usize,
-    number: usize,
-    line: &mut [u8],
-    words: &mut [u64; 498],
-) -> Next {
-    let step = look(Desk { words: *words }, digits);
-    told(line, number, step, next, words)
+fn read_report(script: &[u8], at: usize) -> LineRead {
+    match behind_run(script, at, 1) {
+        Next::Stop => LineRead::Stop,
+        Next::At(next) => given_report(digits_at(script, at), byte_before(script, next), next),
+    }
 }
 
 // Code 34.
-fn play_look(
-    script: &[u8],
-    at: usize,
-    number: usize,
-    line: &mut [u8],
-    words: &mut [u64; 498],
-) -> Next {
-    match run_at(script, at) {
-        RunRead::Ended => Next::Stop,
-        RunRead::Run(_, next) => look_to(digits_at(script, at), next, number, line, words),
+fn read_look(script: &[u8], at: usize) -> LineRead {
+    match behind_run(script, at, 0) {
+        Next::Stop => LineRead::Stop,
+        Next::At(next) => LineRead::Given(look_entry(digits_at(script, at)), 0, next),
     }
 }
 
-fn act_to(
-    identifier: [u8; 16],
-    what: Act,
-    next: usize,
-    number: usize,
-    line: &mut [u8],
-    words: &mut [u64; 498],
-) -> Next {
-    let step = act(Desk { words: *words }, identifier, what);
-    told(line, number, step, next, words)
+// Code 35, by the entry's last byte, the act.
+fn given_act(identifier: [u8; 16], act: u8, next: usize) -> LineRead {
+    match act {
+        1 => LineRead::Given(act_entry(identifier, Act::Alerted), 0, next),
+        2 => LineRead::Given(act_entry(identifier, Act::CallFailed), 0, next),
+        3 => LineRead::Given(act_entry(identifier, Act::Cancel), 0, next),
+        _ => LineRead::Stop,
+    }
 }
 
-// Code 35.
-fn play_act(
-    script: &[u8],
-    at: usize,
-    number: usize,
-    line: &mut [u8],
-    words: &mut [u64; 498],
-) -> Next {
+fn read_act(script: &[u8], at: usize) -> LineRead {
     match behind(script, at, 17) {
-        Next::Stop => Next::Stop,
-        Next::At(next) => match byte_in(script, at, 16) {
-            1 => act_to(
-                identifier_at(script, at),
-                Act::Alerted,
-                next,
-                number,
-                line,
-                words,
-            ),
-            2 => act_to(
-                identifier_at(script, at),
-                Act::CallFailed,
-                next,
-                number,
-                line,
-                words,
-            ),
-            3 => act_to(
-                identifier_at(script, at),
-                Act::Cancel,
-                next,
-                number,
-                line,
-                words,
-            ),
-            _ => Next::Stop,
-        },
+        Next::Stop => LineRead::Stop,
+        Next::At(next) => given_act(identifier_at(script, at), byte_before(script, next), next),
     }
-}
-
-fn guard_to(
-    identifier: [u8; 16],
-    next: usize,
-    number: usize,
-    line: &mut [u8],
-    words: &mut [u64; 498],
-) -> Next {
-    let step = report_guard(Desk { words: *words }, identifier);
-    told(line, number, step, next, words)
 }
 
 // Code 36.
-fn play_guard(
-    script: &[u8],
-    at: usize,
-    number: usize,
-    line: &mut [u8],
-    words: &mut [u64; 498],
-) -> Next {
+fn read_guard(script: &[u8], at: usize) -> LineRead {
     match behind(script, at, 16) {
-        Next::Stop => Next::Stop,
-        Next::At(next) => guard_to(identifier_at(script, at), next, number, line, words),
+        Next::Stop => LineRead::Stop,
+        Next::At(next) => LineRead::Given(guard_entry(identifier_at(script, at)), 0, next),
     }
 }
 
-// Whether a code is the line desk's.
-pub fn is_line_code(code: u8) -> bool {
+fn read_entry(code: u8, script: &[u8], at: usize) -> LineRead {
     match code {
-        1 => true,
-        32 => true,
-        33 => true,
-        34 => true,
-        35 => true,
-        36 => true,
-        65 => true,
-        _ => false,
+        32 => read_bytes(script, at),
+        33 => read_report(script, at),
+        34 => read_look(script, at),
+        35 => read_act(script, at),
+        36 => read_guard(script, at),
+        _ => LineRead::Stop,
+    }
+}
+
+fn play_given(entry: Entry, left: usize, number: usize, words: &mut [u64; WORDS]) {
+    let outcome = step(words, entry);
+    print_outcome(number, outcome, left);
+}
+
+fn play_read(read: LineRead, number: usize, words: &mut [u64; WORDS]) -> Next {
+    match read {
+        LineRead::Stop => Next::Stop,
+        LineRead::Given(entry, left, next) => {
+            play_given(entry, left, number, words);
+            Next::At(next)
+        }
+    }
+}
+
+// The words of the program's start: no lines, does not keep, does not retain.
+pub fn first_words() -> [u64; WORDS] {
+    let none = [0u8; 17];
+    let step = start(part(&none, 0, 0), false, false);
+    let d = step.desk;
+    d.words
+}
+
+// A refused start leaves the desk as it was. The settings: 1 keeps, 2 retains by default.
+fn start_by(given: &[u8], settings: u8, number: usize, words: &mut [u64; WORDS]) {
+    let step = start(given, settings % 2 == 1, 2 <= settings);
+    let outcome = step.outcome;
+    print_outcome(number, outcome, 0);
+    if outcome.refusal == 0 {
+        let d = step.desk;
+        let kept = d.words;
+        *words = kept;
+    }
+}
+
+// Code 1: the lines behind their count, and the settings.
+fn play_start(script: &[u8], at: usize, number: usize, words: &mut [u64; WORDS]) -> Next {
+    let read = take_lines(script, at);
+    let given = read.given;
+    let bytes = given.bytes;
+    let lines = read.next;
+    match lines {
+        Next::Stop => Next::Stop,
+        Next::At(place) => {
+            if 3 < byte_in(script, place, 0) {
+                return Next::Stop;
+            }
+            start_by(
+                part(&bytes, 0, given.at),
+                byte_in(script, place, 0),
+                number,
+                words,
+            );
+            behind(script, place, 1)
+        }
     }
 }
 
 // The entry behind its code.
-pub fn play_line_code(
+pub fn play_line(
     code: u8,
     script: &[u8],
     at: usize,
     number: usize,
-    line: &mut [u8],
-    words: &mut [u64; 498],
+    words: &mut [u64; WORDS],
 ) -> Next {
     match code {
-        1 => play_start(script, at, number, line, words),
-        32 => play_bytes(script, at, number, line, words),
-        33 => play_report(script, at, number, line, words),
-        34 => play_look(script, at, number, line, words),
-        35 => play_act(script, at, number, line, words),
-        36 => play_guard(script, at, number, line, words),
-        65 => play_print(at, number, line, words),
-        _ => Next::Stop,
+        1 => play_start(script, at, number, words),
+        65 => {
+            print_line_desk(number, words);
+            Next::At(at)
+        }
+        _ => play_read(read_entry(code, script, at), number, words),
     }
 }

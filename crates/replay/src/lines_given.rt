@@ -1,83 +1,86 @@
 // The lines of code 1, as the line desk takes them: seventeen bytes a line, its number of digits in sixteen places and its kinds.
-use crate::fields::behind;
-use crate::fields::byte_in;
+use crate::fields::behind_run;
+use crate::fields::byte_before;
 use crate::fields::digits_at;
+use crate::script::ByteRead;
 use crate::script::Next;
-use crate::script::RunRead;
-use crate::script::run_at;
+use crate::script::byte_at;
+use printing::Page;
+use printing::blank_page;
+use printing::put_text;
+
+// The lines that were read, and the place behind them; or that they can't be. A page has room for more lines than a desk may have: of those that have none a
+// desk is told by a line that is not whole.
+pub struct LinesRead {
+    pub given: Page,
+    pub next: Next,
+}
 
 // The place behind a line, digits and kinds, if the kinds are listed.
 fn behind_line(script: &[u8], at: usize) -> Next {
-    match run_at(script, at) {
-        RunRead::Ended => Next::Stop,
-        RunRead::Run(_, place) => {
-            if byte_in(script, place, 0) <= 3 {
-                return behind(script, place, 1);
+    let next = behind_run(script, at, 1);
+    match next {
+        Next::Stop => next,
+        Next::At(place) => {
+            if byte_before(script, place) <= 3 {
+                return next;
             }
             Next::Stop
         }
     }
 }
 
-// The kinds of a line that ends at a place: its last byte.
-fn kinds_before(script: &[u8], end: usize) -> u8 {
-    if 0 < end {
-        return byte_in(script, end - 1, 0);
-    }
-    0
+fn put_line(given: Page, digits: [u8; 16], kinds: u8) -> Page {
+    put_text(put_text(given, &digits), &[kinds])
 }
 
-// A byte of the line at place k, if there is such a place. The count is one byte of the script, so that 255 places are enough for every start.
-fn put_given(given: &mut [u8], k: usize, i: usize, byte: u8) {
-    if k < 255 {
-        if i < 17 {
-            let at = 17 * k + i;
-            if at < given.len() {
-                given[at] = byte;
+// One line more, if there is one.
+fn with_line(read: LinesRead, script: &[u8]) -> LinesRead {
+    let next = read.next;
+    match next {
+        Next::Stop => read,
+        Next::At(place) => {
+            let given = read.given;
+            let after = behind_line(script, place);
+            match after {
+                Next::Stop => LinesRead { given, next: after },
+                Next::At(end) => {
+                    let more = put_line(given, digits_at(script, place), byte_before(script, end));
+                    LinesRead {
+                        given: more,
+                        next: after,
+                    }
+                }
             }
         }
     }
 }
 
-// A number of digits in the first sixteen bytes of the line at place k.
-fn put_digits_given(given: &mut [u8], k: usize, digits: [u8; 16]) {
-    let mut i = 0;
-    while i < 16 {
-        put_given(given, k, i, digits[i]);
-        i += 1;
-    }
-}
-
-fn put_line_given(given: &mut [u8], k: usize, digits: [u8; 16], kinds: u8) {
-    put_digits_given(given, k, digits);
-    put_given(given, k, 16, kinds);
-}
-
-// So many lines of the script from a place on, and the place behind them.
-pub fn take_lines(script: &[u8], at: usize, count: usize, given: &mut [u8]) -> Next {
-    let mut place = at;
+// So many lines of the script from a place on.
+fn read_lines(script: &[u8], at: usize, count: u8) -> LinesRead {
+    let given = blank_page();
+    let mut read = LinesRead {
+        given,
+        next: Next::At(at),
+    };
     let mut k = 0;
     while k < count {
-        match behind_line(script, place) {
-            Next::Stop => {
-                return Next::Stop;
-            }
-            Next::At(end) => {
-                put_line_given(
-                    given,
-                    k,
-                    digits_at(script, place),
-                    kinds_before(script, end),
-                );
-                place = end;
-            }
-        }
+        read = with_line(read, script);
         k += 1;
     }
-    Next::At(place)
+    read
 }
 
-// How many bytes so many lines are.
-pub fn lines_size(count: u8) -> usize {
-    17 * count as usize
+// The lines behind their count.
+pub fn take_lines(script: &[u8], at: usize) -> LinesRead {
+    match byte_at(script, at) {
+        ByteRead::Ended => {
+            let given = blank_page();
+            LinesRead {
+                given,
+                next: Next::Stop,
+            }
+        }
+        ByteRead::Byte(count, first) => read_lines(script, first, count),
+    }
 }

@@ -1,5 +1,5 @@
-// The replay program: plays a script of entries from standard input in order, and prints a line for each. The first entry
-// that can't be played ends it, with a line that says so.
+// The replay program: plays a script of entries from standard input in order, and prints a line for each. The first entry that can't be played ends it, with a
+// line that says so. Both desks' words are lent to each entry.
 mod clerk_entries;
 mod clerk_lines;
 mod codec;
@@ -9,134 +9,87 @@ mod line_lines;
 mod lines_given;
 mod outcome_line;
 mod output;
-mod record_fields;
+mod record_lines;
 mod script;
 
-use crate::clerk_entries::Played;
-use crate::clerk_entries::play_act;
-use crate::clerk_entries::play_ask;
-use crate::clerk_entries::play_bytes;
-use crate::clerk_entries::play_free;
-use crate::clerk_entries::play_print;
-use crate::clerk_entries::play_start;
-use crate::clerk_entries::play_timer;
-use crate::clerk_entries::stopped;
+use crate::clerk_entries::play_clerk;
 use crate::codec::play_write;
-use crate::line_entries::first_desk;
-use crate::line_entries::is_line_code;
-use crate::line_entries::play_line_code;
-use crate::output::end_line;
-use crate::output::put_number;
-use crate::output::put_text;
-use crate::script::ByteRead;
+use crate::fields::byte_in;
+use crate::line_entries::first_words;
+use crate::line_entries::play_line;
+use crate::output::print_line;
+use crate::output::put_numbers;
 use crate::script::Next;
-use crate::script::byte_at;
-use clerk::Desk;
 use clerk::steps::start;
-use clerk_table::inputs::Act;
 use libc::STDIN_FILENO;
+use printing::blank_page;
+use printing::part;
+use printing::put_text;
 
-// A write has nothing to do with the desk.
-fn write_entry(script: &[u8], at: usize, number: usize, line: &mut [u8], d: Desk) -> Played {
-    let next = play_write(script, at, number, line);
-    Played { next, desk: d }
-}
-
-// The entry behind its code, of those that are not the line desk's.
-fn play_clerk_code(
-    code: u8,
-    script: &[u8],
-    at: usize,
-    number: usize,
-    line: &mut [u8],
-    d: Desk,
-) -> Played {
-    match code {
-        2 => play_start(at, number, line),
-        16 => play_ask(script, at, number, line, d),
-        17 => play_bytes(script, at, number, line, d),
-        18 => play_act(script, at, number, line, d, Act::Accept),
-        19 => play_free(script, at, number, line, d),
-        20 => play_act(script, at, number, line, d, Act::Cancel),
-        21 => play_timer(script, at, number, line, d),
-        48 => write_entry(script, at, number, line, d),
-        64 => play_print(at, number, line, d),
-        _ => stopped(d),
-    }
-}
-
-fn at_clerk(
-    code: u8,
-    script: &[u8],
-    at: usize,
-    number: usize,
-    line: &mut [u8],
-    words: &mut [u64; 192],
-) -> Next {
-    let played = play_clerk_code(code, script, at, number, line, Desk { words: *words });
-    let after = played.desk;
-    let kept = after.words;
-    *words = kept;
-    played.next
-}
-
-// The entry at a place, on the desk that its code names.
+// The entry behind its code, on the desk that the code names.
 fn play_entry(
+    code: u8,
     script: &[u8],
     at: usize,
     number: usize,
-    line: &mut [u8],
-    clerkWords: &mut [u64; 192],
-    lineWords: &mut [u64; 498],
+    clerkWords: &mut [u64; clerk_records::WORDS],
+    lineWords: &mut [u64; line_records::WORDS],
 ) -> Next {
-    match byte_at(script, at) {
-        ByteRead::Ended => Next::Stop,
-        ByteRead::Byte(code, behind) => {
-            if is_line_code(code) {
-                return play_line_code(code, script, behind, number, line, lineWords);
-            }
-            at_clerk(code, script, behind, number, line, clerkWords)
-        }
+    match code {
+        1 | 32..=36 | 65 => play_line(code, script, at, number, lineWords),
+        48 => play_write(script, at, number),
+        _ => play_clerk(code, script, at, number, clerkWords),
     }
 }
 
-fn print_stop(line: &mut [u8], number: usize) {
-    let mut at = put_text(line, 0, b"stop ");
-    at = put_number(line, at, number);
-    end_line(line, at);
+// After an entry that can't be played the script is at its end.
+fn place_after(next: Next, number: usize, end: usize) -> usize {
+    match next {
+        Next::Stop => {
+            let numbers = [number as u64];
+            print_line(put_numbers(put_text(blank_page(), b" stop"), &numbers));
+            end
+        }
+        Next::At(place) => place,
+    }
 }
 
-// Every entry from the script's first byte on. The loop's own test is for its proof: an entry takes a byte or more, so a
-// script never has more entries than bytes, and the place reaches the end no later than the number does.
-fn play(script: &[u8], line: &mut [u8]) {
+// The entry at a place, and the place of the next one. Behind the script's end nothing is played.
+fn play_at(
+    script: &[u8],
+    at: usize,
+    number: usize,
+    clerkWords: &mut [u64; clerk_records::WORDS],
+    lineWords: &mut [u64; line_records::WORDS],
+) -> usize {
+    if script.len() <= at {
+        return at;
+    }
+    let code = byte_in(script, at, 0);
+    let next = play_entry(code, script, at + 1, number, clerkWords, lineWords);
+    place_after(next, number, script.len())
+}
+
+// Every entry from the script's first byte on. An entry takes a byte or more, so that a script never has more entries than bytes.
+fn play(script: &[u8]) {
+    let clerkDesk = start();
+    let mut clerkWords = clerkDesk.words;
+    let mut lineWords = first_words();
     let mut at = 0;
     let mut number = 0;
-    let clerkDesk = start();
-    let lineDesk = first_desk();
-    let mut clerkWords = clerkDesk.words;
-    let mut lineWords = lineDesk.words;
     while number < script.len() {
-        if script.len() <= at {
-            return;
-        }
-        match play_entry(script, at, number, line, &mut clerkWords, &mut lineWords) {
-            Next::Stop => {
-                print_stop(line, number);
-                return;
-            }
-            Next::At(place) => {
-                at = place;
-            }
-        }
+        at = play_at(script, at, number, &mut clerkWords, &mut lineWords);
         number += 1;
     }
 }
 
-// A script has at most 262,144 bytes: what stands behind them is not read. No line is longer than 523 bytes, those of a
-// write into 255.
+fn play_input(room: &mut [u8]) {
+    let length = io::read_full(STDIN_FILENO, room);
+    play(part(room, 0, length));
+}
+
+// A script has at most 262,144 bytes: what stands behind them is not read.
 fn main() {
-    let mut script = [0u8; 262144];
-    let mut line = [0u8; 1024];
-    let length = io::read_full(STDIN_FILENO, &mut script);
-    play(&script[..length], &mut line);
+    let mut room = [0u8; 262144];
+    play_input(&mut room);
 }

@@ -1,47 +1,38 @@
-// Printing: a line of bytes and a place in it. Each function puts one thing at a place, and answers the place behind it. A
-// line goes out in one call when it ends, since a call for each field would take most of the time; one that has no room
-// for all that is put into it goes out in parts, so nothing is cut.
+// Lines: each field is put on a page behind a space, and the line goes out, without the first of these spaces, when it ends. No line is longer than 524 bytes, those
+// of a write into 255, so that a page has room for all of it.
 use libc::STDOUT_FILENO;
+use lists::words::Words;
+use lists::words::bytes_of;
+use printing::Page;
+use printing::part;
+use printing::put_text;
 ghost use Prim.Native.Nat.{_≤_};
-ghost use lib.ListN.{length};
 
-// A byte. Where the line is full, it goes out and is begun anew.
-fn put_byte(line: &mut [u8], at: usize, byte: u8) -> usize
-    ensures { λ r. ⌜ r ≤ length (now (line .entry)) ⌝ }
-{
-    if at < line.len() {
-        line[at] = byte;
-        return at + 1;
-    }
-    io::write_all(STDOUT_FILENO, line);
-    if 0 < line.len() {
-        line[0] = byte;
-        return 1;
-    }
-    0
+// The number that stands for nothing: no field has one as large.
+pub const NOTHING: u64 = 18446744073709551615;
+
+fn put_decimal(page: Page, number: u64) -> Page {
+    let mut digits = [0u8; 20];
+    let count = io::decimal(number, &mut digits);
+    put_text(page, &digits[..count])
 }
 
-// Bytes as they are.
-pub fn put_text(line: &mut [u8], at: usize, text: &[u8]) -> usize {
-    let mut next = at;
+// A number in decimal, `-` for nothing.
+fn put_field(page: Page, number: u64) -> Page {
+    if number == NOTHING {
+        return put_text(page, b" -");
+    }
+    put_decimal(put_text(page, b" "), number)
+}
+
+pub fn put_numbers(page: Page, numbers: &[u64]) -> Page {
+    let mut next = page;
     let mut i = 0;
-    while i < text.len() {
-        next = put_byte(line, next, text[i]);
+    while i < numbers.len() {
+        next = put_field(next, numbers[i]);
         i += 1;
     }
     next
-}
-
-// What stands between two fields.
-pub fn put_space(line: &mut [u8], at: usize) -> usize {
-    put_byte(line, at, b' ')
-}
-
-// A number in decimal.
-pub fn put_number(line: &mut [u8], at: usize, number: usize) -> usize {
-    let mut digits = [0u8; 20];
-    let count = io::decimal(number as u64, &mut digits);
-    put_text(line, at, &digits[..count])
 }
 
 // The digit of a number below 16; of a larger one the last digit.
@@ -53,45 +44,56 @@ fn hex_digit(number: u8) -> u8 {
     b'a' - 10 + low
 }
 
-fn put_hex_byte(line: &mut [u8], at: usize, byte: u8) -> usize {
-    let next = put_byte(line, at, hex_digit(byte / 16));
-    put_byte(line, next, hex_digit(byte))
+fn least(a: usize, b: usize) -> usize
+    ensures { λ r. ⌜ (r ≤ a) × (r ≤ b) ⌝ }
+{
+    if a < b {
+        return a;
+    }
+    b
 }
 
-// Bytes in hexadecimal, `-` for none.
-pub fn put_hex(line: &mut [u8], at: usize, bytes: &[u8]) -> usize {
-    if bytes.len() == 0 {
-        return put_byte(line, at, b'-');
+// Bytes in hexadecimal, `-` for none. A field has at most 255 bytes, those of a write's buffer.
+pub fn put_hex(page: Page, bytes: &[u8]) -> Page {
+    let count = least(bytes.len(), 255);
+    if count == 0 {
+        return put_text(page, b" -");
     }
-    let mut next = at;
+    let mut text = [b' '; 511];
     let mut i = 0;
-    while i < bytes.len() {
-        next = put_hex_byte(line, next, bytes[i]);
+    while i < count {
+        let byte = bytes[i];
+        text[2 * i + 1] = hex_digit(byte / 16);
+        text[2 * i + 2] = hex_digit(byte);
         i += 1;
     }
-    next
+    put_text(page, part(&text, 0, 2 * count + 1))
 }
 
-// The line's end, and the line goes out. A part that names its start asks for no proof of its length.
-pub fn end_line(line: &mut [u8], at: usize) {
-    let behind = put_byte(line, at, b'\n');
-    io::write_all(STDOUT_FILENO, &line[0..behind]);
+// A byte as a count. A call of it asks for no proof that the byte fits.
+fn wide(byte: u8) -> usize {
+    byte as usize
 }
 
-fn put_digit(line: &mut [u8], at: usize, digit: u8) -> usize {
-    put_number(line, at, digit as usize)
-}
-
-// Digits as themselves, `-` for none.
-pub fn put_digits(line: &mut [u8], at: usize, digits: &[u8]) -> usize {
-    if digits.len() == 0 {
-        return put_byte(line, at, b'-');
+// A number of digits, its length in front: the digits as themselves, `-` for none.
+pub fn put_digits(page: Page, number: Words) -> Page {
+    let bytes = bytes_of(number);
+    let count = least(wide(bytes[0]), 15);
+    if count == 0 {
+        return put_text(page, b" -");
     }
-    let mut next = at;
+    let mut text = [b' '; 16];
     let mut i = 0;
-    while i < digits.len() {
-        next = put_digit(line, next, digits[i]);
+    while i < count {
+        text[i + 1] = hex_digit(bytes[i + 1]);
         i += 1;
     }
-    next
+    put_text(page, part(&text, 0, count + 1))
+}
+
+// The line's end, and the line goes out.
+pub fn print_line(page: Page) {
+    let ended = put_text(page, b"\n");
+    let bytes = ended.bytes;
+    io::write_all(STDOUT_FILENO, part(&bytes, 1, ended.at));
 }

@@ -1,6 +1,5 @@
-// Reading a script: a slice of bytes and a place in it. Each function reads one kind of field from a place on, and answers
-// what stands there and the place behind it, or that the script ended inside the field. None has a `requires`, so that the
-// functions that read an entry field by field are proved without a file.
+// Reading a script: a slice of bytes and a place in it. Each function reads one kind of field from a place on, and answers what stands there and the place behind
+// it, or that the script ended inside the field. None has a `requires`, so that the functions that read an entry field by field are proved without a file.
 
 // Where the next entry begins; or that this one can't be played, since the script ended inside it or it is not listed.
 pub enum Next {
@@ -14,7 +13,7 @@ pub enum ByteRead {
     Ended,
 }
 
-// The places of a run's first byte and behind its last one. An enum can't hold a slice: `run` has the bytes.
+// The places of a run's first byte and behind its last one. An enum can't hold a slice: `printing::part` has the bytes.
 pub enum RunRead {
     Run(usize, usize),
     Ended,
@@ -44,14 +43,4 @@ pub fn run_at(script: &[u8], at: usize) -> RunRead {
         return RunRead::Run(start, start + count);
     }
     RunRead::Ended
-}
-
-// The bytes of a run that was read. Places that no run has, out of order or past the end, are no bytes.
-pub fn run(script: &[u8], start: usize, behind: usize) -> &[u8] {
-    if behind <= script.len() {
-        if start <= behind {
-            return &script[start..behind];
-        }
-    }
-    &script[..0]
 }

@@ -1,16 +1,14 @@
--- The invariant: the index stays within the sixteen places, and the line keeps its length. The loop ends because the index goes up.
+-- The invariant: the index stays within the count. The loop ends because the index goes up.
 use Prim.Native.Nat.{_≤_, _-_}
-use mathlib.Core.Path.{_≡_}
-use lib.ListN.{length}
 use borrow.Author.Needs.{needs}
 use Rattle.replay.proofs.line_lines.print_lines.Statement.{statement}
 use Rattle.replay.proofs.line_lines.print_lines.Tie as tie
 
 abbrev Inv-loop : tie.InvT-loop
-Inv-loop line₀ words i₀ line i = (i ≤ 16) × (length line ≡ length line₀)
+Inv-loop words count i₀ i = i ≤ count
 
 abbrev μ-loop : tie.MeasureT-loop
-μ-loop line₀ words i₀ line i = 16 - i
+μ-loop words count i₀ i = count - i
 
 loop-holds : tie.Need-loop-holds Inv-loop μ-loop
 loop-holds c = search needs
@@ -18,8 +16,8 @@ loop-holds c = search needs
 load-line-requires : tie.Need-load-line-requires Inv-loop μ-loop
 load-line-requires c κs = search needs
 
-print-line-place-requires : tie.Need-print-line-place-requires Inv-loop μ-loop
-print-line-place-requires c κs = search needs
+print-one-line-requires : tie.Need-print-one-line-requires Inv-loop μ-loop
+print-one-line-requires c κs = search needs
 
 add-i : tie.Need-add-i Inv-loop μ-loop
 add-i c = search needs
@@ -29,9 +27,6 @@ loop-less c = search needs
 
 loop-again : tie.Need-loop-again Inv-loop μ-loop
 loop-again c = search needs
-
-same-length : tie.Need-same-length Inv-loop μ-loop
-same-length c = search needs
 
 returns : tie.Need-returns Inv-loop μ-loop
 returns c = search needs
@@ -44,9 +39,8 @@ print-lines-spec =
     μ-loop
     loop-holds
     load-line-requires
-    print-line-place-requires
+    print-one-line-requires
     add-i
     loop-less
     loop-again
-    same-length
     returns)

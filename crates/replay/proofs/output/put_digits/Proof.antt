@@ -1,4 +1,4 @@
--- The invariant: the index stays within the digits, and the line keeps its length. The loop ends because the index goes up.
+-- The invariant: the index stays within the digits that are put, and the text keeps its length. The loop ends because the index goes up.
 use Prim.Native.Nat.{_≤_, _-_}
 use mathlib.Core.Path.{_≡_}
 use lib.ListN.{length}
@@ -7,16 +7,28 @@ use Rattle.replay.proofs.output.put_digits.Statement.{statement}
 use Rattle.replay.proofs.output.put_digits.Tie as tie
 
 abbrev Inv-loop : tie.InvT-loop
-Inv-loop line₀ at digits next₀ i₀ line next i = (i ≤ length digits) × (length line ≡ length line₀)
+Inv-loop page bytes count text₀ i₀ text i = (i ≤ count) × (length text ≡ 16)
 
 abbrev μ-loop : tie.MeasureT-loop
-μ-loop line₀ at digits next₀ i₀ line next i = length digits - i
+μ-loop page bytes count text₀ i₀ text i = count - i
 
-put-byte-requires : tie.Need-put-byte-requires Inv-loop μ-loop
-put-byte-requires c κs = search needs
+bytes-of-requires : tie.Need-bytes-of-requires Inv-loop μ-loop
+bytes-of-requires c κs = search needs
 
-same-length : tie.Need-same-length Inv-loop μ-loop
-same-length c = search needs
+array-read-wide : tie.Need-array-read-wide Inv-loop μ-loop
+array-read-wide c = search needs
+
+wide-requires : tie.Need-wide-requires Inv-loop μ-loop
+wide-requires c κs = search needs
+
+least-requires : tie.Need-least-requires Inv-loop μ-loop
+least-requires c κs = search needs
+
+slice-aggregate-put-text : tie.Need-slice-aggregate-put-text Inv-loop μ-loop
+slice-aggregate-put-text c = search needs
+
+put-text-requires : tie.Need-put-text-requires Inv-loop μ-loop
+put-text-requires c κs = search needs
 
 returns : tie.Need-returns Inv-loop μ-loop
 returns c = search needs
@@ -24,11 +36,20 @@ returns c = search needs
 loop-holds : tie.Need-loop-holds Inv-loop μ-loop
 loop-holds c = search needs
 
-shared-slice-read-put-digit : tie.Need-shared-slice-read-put-digit Inv-loop μ-loop
-shared-slice-read-put-digit c = search needs
+add-hex-digit : tie.Need-add-hex-digit Inv-loop μ-loop
+add-hex-digit c = search needs
 
-put-digit-requires : tie.Need-put-digit-requires Inv-loop μ-loop
-put-digit-requires c κs = search needs
+array-read-hex-digit : tie.Need-array-read-hex-digit Inv-loop μ-loop
+array-read-hex-digit c = search needs
+
+hex-digit-requires : tie.Need-hex-digit-requires Inv-loop μ-loop
+hex-digit-requires c κs = search needs
+
+add-text : tie.Need-add-text Inv-loop μ-loop
+add-text c = search needs
+
+array-write-text : tie.Need-array-write-text Inv-loop μ-loop
+array-write-text c = search needs
 
 add-i : tie.Need-add-i Inv-loop μ-loop
 add-i c = search needs
@@ -39,8 +60,17 @@ loop-less c = search needs
 loop-again : tie.Need-loop-again Inv-loop μ-loop
 loop-again c = search needs
 
-same-length-2 : tie.Need-same-length-2 Inv-loop μ-loop
-same-length-2 c = search needs
+slice-aggregate-part : tie.Need-slice-aggregate-part Inv-loop μ-loop
+slice-aggregate-part c = search needs
+
+add-part : tie.Need-add-part Inv-loop μ-loop
+add-part c = search needs
+
+part-requires : tie.Need-part-requires Inv-loop μ-loop
+part-requires c κs = search needs
+
+put-text-requires-2 : tie.Need-put-text-requires-2 Inv-loop μ-loop
+put-text-requires-2 c κs = search needs
 
 returns-2 : tie.Need-returns-2 Inv-loop μ-loop
 returns-2 c = search needs
@@ -51,14 +81,24 @@ put-digits-spec =
     (tie.spec
     Inv-loop
     μ-loop
-    put-byte-requires
-    same-length
+    bytes-of-requires
+    array-read-wide
+    wide-requires
+    least-requires
+    slice-aggregate-put-text
+    put-text-requires
     returns
     loop-holds
-    shared-slice-read-put-digit
-    put-digit-requires
+    add-hex-digit
+    array-read-hex-digit
+    hex-digit-requires
+    add-text
+    array-write-text
     add-i
     loop-less
     loop-again
-    same-length-2
+    slice-aggregate-part
+    add-part
+    part-requires
+    put-text-requires-2
     returns-2)
