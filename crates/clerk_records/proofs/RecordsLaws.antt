@@ -16,7 +16,7 @@ use Rattle.lists.proofs.Choice.{pick-elim}
 use Rattle.lists.proofs.Lists.{without-past}
 use Rattle.store.specs.Rows.{stateWord, live, free, hasIdentifier, rows, blankRow, rowsFit, found, removedRow}
 use Rattle.store.proofs.RowsLaws.{fit-from, put-length, drop-length}
-use Rattle.store.proofs.Decoded.{decoded-length, decoded-past, decoded-found, decoded-at, decoded-put, decoded-drop}
+use Rattle.store.proofs.Decoded.{identified-live, free-live, decoded-length, decoded-past, decoded-found, decoded-at, decoded-put, decoded-drop}
 use Rattle.terms.specs.Terms as Terms
 use Rattle.terms.specs.Terms.{termsOf}
 use Rattle.terms.proofs.CodesLaws.{flag-back}
@@ -62,23 +62,12 @@ pub used-row : (row : List ℕ) → live lastState row ≡ used (recordOf row)
 unfolding live recordOf
 used-row row = state-live (stateWord row)
 
-both-both : (a b c : Bool) → both a (both b c) ≡ both (both a b) c
-both-both true b c = refl
-both-both false b c = refl
-
 identified-row : (identifier : Words) (row : List ℕ) → hasIdentifier lastState identifier row ≡ identified identifier (recordOf row)
-unfolding hasIdentifier recordOf termsOf sameWords
-identified-row identifier row =
-    both-both (eqb (getD row 0 0) (identifier .low)) (eqb (getD row 1 0) (identifier .high)) (live lastState row)
-    ∙ ap (both (both (eqb (getD row 0 0) (identifier .low)) (eqb (getD row 1 0) (identifier .high)))) (used-row row)
+unfolding recordOf termsOf
+identified-row identifier row = identified-live lastState identifier row (used (recordOf row)) (used-row row)
 
 unused-row : (row : List ℕ) → free lastState row ≡ unused (recordOf row)
-unfolding free
-unused-row row = rw (used-row row) (not-used (used (recordOf row)))
-  where
-    not-used : (b : Bool) → not b ≡ pick b false true
-    not-used true = refl
-    not-used false = refl
+unused-row row = free-live lastState row (used (recordOf row)) (used-row row)
 
 -- ---- places
 pub records-length : (ws : List ℕ) → length (records ws) ≡ places

@@ -15,7 +15,7 @@ use Rattle.lists.specs.declared.words.Words.{Words}
 use Rattle.lists.proofs.Choice.{pick-elim}
 use Rattle.store.specs.Rows.{stateWord, live, free, hasIdentifier, putRow, dropRow, blankRow, rowsFit, found}
 use Rattle.store.proofs.RowsLaws.{fit-from}
-use Rattle.store.proofs.Decoded.{decoded-length, decoded-at, decoded-past, decoded-found, decoded-put, decoded-drop}
+use Rattle.store.proofs.Decoded.{identified-live, free-live, decoded-length, decoded-at, decoded-past, decoded-found, decoded-put, decoded-drop}
 use Rattle.terms.specs.Terms as Terms
 use Rattle.terms.specs.Terms.{termsOf}
 use Rattle.terms.proofs.CodesLaws.{flag-back}
@@ -79,24 +79,12 @@ used-row : (row : List ℕ) → live Layout.lastState row ≡ used (recordOf row
 unfolding live recordOf
 used-row row = state-live (stateWord row)
 
-both-both : (a b c : Bool) → both a (both b c) ≡ both (both a b) c
-both-both true b c = refl
-both-both false b c = refl
-
 identified-row : (identifier : Words) (row : List ℕ) → hasIdentifier Layout.lastState identifier row ≡ identified identifier (recordOf row)
-unfolding hasIdentifier recordOf termsOf sameWords
-identified-row identifier row =
-    let low : Bool = eqb (getD row 0 0) (identifier .low) in
-    let high : Bool = eqb (getD row 1 0) (identifier .high) in
-    both-both low high (live Layout.lastState row) ∙ ap (λ (b : Bool). both (both low high) b) (used-row row)
+unfolding recordOf termsOf
+identified-row identifier row = identified-live Layout.lastState identifier row (used (recordOf row)) (used-row row)
 
 unused-row : (row : List ℕ) → free Layout.lastState row ≡ unused (recordOf row)
-unfolding free
-unused-row row = rw (used-row row) (not-used (used (recordOf row)))
-  where
-    not-used : (b : Bool) → not b ≡ pick b false true
-    not-used true = refl
-    not-used false = refl
+unused-row row = free-live Layout.lastState row (used (recordOf row)) (used-row row)
 
 -- ---- the laws of decoded rows
 pub records-fit : (words : List ℕ) → Layout.linesAt ≤ length words → rowsFit Layout.width Layout.places (length words) ≡ true

@@ -1,14 +1,18 @@
 -- Rows of words read as records, over any width, count, type and decoder: each search, each store and each delete in words is the same in records. By the laws of rows, row by row.
 use Prim.Native.Nat.{ℕ, zero, suc, _*_, _≤_, _<_}
 use mathlib.Core.Path.{_≡_, refl, sym, ap, _∙_}
-use mathlib.Core.Bool.{Bool, true}
+use mathlib.Core.Bool.{Bool, true, false, not}
 use mathlib.Core.List.{List, [], _∷_, map}
 use lib.ListN.{length, getD, take, drop, set, length-map, List·getD-map}
 use native.Mathlib.Omega.{arith}
 use borrow.Author.Tests.{lt-ltb}
-use Rattle.lists.specs.Lists.{first, without}
+use lib.Dec.{eqb}
+use Rattle.lists.specs.Choice.{pick}
+use Rattle.lists.specs.Lists.{both, first, without}
+use Rattle.lists.specs.Words.{sameWords}
+use Rattle.lists.specs.declared.words.Words.{Words}
 use Rattle.lists.proofs.Lists.{first-map, first-same, map-set, map-without}
-use Rattle.store.specs.Rows.{rows, putRow, dropRow, blankRow, rowsFit, found, removedRow}
+use Rattle.store.specs.Rows.{live, free, hasIdentifier, rows, putRow, dropRow, blankRow, rowsFit, found, removedRow}
 use Rattle.store.proofs.RowsLaws.{rows-length, rows-at, rows-put, rows-drop}
 
 getD-past : {A : Type 0} (xs : List A) (i : ℕ) (d : A) → length xs ≤ i → getD xs i d ≡ d
@@ -24,6 +28,27 @@ found-fit test width count ws fit = rw fit
 pub removed-fit : (width count : ℕ) (ws : List ℕ) (i : ℕ) → rowsFit width count (length ws) ≡ true → i < count → removedRow width count ws i ≡ dropRow width count ws i
 unfolding removedRow
 removed-fit width count ws i fit h = rw (fit, lt-ltb i count h)
+
+-- where it is known whether a row is live: what an identifier finds, and what is free
+both-both : (a b c : Bool) → both a (both b c) ≡ both (both a b) c
+both-both true b c = refl
+both-both false b c = refl
+
+pub identified-live : (top : ℕ) (identifier : Words) (row : List ℕ) (used : Bool) → live top row ≡ used
+    → hasIdentifier top identifier row ≡ both (sameWords (record { low = getD row 0 0; high = getD row 1 0 }) identifier) used
+unfolding hasIdentifier sameWords
+identified-live top identifier row used e =
+    let low : Bool = eqb (getD row 0 0) (identifier .low) in
+    let high : Bool = eqb (getD row 1 0) (identifier .high) in
+    both-both low high (live top row) ∙ ap (λ (b : Bool). both (both low high) b) e
+
+pub free-live : (top : ℕ) (row : List ℕ) (used : Bool) → live top row ≡ used → free top row ≡ pick used false true
+unfolding free
+free-live top row used e = rw e (turned used)
+  where
+    turned : (b : Bool) → not b ≡ pick b false true
+    turned true = refl
+    turned false = refl
 
 module _ {A : Type 0} (width count : ℕ) (decode : List ℕ → A) where
   pub decoded-length : (ws : List ℕ) → length (map decode (rows width count ws)) ≡ count
