@@ -67,12 +67,9 @@ fn state_at(d: Desk, identifier: Words) -> usize {
 }
 
 fn played(d: Desk, entry: Entry) -> Stepped {
-    let mut words = d.words;
-    let outcome = clerk::on_words::step(&mut words, entry);
-    Stepped {
-        desk: Desk { words },
-        outcome,
-    }
+    let mut desk = d;
+    let outcome = lent::clerk_desk::step(&mut desk, entry);
+    Stepped { desk, outcome }
 }
 
 // What comes of what the desk is given.

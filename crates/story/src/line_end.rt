@@ -87,12 +87,9 @@ fn state_at(d: Desk, about: About) -> usize {
 }
 
 fn played(d: Desk, entry: Entry) -> Stepped {
-    let mut words = d.words;
-    let outcome = line::on_words::step(&mut words, entry);
-    Stepped {
-        desk: Desk { words },
-        outcome,
-    }
+    let mut desk = d;
+    let outcome = lent::line_desk::step(&mut desk, entry);
+    Stepped { desk, outcome }
 }
 
 // What came of an event is shown, and what it sends goes onto the wire.
