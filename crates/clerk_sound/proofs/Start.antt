@@ -7,13 +7,14 @@ use lib.ListN.{getD, replicate}
 use Rattle.lists.proofs.Choice.{no-true}
 use Rattle.store.specs.Rows.{rows}
 use Rattle.terms.specs.Terms.{termsOf}
+use Rattle.places.proofs.Holding.{held-nothing}
 use Rattle.places.proofs.Staying.{start-placed}
 use Rattle.clerk_table.specs.declared.record.Record.{Record}
 use Rattle.clerk_records.specs.Codes.{stateOf}
 use Rattle.clerk_records.specs.Layout.{places}
 use Rattle.clerk_records.specs.Records.{recordOf, blank, records, used}
 use Rattle.clerk.specs.Steps.{startedDesk}
-use Rattle.clerk_sound.specs.Sound.{clerkView, StartSound}
+use Rattle.clerk_sound.specs.Sound.{clerkView, StartSound, StartEmpty}
 
 -- a blank record is not used
 pub blank-unused : used blank ≡ false
@@ -32,9 +33,15 @@ start-records = refl
 pub start-blank : (i : ℕ) → getD (records (startedDesk .words)) i blank ≡ blank
 start-blank i = ap (λ (rs : List Record). getD rs i blank) start-records ∙ replicate-at places blank i
 
+pub start-unused : (i : ℕ) → used (getD (records (startedDesk .words)) i blank) ≡ false
+start-unused i = ap used (start-blank i) ∙ blank-unused
+
+pub start-empty : StartEmpty
+start-empty identifier = held-nothing clerkView identifier (records (startedDesk .words)) start-unused
+
 pub start-sound : StartSound
 start-sound =
     record {
       placed = start-placed clerkView (records (startedDesk .words)) start-blank blank-unused;
-      each = λ i u. absurd (no-true (sym (ap used (start-blank i) ∙ blank-unused) ∙ u));
+      each = λ i u. absurd (no-true (sym (start-unused i) ∙ u));
     }

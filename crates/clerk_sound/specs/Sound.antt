@@ -17,6 +17,7 @@ use Rattle.desk.specs.declared.Connection.the-variants as Connection
 use Rattle.desk.specs.declared.Keep.the-variants as Keep
 use Rattle.terms.specs.declared.request.Names.{Names}
 use Rattle.terms.specs.declared.request.Request.{Request}
+use Rattle.places.specs.Places as Places
 use Rattle.places.specs.Places.{View, Placed, stored, held, names, Queued}
 use Rattle.clerk_table.specs.Inputs.{namesOf}
 use Rattle.clerk_table.specs.declared.table.State.the-variants.{WaitAck}
@@ -89,6 +90,10 @@ pub data Reached : Desk → Type 0 where
 
 abbrev pub StartSound : Type 0
 StartSound = Sound (records (startedDesk .words))
+
+-- a started desk holds no request
+abbrev pub StartEmpty : Type 0
+StartEmpty = (identifier : Words) → held clerkView identifier (records (startedDesk .words)) ≡ Places.none
 
 abbrev pub ReachedSound : Type 0
 ReachedSound = (d : Desk) → Reached d → Sound (records (d .words))

@@ -6,7 +6,7 @@ use mathlib.Core.List.{List, [], _∷_}
 use lib.ListN.{length}
 use Rattle.lists.specs.declared.words.Words.{Words}
 use Rattle.places.specs.Places as P
-use Rattle.places.proofs.Holding.{identified-unused}
+use Rattle.places.proofs.Holding.{held-nothing}
 use Rattle.clerk_records.specs.Layout as ClerkLayout
 use Rattle.clerk_records.specs.Records as ClerkRecords
 use Rattle.clerk.specs.Steps.{startedDesk}
@@ -35,15 +35,8 @@ line-placed {d} r = LineReaching.reached-sound d r .placed
 pub line-full : {d : LineDesk.Desk} → LineSound.Reached d → length (d .words) ≡ LineLayout.words
 line-full {d} r = LineReaching.reached-sound d r .full
 
--- a list without a used record holds nothing
-held-nothing : {A : Type 0} (v : P.View A) (j : Words) (rs : List A) → ((i : ℕ) → v .used (P.at v rs i) ≡ false) → P.held v j rs ≡ P.none
-unfolding P.held
-held-nothing v j [] h = refl
-held-nothing v j (r ∷ rs) h = rw (identified-unused v j r (h 0)) (held-nothing v j rs (λ i. h (suc i)))
-
 pub clerk-started : (j : Words) → P.held ClerkSound.clerkView j (ClerkRecords.records (startedDesk .words)) ≡ P.none
-clerk-started j =
-    held-nothing ClerkSound.clerkView j (ClerkRecords.records (startedDesk .words)) (λ i. ap ClerkRecords.used (ClerkStart.start-blank i) ∙ ClerkStart.blank-unused)
+clerk-started j = ClerkStart.start-empty j
 
 pub line-started :
     (given : List ℕ) (keep retain : Bool) (j : Words) → P.held LineSound.lineView j (LineRecords.records (started given keep retain .desk .words)) ≡ P.none

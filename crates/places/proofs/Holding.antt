@@ -30,6 +30,12 @@ module _ {A : Type 0} (v : View A) where
   pub identified-unused : (identifier : Words) (r : A) → v .used r ≡ false → identified v identifier r ≡ false
   identified-unused identifier r f = both-unused (sameWords (v .name r) identifier) f
 
+  -- a list without a used record holds nothing
+  pub held-nothing : (identifier : Words) (rs : List A) → ((i : ℕ) → v .used (at v rs i) ≡ false) → held v identifier rs ≡ none
+  unfolding held
+  held-nothing identifier [] h = refl
+  held-nothing identifier (r ∷ rs) h = rw (identified-unused identifier r (h 0)) (held-nothing identifier rs (λ i. h (suc i)))
+
   -- ---- what is held, by its first record
   held-here : (identifier : Words) (r : A) (rs : List A) → identified v identifier r ≡ true → held v identifier (r ∷ rs) ≡ one r
   unfolding held
