@@ -14,22 +14,27 @@ use crate::script::RunRead;
 use crate::script::run_at;
 use clerk::entry::Asking;
 use clerk::entry::Entry;
-use clerk::entry::act_entry;
 use clerk::entry::ask_entry;
 use clerk::entry::bytes_entry;
-use clerk::entry::timer_entry;
 use clerk::on_words::step;
 use clerk::steps::start;
 use clerk_records::WORDS;
-use clerk_table::inputs::Act;
-use clerk_table::table::Timer;
+use host_numbers::given::clerk_act_given;
+use host_numbers::given::timer_given;
 use message::Kind;
 use printing::part;
 
-// What the desk is given, how many bytes were left unread, and where the next entry begins; or that this one can't be played.
-enum ClerkRead {
-    Given(Entry, usize, usize),
-    Stop,
+// What the desk is given, of which so many bytes were left unread. The next entry is told.
+fn play_given(
+    entry: Entry,
+    left: usize,
+    next: usize,
+    number: usize,
+    words: &mut [u64; WORDS],
+) -> Next {
+    let outcome = step(words, entry);
+    print_outcome(number, outcome, left);
+    Next::At(next)
 }
 
 // The places of an ask's two numbers of digits, of what follows them, and of the next entry.
@@ -85,71 +90,66 @@ fn ask_listed(kind: u8, canKeep: u8) -> bool {
 }
 
 // Code 16.
-fn read_ask(script: &[u8], at: usize) -> ClerkRead {
+fn play_ask(script: &[u8], at: usize, number: usize, words: &mut [u64; WORDS]) -> Next {
     match ask_places(script, at) {
-        AskRead::Ended => ClerkRead::Stop,
+        AskRead::Ended => Next::Stop,
         AskRead::Places(a, b, rest, next) => {
             if ask_listed(byte_in(script, at, 16), byte_in(script, rest, 2)) {
                 let entry = ask_entry(asking(script, at, a, b, rest));
-                return ClerkRead::Given(entry, 0, next);
+                return play_given(entry, 0, next, number, words);
             }
-            ClerkRead::Stop
+            Next::Stop
         }
     }
 }
 
-fn given_bytes(bytes: &[u8], busy: bool, next: usize) -> ClerkRead {
+fn play_heard(
+    bytes: &[u8],
+    busy: bool,
+    next: usize,
+    number: usize,
+    words: &mut [u64; WORDS],
+) -> Next {
     let read = bytes_entry(bytes, busy);
     let entry = read.entry;
-    ClerkRead::Given(entry, left_of(bytes.len(), read.next), next)
+    play_given(entry, left_of(bytes.len(), read.next), next, number, words)
 }
 
 // Code 17: User A's word, and then a run.
-fn read_bytes(script: &[u8], at: usize) -> ClerkRead {
+fn play_bytes(script: &[u8], at: usize, number: usize, words: &mut [u64; WORDS]) -> Next {
     match behind(script, at, 1) {
-        Next::Stop => ClerkRead::Stop,
+        Next::Stop => Next::Stop,
         Next::At(place) => match run_at(script, place) {
-            RunRead::Ended => ClerkRead::Stop,
-            RunRead::Run(first, next) => match byte_in(script, at, 0) {
-                0 => given_bytes(part(script, first, next), false, next),
-                1 => given_bytes(part(script, first, next), true, next),
-                _ => ClerkRead::Stop,
-            },
+            RunRead::Ended => Next::Stop,
+            RunRead::Run(first, next) => {
+                let busy = byte_in(script, at, 0);
+                if 1 < busy {
+                    return Next::Stop;
+                }
+                play_heard(part(script, first, next), busy == 1, next, number, words)
+            }
         },
     }
 }
 
-// What is done to a request that the entry names: an act of User A, or a timer that ran out.
-enum Named {
-    Act(Act),
-    Timer(Timer),
-    Unlisted,
-}
-
-// Codes 18 to 21, by the entry's last byte where there is a choice.
-fn named_by(code: u8, choice: u8) -> Named {
+// User A's act by its number for hosts: accept, resume, go on, cancel. User A free is two of them, by the entry's last byte; 0 is none.
+fn act_number(code: u8, choice: u8) -> u64 {
     match code {
-        18 => Named::Act(Act::Accept),
+        18 => 1,
         19 => match choice {
-            0 => Named::Act(Act::Resume),
-            1 => Named::Act(Act::GoOn),
-            _ => Named::Unlisted,
+            0 => 2,
+            1 => 3,
+            _ => 0,
         },
-        20 => Named::Act(Act::Cancel),
-        _ => match choice {
-            1 => Named::Timer(Timer::T1),
-            2 => Named::Timer(Timer::T2),
-            3 => Named::Timer(Timer::T3),
-            _ => Named::Unlisted,
-        },
+        _ => 4,
     }
 }
 
-fn given_named(named: Named, identifier: [u8; 16], next: usize) -> ClerkRead {
-    match named {
-        Named::Act(act) => ClerkRead::Given(act_entry(identifier, act), 0, next),
-        Named::Timer(timer) => ClerkRead::Given(timer_entry(identifier, timer), 0, next),
-        Named::Unlisted => ClerkRead::Stop,
+// An act of User A, or a timer that ran out, on the request of an identifier; refused where the choice isn't listed.
+fn named_entry(code: u8, choice: u8, identifier: [u8; 16]) -> Entry {
+    match code {
+        21 => timer_given(identifier, choice as u64),
+        _ => clerk_act_given(identifier, act_number(code, choice)),
     }
 }
 
@@ -162,37 +162,16 @@ fn named_size(code: u8) -> usize {
     }
 }
 
-fn read_named(code: u8, script: &[u8], at: usize) -> ClerkRead {
+// Codes 18 to 21.
+fn play_named(code: u8, script: &[u8], at: usize, number: usize, words: &mut [u64; WORDS]) -> Next {
     match behind(script, at, named_size(code)) {
-        Next::Stop => ClerkRead::Stop,
-        Next::At(next) => given_named(
-            named_by(code, byte_before(script, next)),
-            identifier_at(script, at),
-            next,
-        ),
-    }
-}
-
-fn read_entry(code: u8, script: &[u8], at: usize) -> ClerkRead {
-    match code {
-        16 => read_ask(script, at),
-        17 => read_bytes(script, at),
-        18..=21 => read_named(code, script, at),
-        _ => ClerkRead::Stop,
-    }
-}
-
-fn play_given(entry: Entry, left: usize, number: usize, words: &mut [u64; WORDS]) {
-    let outcome = step(words, entry);
-    print_outcome(number, outcome, left);
-}
-
-fn play_read(read: ClerkRead, number: usize, words: &mut [u64; WORDS]) -> Next {
-    match read {
-        ClerkRead::Stop => Next::Stop,
-        ClerkRead::Given(entry, left, next) => {
-            play_given(entry, left, number, words);
-            Next::At(next)
+        Next::Stop => Next::Stop,
+        Next::At(next) => {
+            let entry = named_entry(code, byte_before(script, next), identifier_at(script, at));
+            match entry {
+                Entry::Refused(_) => Next::Stop,
+                Entry::Given(_) => play_given(entry, 0, next, number, words),
+            }
         }
     }
 }
@@ -216,10 +195,13 @@ pub fn play_clerk(
 ) -> Next {
     match code {
         2 => play_start(at, number, words),
+        16 => play_ask(script, at, number, words),
+        17 => play_bytes(script, at, number, words),
+        18..=21 => play_named(code, script, at, number, words),
         64 => {
             print_clerk(number, words);
             Next::At(at)
         }
-        _ => play_read(read_entry(code, script, at), number, words),
+        _ => Next::Stop,
     }
 }

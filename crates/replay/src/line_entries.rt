@@ -12,8 +12,8 @@ use crate::outcome_line::print_outcome;
 use crate::script::Next;
 use crate::script::RunRead;
 use crate::script::run_at;
+use host_numbers::given::line_act_given;
 use line::entry::Entry;
-use line::entry::act_entry;
 use line::entry::bytes_entry;
 use line::entry::guard_entry;
 use line::entry::look_entry;
@@ -21,101 +21,83 @@ use line::entry::report_entry;
 use line::on_words::step;
 use line::start::start;
 use line_records::WORDS;
-use line_table::inputs::Act;
 use printing::part;
 
-// What the desk is given, how many bytes were left unread, and where the next entry begins; or that this one can't be played.
-enum LineRead {
-    Given(Entry, usize, usize),
-    Stop,
+// What the desk is given, of which so many bytes were left unread. The next entry is told.
+fn play_given(
+    entry: Entry,
+    left: usize,
+    next: usize,
+    number: usize,
+    words: &mut [u64; WORDS],
+) -> Next {
+    let outcome = step(words, entry);
+    print_outcome(number, outcome, left);
+    Next::At(next)
 }
 
-fn given_bytes(bytes: &[u8], next: usize) -> LineRead {
+fn play_heard(bytes: &[u8], next: usize, number: usize, words: &mut [u64; WORDS]) -> Next {
     let read = bytes_entry(bytes);
     let entry = read.entry;
-    LineRead::Given(entry, left_of(bytes.len(), read.next), next)
+    play_given(entry, left_of(bytes.len(), read.next), next, number, words)
 }
 
 // Code 32.
-fn read_bytes(script: &[u8], at: usize) -> LineRead {
+fn play_bytes(script: &[u8], at: usize, number: usize, words: &mut [u64; WORDS]) -> Next {
     match run_at(script, at) {
-        RunRead::Ended => LineRead::Stop,
-        RunRead::Run(first, next) => given_bytes(part(script, first, next), next),
+        RunRead::Ended => Next::Stop,
+        RunRead::Run(first, next) => play_heard(part(script, first, next), next, number, words),
     }
 }
 
-// Code 33, by the entry's last byte, the line's status.
-fn given_report(digits: [u8; 16], status: u8, next: usize) -> LineRead {
-    match status {
-        0 => LineRead::Given(report_entry(digits, false), 0, next),
-        1 => LineRead::Given(report_entry(digits, true), 0, next),
-        _ => LineRead::Stop,
-    }
-}
-
-fn read_report(script: &[u8], at: usize) -> LineRead {
+// Code 33: the entry's last byte is the line's status.
+fn play_report(script: &[u8], at: usize, number: usize, words: &mut [u64; WORDS]) -> Next {
     match behind_run(script, at, 1) {
-        Next::Stop => LineRead::Stop,
-        Next::At(next) => given_report(digits_at(script, at), byte_before(script, next), next),
+        Next::Stop => Next::Stop,
+        Next::At(next) => {
+            let status = byte_before(script, next);
+            if 1 < status {
+                return Next::Stop;
+            }
+            let entry = report_entry(digits_at(script, at), status == 1);
+            play_given(entry, 0, next, number, words)
+        }
     }
 }
 
 // Code 34.
-fn read_look(script: &[u8], at: usize) -> LineRead {
+fn play_look(script: &[u8], at: usize, number: usize, words: &mut [u64; WORDS]) -> Next {
     match behind_run(script, at, 0) {
-        Next::Stop => LineRead::Stop,
-        Next::At(next) => LineRead::Given(look_entry(digits_at(script, at)), 0, next),
+        Next::Stop => Next::Stop,
+        Next::At(next) => play_given(look_entry(digits_at(script, at)), 0, next, number, words),
     }
 }
 
-// Code 35, by the entry's last byte, the act.
-fn given_act(identifier: [u8; 16], act: u8, next: usize) -> LineRead {
-    match act {
-        1 => LineRead::Given(act_entry(identifier, Act::Alerted), 0, next),
-        2 => LineRead::Given(act_entry(identifier, Act::CallFailed), 0, next),
-        3 => LineRead::Given(act_entry(identifier, Act::Cancel), 0, next),
-        _ => LineRead::Stop,
-    }
-}
-
-fn read_act(script: &[u8], at: usize) -> LineRead {
+// Code 35: the entry's last byte is the act's number for hosts; one that isn't listed is refused.
+fn play_act(script: &[u8], at: usize, number: usize, words: &mut [u64; WORDS]) -> Next {
     match behind(script, at, 17) {
-        Next::Stop => LineRead::Stop,
-        Next::At(next) => given_act(identifier_at(script, at), byte_before(script, next), next),
+        Next::Stop => Next::Stop,
+        Next::At(next) => {
+            let entry = line_act_given(identifier_at(script, at), byte_before(script, next) as u64);
+            match entry {
+                Entry::Refused(_) => Next::Stop,
+                Entry::Given(_) => play_given(entry, 0, next, number, words),
+            }
+        }
     }
 }
 
 // Code 36.
-fn read_guard(script: &[u8], at: usize) -> LineRead {
+fn play_guard(script: &[u8], at: usize, number: usize, words: &mut [u64; WORDS]) -> Next {
     match behind(script, at, 16) {
-        Next::Stop => LineRead::Stop,
-        Next::At(next) => LineRead::Given(guard_entry(identifier_at(script, at)), 0, next),
-    }
-}
-
-fn read_entry(code: u8, script: &[u8], at: usize) -> LineRead {
-    match code {
-        32 => read_bytes(script, at),
-        33 => read_report(script, at),
-        34 => read_look(script, at),
-        35 => read_act(script, at),
-        36 => read_guard(script, at),
-        _ => LineRead::Stop,
-    }
-}
-
-fn play_given(entry: Entry, left: usize, number: usize, words: &mut [u64; WORDS]) {
-    let outcome = step(words, entry);
-    print_outcome(number, outcome, left);
-}
-
-fn play_read(read: LineRead, number: usize, words: &mut [u64; WORDS]) -> Next {
-    match read {
-        LineRead::Stop => Next::Stop,
-        LineRead::Given(entry, left, next) => {
-            play_given(entry, left, number, words);
-            Next::At(next)
-        }
+        Next::Stop => Next::Stop,
+        Next::At(next) => play_given(
+            guard_entry(identifier_at(script, at)),
+            0,
+            next,
+            number,
+            words,
+        ),
     }
 }
 
@@ -172,10 +154,15 @@ pub fn play_line(
 ) -> Next {
     match code {
         1 => play_start(script, at, number, words),
+        32 => play_bytes(script, at, number, words),
+        33 => play_report(script, at, number, words),
+        34 => play_look(script, at, number, words),
+        35 => play_act(script, at, number, words),
+        36 => play_guard(script, at, number, words),
         65 => {
             print_line_desk(number, words);
             Next::At(at)
         }
-        _ => play_read(read_entry(code, script, at), number, words),
+        _ => Next::Stop,
     }
 }
