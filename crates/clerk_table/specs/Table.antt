@@ -14,6 +14,7 @@ use Rattle.clerk_table.specs.declared.table.Timer.{Timer}
 use Rattle.clerk_table.specs.declared.table.Starts.{Starts}
 use Rattle.clerk_table.specs.declared.table.Stops.{Stops}
 use Rattle.clerk_table.specs.declared.table.Effect.{Effect}
+use Rattle.clerk_table.specs.declared.table.Rule.{Rule}
 use Rattle.clerk_table.specs.declared.table.State.the-variants.{Free, WaitAck, Invoked, WaitAnswer, Ringout, Suspended}
 use Rattle.clerk_table.specs.declared.table.Row.the-variants.{Accepted, DeniedShort, DeniedLong, Recalls, Suspends, RingsOut, Resumes, GoesOn, Completes, CallFails, BusyAgainKept, BusyAgainEnded, NotMatched, LineCancels, UserCancels, T1RunsOut, T2RunsOut, T3RunsOut}
 use Rattle.clerk_table.specs.declared.table.Home.the-variants.{InWaitAck, InInvoked, InWaitAnswer, InRingout, InSuspended, WhereT2Counts, Always}
@@ -59,16 +60,12 @@ cleared nothing = false
 cleared clears = true
 
 -- a row of the table: where it is taken, and what it does
-pub record Rule : Type 0 where
-  pub home : Home
-  pub effect : Effect
+abbrev pub rule : Home → Next → Sends → Starts → Stops → Notice → Bool → Rule
+rule home next message start stop notice call =
+    record { home = home; effect = record { next = next; sends = message; starts = start; stops = stop; notice = notice; clears = call } }
 
 abbrev row : Home → Next → Cell sending → Cell starting → Cell stopping → Cell noticing → Cell clearing → Rule
-row home next message start stop notice call =
-    record {
-      home = home;
-      effect = record { next = next; sends = sent message; starts = started start; stops = stopped stop; notice = noticed notice; clears = cleared call };
-    }
+row home next message start stop notice call = rule home next (sent message) (started start) (stopped stop) (noticed notice) (cleared call)
 
 -- ---- the table
 -- taken in · then · sends · starts · stops · notice · clears the call
