@@ -18,14 +18,14 @@ use Rattle.terms.specs.Request.{letterNames, onlyIdentifier}
 use Rattle.terms.specs.declared.request.Names.{Names}
 use Rattle.clerk_table.specs.Record.{withTerms}
 use Rattle.clerk_table.specs.declared.table.Row.{Row}
-use Rattle.clerk_table.specs.declared.table.Row.the-variants.{Accepted, DeniedShort, DeniedLong, Recalls, Suspends, RingsOut, Resumes, GoesOn, Completes, CallFails, BusyAgainKept, BusyAgainEnded, NotMatched, LineCancels, UserCancels, T1RunsOut, T2RunsOut, T3RunsOut}
+use Rattle.clerk_table.specs.declared.table.Row.the-variants as Row
 use Rattle.clerk_table.specs.declared.table.Timer.{Timer}
 use Rattle.clerk_table.specs.declared.table.Timer.the-variants.{T1, T2, T3}
 use Rattle.clerk_table.specs.declared.record.Record.{Record}
 use Rattle.clerk_table.specs.declared.inputs.Input.{Input}
 use Rattle.clerk_table.specs.declared.inputs.Input.the-variants as Input
 use Rattle.clerk_table.specs.declared.inputs.Act.{Act}
-use Rattle.clerk_table.specs.declared.inputs.Act.the-variants.{Accept, Resume, GoOn, Cancel}
+use Rattle.clerk_table.specs.declared.inputs.Act.the-variants as Act
 use Rattle.clerk_table.specs.declared.inputs.RecordMessage.{RecordMessage}
 use Rattle.clerk_table.specs.declared.inputs.RecordMessage.the-variants as Message
 use Rattle.clerk_table.specs.declared.inputs.Meant.{Meant}
@@ -55,42 +55,42 @@ messageFor Body.CallFailed = Meant.Record Message.Failed
 
 -- 1 short, 2 long
 abbrev pub errorRow : ℕ → Row
-errorRow error = pick (eqb error 1) DeniedShort DeniedLong
+errorRow error = pick (eqb error 1) Row.DeniedShort Row.DeniedLong
 
 -- the host's word on User A
 abbrev pub possibleRow : Bool → Row
-possibleRow busy = pick busy Suspends Recalls
+possibleRow busy = pick busy Row.Suspends Row.Recalls
 
 abbrev pub busyAgainRow : Keep → Row
-busyAgainRow Empty = BusyAgainEnded
-busyAgainRow Ends = BusyAgainEnded
-busyAgainRow Keeps = BusyAgainKept
+busyAgainRow Empty = Row.BusyAgainEnded
+busyAgainRow Ends = Row.BusyAgainEnded
+busyAgainRow Keeps = Row.BusyAgainKept
 
 -- 1 remoteUserBusyAgain, 2 failureToMatch
 abbrev pub ringoutErrorRow : ℕ → Keep → Row
-ringoutErrorRow error keep = pick (eqb error 1) (busyAgainRow keep) NotMatched
+ringoutErrorRow error keep = pick (eqb error 1) (busyAgainRow keep) Row.NotMatched
 
 -- by the host's word on User A and by the record's keep choice
 abbrev pub rowFor : RecordMessage → Bool → Keep → Row
-rowFor (Message.Result keep) busy chosen = Accepted
+rowFor (Message.Result keep) busy chosen = Row.Accepted
 rowFor (Message.Error error) busy chosen = errorRow error
 rowFor Message.ExecPossible busy chosen = possibleRow busy
 rowFor (Message.RingoutError error) busy chosen = ringoutErrorRow error chosen
-rowFor Message.Cancel busy chosen = LineCancels
-rowFor Message.Alerts busy chosen = Completes
-rowFor Message.Failed busy chosen = CallFails
+rowFor Message.Cancel busy chosen = Row.LineCancels
+rowFor Message.Alerts busy chosen = Row.Completes
+rowFor Message.Failed busy chosen = Row.CallFails
 
 -- ---- acts and timers
 abbrev pub rowOfAct : Act → Row
-rowOfAct Accept = RingsOut
-rowOfAct Resume = Resumes
-rowOfAct GoOn = GoesOn
-rowOfAct Cancel = UserCancels
+rowOfAct Act.Accept = Row.RingsOut
+rowOfAct Act.Resume = Row.Resumes
+rowOfAct Act.GoOn = Row.GoesOn
+rowOfAct Act.Cancel = Row.UserCancels
 
 abbrev pub rowOfTimer : Timer → Row
-rowOfTimer T1 = T1RunsOut
-rowOfTimer T2 = T2RunsOut
-rowOfTimer T3 = T3RunsOut
+rowOfTimer T1 = Row.T1RunsOut
+rowOfTimer T2 = Row.T2RunsOut
+rowOfTimer T3 = Row.T3RunsOut
 
 -- ---- replies: ccCancel
 -- on 6, to a result (document 01) or ccExecPossible (8.1.2.6, first paragraph)

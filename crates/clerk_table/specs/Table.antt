@@ -14,8 +14,9 @@ use Rattle.clerk_table.specs.declared.table.Timer.{Timer}
 use Rattle.clerk_table.specs.declared.table.Starts.{Starts}
 use Rattle.clerk_table.specs.declared.table.Stops.{Stops}
 use Rattle.clerk_table.specs.declared.table.Effect.{Effect}
+use Rattle.clerk_table.specs.declared.table.Rule.{Rule}
 use Rattle.clerk_table.specs.declared.table.State.the-variants.{Free, WaitAck, Invoked, WaitAnswer, Ringout, Suspended}
-use Rattle.clerk_table.specs.declared.table.Row.the-variants.{Accepted, DeniedShort, DeniedLong, Recalls, Suspends, RingsOut, Resumes, GoesOn, Completes, CallFails, BusyAgainKept, BusyAgainEnded, NotMatched, LineCancels, UserCancels, T1RunsOut, T2RunsOut, T3RunsOut}
+use Rattle.clerk_table.specs.declared.table.Row.the-variants as Row
 use Rattle.clerk_table.specs.declared.table.Home.the-variants.{InWaitAck, InInvoked, InWaitAnswer, InRingout, InSuspended, WhereT2Counts, Always}
 use Rattle.clerk_table.specs.declared.table.Next.the-variants.{Gone, To}
 use Rattle.clerk_table.specs.declared.table.Timer.the-variants.{T1, T2, T3}
@@ -59,56 +60,52 @@ cleared nothing = false
 cleared clears = true
 
 -- a row of the table: where it is taken, and what it does
-pub record Rule : Type 0 where
-  pub home : Home
-  pub effect : Effect
+abbrev pub rule : Home → Next → Sends → Starts → Stops → Notice → Bool → Rule
+rule home next message start stop notice call =
+    record { home = home; effect = record { next = next; sends = message; starts = start; stops = stop; notice = notice; clears = call } }
 
 abbrev row : Home → Next → Cell sending → Cell starting → Cell stopping → Cell noticing → Cell clearing → Rule
-row home next message start stop notice call =
-    record {
-      home = home;
-      effect = record { next = next; sends = sent message; starts = started start; stops = stopped stop; notice = noticed notice; clears = cleared call };
-    }
+row home next message start stop notice call = rule home next (sent message) (started start) (stopped stop) (noticed notice) (cleared call)
 
 -- ---- the table
 -- taken in · then · sends · starts · stops · notice · clears the call
 abbrev pub ruleOf : Row → Rule
 -- type 3, result, in Wait-Ack (8.1.1.3; T2 by 8.1.1.1 and 8.1.1.2)
-ruleOf Accepted = row InWaitAck (To Invoked) nothing (starts T2) (stops T1) (says Says.Accepted) nothing
+ruleOf Row.Accepted = row InWaitAck (To Invoked) nothing (starts T2) (stops T1) (says Says.Accepted) nothing
 -- type 4, request error 1 (short), in Wait-Ack (8.1.2.1)
-ruleOf DeniedShort = row InWaitAck Gone nothing nothing all (says Says.DeniedShort) nothing
+ruleOf Row.DeniedShort = row InWaitAck Gone nothing nothing all (says Says.DeniedShort) nothing
 -- type 4, request error 2 (long), in Wait-Ack (8.1.2.1)
-ruleOf DeniedLong = row InWaitAck Gone nothing nothing all (says Says.DeniedLong) nothing
+ruleOf Row.DeniedLong = row InWaitAck Gone nothing nothing all (says Says.DeniedLong) nothing
 -- type 5, ccExecPossible, in Invoked, User A not busy (8.1.1.4)
-ruleOf Recalls = row InInvoked (To WaitAnswer) nothing (starts T3) nothing (says Says.Recall) nothing
+ruleOf Row.Recalls = row InInvoked (To WaitAnswer) nothing (starts T3) nothing (says Says.Recall) nothing
 -- type 5, ccExecPossible, in Invoked, User A busy (8.1.1.5)
-ruleOf Suspends = row InInvoked (To Suspended) (sends CcSuspend) nothing nothing nothing nothing
+ruleOf Row.Suspends = row InInvoked (To Suspended) (sends CcSuspend) nothing nothing nothing nothing
 -- accept in Wait-Answer (8.1.1.4)
-ruleOf RingsOut = row InWaitAnswer (To Ringout) (sends CcRingout) nothing (stops T3) nothing nothing
+ruleOf Row.RingsOut = row InWaitAnswer (To Ringout) (sends CcRingout) nothing (stops T3) nothing nothing
 -- User A free in Suspended: resume (8.1.1.5, of RLS too: the connection choice is for life)
-ruleOf Resumes = row InSuspended (To Invoked) (sends CcResume) nothing nothing nothing nothing
+ruleOf Row.Resumes = row InSuspended (To Invoked) (sends CcResume) nothing nothing nothing nothing
 -- User A free in Suspended: go on to recall (8.1.1.5, last paragraph)
-ruleOf GoesOn = row InSuspended (To WaitAnswer) nothing (starts T3) nothing (says Says.Recall) nothing
+ruleOf Row.GoesOn = row InSuspended (To WaitAnswer) nothing (starts T3) nothing (says Says.Recall) nothing
 -- type 11, call alerts, in Ringout (8.1.1.4)
-ruleOf Completes = row InRingout Gone nothing nothing all (says Says.Completed) nothing
+ruleOf Row.Completes = row InRingout Gone nothing nothing all (says Says.Completed) nothing
 -- type 12, call failed, in Ringout (8.1.2.4, last paragraph, and 8.1.1.6 a: mend M2)
-ruleOf CallFails = row InRingout Gone (sends CcCancel) nothing all (says Says.Failed) nothing
+ruleOf Row.CallFails = row InRingout Gone (sends CcCancel) nothing all (says Says.Failed) nothing
 -- type 7, ringout error 1 (busy again), in Ringout, keep chosen (8.1.2.4)
-ruleOf BusyAgainKept = row InRingout (To Invoked) nothing nothing nothing (says Says.BusyAgainKept) nothing
+ruleOf Row.BusyAgainKept = row InRingout (To Invoked) nothing nothing nothing (says Says.BusyAgainKept) nothing
 -- type 7, ringout error 1 (busy again), in Ringout, keep not chosen (8.1.2.4)
-ruleOf BusyAgainEnded = row InRingout Gone nothing nothing all (says Says.BusyAgainEnded) nothing
+ruleOf Row.BusyAgainEnded = row InRingout Gone nothing nothing all (says Says.BusyAgainEnded) nothing
 -- type 7, ringout error 2 (failureToMatch), in Ringout (8.1.2.4)
-ruleOf NotMatched = row InRingout Gone nothing nothing all (says Says.Failed) nothing
+ruleOf Row.NotMatched = row InRingout Gone nothing nothing all (says Says.Failed) nothing
 -- type 10, ccCancel, received (8.1.1.6 b: mend M4)
-ruleOf LineCancels = row Always Gone nothing nothing all (says Says.Failed) clears
+ruleOf Row.LineCancels = row Always Gone nothing nothing all (says Says.Failed) clears
 -- user's cancel (8.1.1.6 a)
-ruleOf UserCancels = row Always Gone (sends CcCancel) nothing all (says Says.Cancelled) clears
+ruleOf Row.UserCancels = row Always Gone (sends CcCancel) nothing all (says Says.Cancelled) clears
 -- T1 reported (8.1.2.1; the ccCancel is document 01's)
-ruleOf T1RunsOut = row InWaitAck Gone (sends CcCancel) nothing all (says Says.Failed) nothing
+ruleOf Row.T1RunsOut = row InWaitAck Gone (sends CcCancel) nothing all (says Says.Failed) nothing
 -- T2 reported (8.1.2.2; not in Ringout: mend M1)
-ruleOf T2RunsOut = row WhereT2Counts Gone (sends CcCancel) nothing all (says Says.Failed) nothing
+ruleOf Row.T2RunsOut = row WhereT2Counts Gone (sends CcCancel) nothing all (says Says.Failed) nothing
 -- T3 reported (8.1.2.3)
-ruleOf T3RunsOut = row InWaitAnswer Gone (sends CcCancel) nothing all (says Says.Failed) nothing
+ruleOf Row.T3RunsOut = row InWaitAnswer Gone (sends CcCancel) nothing all (says Says.Failed) nothing
 
 abbrev pub homeOf : Row → Home
 homeOf row = ruleOf row .home

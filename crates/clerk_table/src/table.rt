@@ -4,7 +4,13 @@ use desk::outcome::Notice;
 use desk::sends::Sends;
 use message::Body;
 ghost use mathlib.Core.Path.{_≡_};
-ghost use Rattle.clerk_table.specs.Table.{homeOf, effectOf, holdsIn};
+ghost use mathlib.Core.Bool.{false};
+ghost use Rattle.message.specs.declared.Body.the-variants.{CcCancel};
+ghost use Rattle.desk.specs.declared.sends.Sends.the-variants as Sends;
+ghost use Rattle.clerk_table.specs.declared.table.Next.the-variants.{Gone, To};
+ghost use Rattle.clerk_table.specs.declared.table.Starts.the-variants as Starts;
+ghost use Rattle.clerk_table.specs.declared.table.Stops.the-variants as Stops;
+ghost use Rattle.clerk_table.specs.Table.{rule, ruleOf, homeOf, effectOf, holdsIn};
 
 // Free is a place with no record, CC-Idle. Invoked stands for CC-Invoked-User-A-RET or -RLS, by the connection choice.
 pub enum State {
@@ -101,182 +107,153 @@ pub struct Effect {
     pub clears: bool,
 }
 
+// A row of the table: where it is taken, and what it does.
+pub struct Rule {
+    pub home: Home,
+    pub effect: Effect,
+}
+
+// The record goes on to a state.
+fn goes(
+    home: Home,
+    state: State,
+    sends: Sends,
+    starts: Starts,
+    stops: Stops,
+    notice: Notice,
+) -> Rule
+    ensures { λ r. ⌜ r ≡ rule home (To state) sends starts stops notice false ⌝ }
+{
+    let effect = Effect {
+        next: Next::To(state),
+        sends,
+        starts,
+        stops,
+        notice,
+        clears: false,
+    };
+    Rule { home, effect }
+}
+
+// The record is deleted, and nothing is sent.
+fn ends(home: Home, notice: Notice, clears: bool) -> Rule
+    ensures { λ r. ⌜ r ≡ rule home Gone Sends.Nothing Starts.Nothing Stops.Running notice clears ⌝ }
+{
+    let effect = Effect {
+        next: Next::Gone,
+        sends: Sends::Nothing,
+        starts: Starts::Nothing,
+        stops: Stops::Running,
+        notice,
+        clears,
+    };
+    Rule { home, effect }
+}
+
+// The record is deleted, and a ccCancel is sent.
+fn cancels(home: Home, notice: Notice, clears: bool) -> Rule
+    ensures { λ r. ⌜ r ≡ rule home Gone (Sends.One CcCancel) Starts.Nothing Stops.Running notice clears ⌝ }
+{
+    let effect = Effect {
+        next: Next::Gone,
+        sends: Sends::One(Body::CcCancel),
+        starts: Starts::Nothing,
+        stops: Stops::Running,
+        notice,
+        clears,
+    };
+    Rule { home, effect }
+}
+
+// The table: where a row is taken, and what it does.
+pub fn rule_of(row: Row) -> Rule
+    ensures { λ r. ⌜ r ≡ ruleOf row ⌝ }
+{
+    match row {
+        Row::Accepted => goes(
+            Home::InWaitAck,
+            State::Invoked,
+            Sends::Nothing,
+            Starts::One(Timer::T2),
+            Stops::One(Timer::T1),
+            Notice::Accepted,
+        ),
+        Row::DeniedShort => ends(Home::InWaitAck, Notice::DeniedShort, false),
+        Row::DeniedLong => ends(Home::InWaitAck, Notice::DeniedLong, false),
+        Row::Recalls => goes(
+            Home::InInvoked,
+            State::WaitAnswer,
+            Sends::Nothing,
+            Starts::One(Timer::T3),
+            Stops::Nothing,
+            Notice::Recall,
+        ),
+        Row::Suspends => goes(
+            Home::InInvoked,
+            State::Suspended,
+            Sends::One(Body::CcSuspend),
+            Starts::Nothing,
+            Stops::Nothing,
+            Notice::Silent,
+        ),
+        Row::RingsOut => goes(
+            Home::InWaitAnswer,
+            State::Ringout,
+            Sends::One(Body::CcRingout),
+            Starts::Nothing,
+            Stops::One(Timer::T3),
+            Notice::Silent,
+        ),
+        Row::Resumes => goes(
+            Home::InSuspended,
+            State::Invoked,
+            Sends::One(Body::CcResume),
+            Starts::Nothing,
+            Stops::Nothing,
+            Notice::Silent,
+        ),
+        Row::GoesOn => goes(
+            Home::InSuspended,
+            State::WaitAnswer,
+            Sends::Nothing,
+            Starts::One(Timer::T3),
+            Stops::Nothing,
+            Notice::Recall,
+        ),
+        Row::Completes => ends(Home::InRingout, Notice::Completed, false),
+        Row::CallFails => cancels(Home::InRingout, Notice::Failed, false),
+        Row::BusyAgainKept => goes(
+            Home::InRingout,
+            State::Invoked,
+            Sends::Nothing,
+            Starts::Nothing,
+            Stops::Nothing,
+            Notice::BusyAgainKept,
+        ),
+        Row::BusyAgainEnded => ends(Home::InRingout, Notice::BusyAgainEnded, false),
+        Row::NotMatched => ends(Home::InRingout, Notice::Failed, false),
+        Row::LineCancels => ends(Home::Always, Notice::Failed, true),
+        Row::UserCancels => cancels(Home::Always, Notice::Cancelled, true),
+        Row::T1RunsOut => cancels(Home::InWaitAck, Notice::Failed, false),
+        Row::T2RunsOut => cancels(Home::WhereT2Counts, Notice::Failed, false),
+        Row::T3RunsOut => cancels(Home::InWaitAnswer, Notice::Failed, false),
+    }
+}
+
 // Where a row is taken.
 pub fn home_of(row: Row) -> Home
     ensures { λ r. ⌜ r ≡ homeOf row ⌝ }
 {
-    match row {
-        Row::Accepted => Home::InWaitAck,
-        Row::DeniedShort => Home::InWaitAck,
-        Row::DeniedLong => Home::InWaitAck,
-        Row::Recalls => Home::InInvoked,
-        Row::Suspends => Home::InInvoked,
-        Row::RingsOut => Home::InWaitAnswer,
-        Row::Resumes => Home::InSuspended,
-        Row::GoesOn => Home::InSuspended,
-        Row::Completes => Home::InRingout,
-        Row::CallFails => Home::InRingout,
-        Row::BusyAgainKept => Home::InRingout,
-        Row::BusyAgainEnded => Home::InRingout,
-        Row::NotMatched => Home::InRingout,
-        Row::LineCancels => Home::Always,
-        Row::UserCancels => Home::Always,
-        Row::T1RunsOut => Home::InWaitAck,
-        Row::T2RunsOut => Home::WhereT2Counts,
-        Row::T3RunsOut => Home::InWaitAnswer,
-    }
+    let rule = rule_of(row);
+    rule.home
 }
 
 // What a row does.
 pub fn effect_of(row: Row) -> Effect
     ensures { λ r. ⌜ r ≡ effectOf row ⌝ }
 {
-    match row {
-        Row::Accepted => Effect {
-            next: Next::To(State::Invoked),
-            sends: Sends::Nothing,
-            starts: Starts::One(Timer::T2),
-            stops: Stops::One(Timer::T1),
-            notice: Notice::Accepted,
-            clears: false,
-        },
-        Row::DeniedShort => Effect {
-            next: Next::Gone,
-            sends: Sends::Nothing,
-            starts: Starts::Nothing,
-            stops: Stops::Running,
-            notice: Notice::DeniedShort,
-            clears: false,
-        },
-        Row::DeniedLong => Effect {
-            next: Next::Gone,
-            sends: Sends::Nothing,
-            starts: Starts::Nothing,
-            stops: Stops::Running,
-            notice: Notice::DeniedLong,
-            clears: false,
-        },
-        Row::Recalls => Effect {
-            next: Next::To(State::WaitAnswer),
-            sends: Sends::Nothing,
-            starts: Starts::One(Timer::T3),
-            stops: Stops::Nothing,
-            notice: Notice::Recall,
-            clears: false,
-        },
-        Row::Suspends => Effect {
-            next: Next::To(State::Suspended),
-            sends: Sends::One(Body::CcSuspend),
-            starts: Starts::Nothing,
-            stops: Stops::Nothing,
-            notice: Notice::Silent,
-            clears: false,
-        },
-        Row::RingsOut => Effect {
-            next: Next::To(State::Ringout),
-            sends: Sends::One(Body::CcRingout),
-            starts: Starts::Nothing,
-            stops: Stops::One(Timer::T3),
-            notice: Notice::Silent,
-            clears: false,
-        },
-        Row::Resumes => Effect {
-            next: Next::To(State::Invoked),
-            sends: Sends::One(Body::CcResume),
-            starts: Starts::Nothing,
-            stops: Stops::Nothing,
-            notice: Notice::Silent,
-            clears: false,
-        },
-        Row::GoesOn => Effect {
-            next: Next::To(State::WaitAnswer),
-            sends: Sends::Nothing,
-            starts: Starts::One(Timer::T3),
-            stops: Stops::Nothing,
-            notice: Notice::Recall,
-            clears: false,
-        },
-        Row::Completes => Effect {
-            next: Next::Gone,
-            sends: Sends::Nothing,
-            starts: Starts::Nothing,
-            stops: Stops::Running,
-            notice: Notice::Completed,
-            clears: false,
-        },
-        Row::CallFails => Effect {
-            next: Next::Gone,
-            sends: Sends::One(Body::CcCancel),
-            starts: Starts::Nothing,
-            stops: Stops::Running,
-            notice: Notice::Failed,
-            clears: false,
-        },
-        Row::BusyAgainKept => Effect {
-            next: Next::To(State::Invoked),
-            sends: Sends::Nothing,
-            starts: Starts::Nothing,
-            stops: Stops::Nothing,
-            notice: Notice::BusyAgainKept,
-            clears: false,
-        },
-        Row::BusyAgainEnded => Effect {
-            next: Next::Gone,
-            sends: Sends::Nothing,
-            starts: Starts::Nothing,
-            stops: Stops::Running,
-            notice: Notice::BusyAgainEnded,
-            clears: false,
-        },
-        Row::NotMatched => Effect {
-            next: Next::Gone,
-            sends: Sends::Nothing,
-            starts: Starts::Nothing,
-            stops: Stops::Running,
-            notice: Notice::Failed,
-            clears: false,
-        },
-        Row::LineCancels => Effect {
-            next: Next::Gone,
-            sends: Sends::Nothing,
-            starts: Starts::Nothing,
-            stops: Stops::Running,
-            notice: Notice::Failed,
-            clears: true,
-        },
-        Row::UserCancels => Effect {
-            next: Next::Gone,
-            sends: Sends::One(Body::CcCancel),
-            starts: Starts::Nothing,
-            stops: Stops::Running,
-            notice: Notice::Cancelled,
-            clears: true,
-        },
-        Row::T1RunsOut => Effect {
-            next: Next::Gone,
-            sends: Sends::One(Body::CcCancel),
-            starts: Starts::Nothing,
-            stops: Stops::Running,
-            notice: Notice::Failed,
-            clears: false,
-        },
-        Row::T2RunsOut => Effect {
-            next: Next::Gone,
-            sends: Sends::One(Body::CcCancel),
-            starts: Starts::Nothing,
-            stops: Stops::Running,
-            notice: Notice::Failed,
-            clears: false,
-        },
-        Row::T3RunsOut => Effect {
-            next: Next::Gone,
-            sends: Sends::One(Body::CcCancel),
-            starts: Starts::Nothing,
-            stops: Stops::Running,
-            notice: Notice::Failed,
-            clears: false,
-        },
-    }
+    let rule = rule_of(row);
+    rule.effect
 }
 
 // Whether a row is taken in a state.

@@ -15,6 +15,7 @@ use Rattle.line_table.specs.declared.table.Next.the-variants.{Gone, To}
 use Rattle.line_table.specs.declared.table.Mark.{Mark}
 use Rattle.line_table.specs.declared.table.Mark.the-variants as Mark
 use Rattle.line_table.specs.declared.table.Effect.{Effect}
+use Rattle.line_table.specs.declared.table.Rule.{Rule}
 
 -- ---- the words of the table: what stands in a column, and one word for nothing in all of them
 pub data Column : Type 0 where
@@ -36,13 +37,12 @@ marked sets = Mark.Sets
 marked clears = Mark.Clears
 
 -- a row of the table: where it is taken, and what it does
-pub record Rule : Type 0 where
-  pub home : Home
-  pub effect : Effect
+abbrev pub rule : Home → Next → Sends → Mark → Mark → Rule
+rule home next message activity suspension =
+    record { home = home; effect = record { next = next; sends = message; active = activity; suspended = suspension } }
 
 abbrev row : Home → Next → Cell sending → Cell marking → Cell marking → Rule
-row home next message activity suspension =
-    record { home = home; effect = record { next = next; sends = sent message; active = marked activity; suspended = marked suspension } }
+row home next message activity suspension = rule home next (sent message) (marked activity) (marked suspension)
 
 -- ---- the table
 -- taken in · then · sends · activity mark · suspended mark

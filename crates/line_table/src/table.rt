@@ -3,7 +3,9 @@
 use desk::sends::Sends;
 use message::Body;
 ghost use mathlib.Core.Path.{_≡_};
-ghost use Rattle.line_table.specs.Table.{homeOf, effectOf, holdsIn};
+ghost use Rattle.line_table.specs.declared.table.Next.the-variants.{Gone, To};
+ghost use Rattle.line_table.specs.declared.table.Mark.the-variants as Mark;
+ghost use Rattle.line_table.specs.Table.{rule, ruleOf, homeOf, effectOf, holdsIn};
 
 // Free is a place with no record, CC-Idle; then CC-Invoked-User-B, CC-Await-Call-Completion and CC-Wait-User-B-Alert.
 pub enum State {
@@ -67,97 +69,101 @@ pub struct Effect {
     pub suspended: Mark,
 }
 
+// A row of the table: where it is taken, and what it does.
+pub struct Rule {
+    pub home: Home,
+    pub effect: Effect,
+}
+
+// The record goes on to a state, or stays in it.
+fn goes(home: Home, state: State, sends: Sends, active: Mark, suspended: Mark) -> Rule
+    ensures { λ r. ⌜ r ≡ rule home (To state) sends active suspended ⌝ }
+{
+    let effect = Effect {
+        next: Next::To(state),
+        sends,
+        active,
+        suspended,
+    };
+    Rule { home, effect }
+}
+
+// The record is deleted.
+fn ends(home: Home, sends: Sends) -> Rule
+    ensures { λ r. ⌜ r ≡ rule home Gone sends Mark.Nothing Mark.Nothing ⌝ }
+{
+    let effect = Effect {
+        next: Next::Gone,
+        sends,
+        active: Mark::Nothing,
+        suspended: Mark::Nothing,
+    };
+    Rule { home, effect }
+}
+
+// The table: where a row is taken, and what it does.
+pub fn rule_of(row: Row) -> Rule
+    ensures { λ r. ⌜ r ≡ ruleOf row ⌝ }
+{
+    match row {
+        Row::Offers => goes(
+            Home::InInvoked,
+            State::Await,
+            Sends::One(Body::CcExecPossible),
+            Mark::Nothing,
+            Mark::Nothing,
+        ),
+        Row::Suspends => goes(
+            Home::InAwait,
+            State::Await,
+            Sends::Nothing,
+            Mark::Nothing,
+            Mark::Sets,
+        ),
+        Row::Resumes => goes(
+            Home::InAwait,
+            State::Invoked,
+            Sends::Nothing,
+            Mark::Nothing,
+            Mark::Clears,
+        ),
+        Row::RingsOut => goes(
+            Home::InAwait,
+            State::Alert,
+            Sends::Nothing,
+            Mark::Nothing,
+            Mark::Clears,
+        ),
+        Row::BusyAgainKept => goes(
+            Home::InAwait,
+            State::Invoked,
+            Sends::One(Body::RingoutError { error: 1 }),
+            Mark::Sets,
+            Mark::Clears,
+        ),
+        Row::BusyAgainEnded => ends(Home::InAwait, Sends::One(Body::RingoutError { error: 1 })),
+        Row::Alerts => ends(Home::InAlert, Sends::One(Body::CallAlerts)),
+        Row::CallFails => ends(Home::InAlert, Sends::One(Body::CallFailed)),
+        Row::ClerkCancels => ends(Home::Always, Sends::Nothing),
+        Row::LineCancels => ends(Home::Always, Sends::One(Body::CcCancel)),
+        Row::GuardRunsOut => ends(Home::Always, Sends::One(Body::CcCancel)),
+    }
+}
+
 // Where a row is taken.
 pub fn home_of(row: Row) -> Home
     ensures { λ r. ⌜ r ≡ homeOf row ⌝ }
 {
-    match row {
-        Row::Offers => Home::InInvoked,
-        Row::Suspends => Home::InAwait,
-        Row::Resumes => Home::InAwait,
-        Row::RingsOut => Home::InAwait,
-        Row::BusyAgainKept => Home::InAwait,
-        Row::BusyAgainEnded => Home::InAwait,
-        Row::Alerts => Home::InAlert,
-        Row::CallFails => Home::InAlert,
-        Row::ClerkCancels => Home::Always,
-        Row::LineCancels => Home::Always,
-        Row::GuardRunsOut => Home::Always,
-    }
+    let rule = rule_of(row);
+    rule.home
 }
 
 // What a row does.
 pub fn effect_of(row: Row) -> Effect
     ensures { λ r. ⌜ r ≡ effectOf row ⌝ }
 {
-    match row {
-        Row::Offers => Effect {
-            next: Next::To(State::Await),
-            sends: Sends::One(Body::CcExecPossible),
-            active: Mark::Nothing,
-            suspended: Mark::Nothing,
-        },
-        Row::Suspends => Effect {
-            next: Next::To(State::Await),
-            sends: Sends::Nothing,
-            active: Mark::Nothing,
-            suspended: Mark::Sets,
-        },
-        Row::Resumes => Effect {
-            next: Next::To(State::Invoked),
-            sends: Sends::Nothing,
-            active: Mark::Nothing,
-            suspended: Mark::Clears,
-        },
-        Row::RingsOut => Effect {
-            next: Next::To(State::Alert),
-            sends: Sends::Nothing,
-            active: Mark::Nothing,
-            suspended: Mark::Clears,
-        },
-        Row::BusyAgainKept => Effect {
-            next: Next::To(State::Invoked),
-            sends: Sends::One(Body::RingoutError { error: 1 }),
-            active: Mark::Sets,
-            suspended: Mark::Clears,
-        },
-        Row::BusyAgainEnded => Effect {
-            next: Next::Gone,
-            sends: Sends::One(Body::RingoutError { error: 1 }),
-            active: Mark::Nothing,
-            suspended: Mark::Nothing,
-        },
-        Row::Alerts => Effect {
-            next: Next::Gone,
-            sends: Sends::One(Body::CallAlerts),
-            active: Mark::Nothing,
-            suspended: Mark::Nothing,
-        },
-        Row::CallFails => Effect {
-            next: Next::Gone,
-            sends: Sends::One(Body::CallFailed),
-            active: Mark::Nothing,
-            suspended: Mark::Nothing,
-        },
-        Row::ClerkCancels => Effect {
-            next: Next::Gone,
-            sends: Sends::Nothing,
-            active: Mark::Nothing,
-            suspended: Mark::Nothing,
-        },
-        Row::LineCancels => Effect {
-            next: Next::Gone,
-            sends: Sends::One(Body::CcCancel),
-            active: Mark::Nothing,
-            suspended: Mark::Nothing,
-        },
-        Row::GuardRunsOut => Effect {
-            next: Next::Gone,
-            sends: Sends::One(Body::CcCancel),
-            active: Mark::Nothing,
-            suspended: Mark::Nothing,
-        },
-    }
+    let rule = rule_of(row);
+    rule.effect
 }
 
 // Whether a state is one of a row's; a free place has no row.

@@ -11,6 +11,7 @@ use Rattle.lists.specs.declared.Found.the-variants.{At, Nothing}
 use Rattle.lists.specs.declared.words.Words.{Words}
 use Rattle.lists.proofs.Choice.{pick-elim}
 use Rattle.message.specs.Format.{requestBody}
+use Rattle.message.specs.declared.Body.the-variants.{CcCancel}
 use Rattle.message.specs.declared.Kind.{Kind}
 use Rattle.message.specs.declared.Kind.the-variants.{Ccbs, Ccnr}
 use Rattle.desk.specs.Carriers.{carrierFits}
@@ -29,11 +30,11 @@ use Rattle.places.specs.Places.{Held, none, one, held}
 use Rattle.places.proofs.Holding.{held-found, held-missed}
 use Rattle.clerk_table.specs.Record.{refusedPlan}
 use Rattle.clerk_table.specs.Step.{changed, rowTaken}
-use Rattle.clerk_table.specs.Table.{effectOf}
-use Rattle.clerk_table.specs.Inputs.{namesOf, messageFor, rowFor, settledBy}
+use Rattle.clerk_table.specs.Table.{effectOf, holdsIn}
+use Rattle.clerk_table.specs.Inputs.{namesOf, messageFor, rowFor, rowOfAct, rowOfTimer, settledBy}
 use Rattle.clerk_table.specs.declared.table.State.the-variants.{WaitAck}
 use Rattle.clerk_table.specs.declared.table.Row.{Row}
-use Rattle.clerk_table.specs.declared.table.Row.the-variants.{RingsOut, Resumes, GoesOn, UserCancels, T1RunsOut, T2RunsOut, T3RunsOut}
+use Rattle.clerk_table.specs.declared.table.Home.the-variants.{Always}
 use Rattle.clerk_table.specs.declared.table.Next.{Next}
 use Rattle.clerk_table.specs.declared.table.Next.the-variants.{Gone, To}
 use Rattle.clerk_table.specs.declared.table.Timer.{Timer}
@@ -45,7 +46,7 @@ use Rattle.clerk_table.specs.declared.record.Decision.{Decision}
 use Rattle.clerk_table.specs.declared.record.Decision.the-variants.{Refuse, Take, Store}
 use Rattle.clerk_table.specs.declared.record.Plan.{Plan}
 use Rattle.clerk_table.specs.declared.inputs.Act.{Act}
-use Rattle.clerk_table.specs.declared.inputs.Act.the-variants.{Accept, Resume, GoOn, Cancel}
+use Rattle.clerk_table.specs.declared.inputs.Act.the-variants as Act
 use Rattle.clerk_table.specs.declared.inputs.Input.{Input}
 use Rattle.clerk_table.specs.declared.inputs.Input.the-variants as Input
 use Rattle.clerk_table.specs.declared.inputs.Meant.{Meant}
@@ -60,7 +61,7 @@ use Rattle.clerk.specs.declared.steps.Stepped.{Stepped}
 use Rattle.clerk_sound.specs.Sound.{clerkView, Reached}
 use Rattle.pair_request.specs.Reading as R
 use Rattle.pair.specs.World.{sentBy, done, counts}
-use Rattle.pair.proofs.Ends.{clerkRecord, clerkStateRead, keepRead, connRead, clerkRead, letterRead, messageRead, dataOf, askRead, clerkActRead, timerRead, ClerkStep}
+use Rattle.pair.proofs.Ends.{clerkRecord, clerkStateRead, keepRead, connRead, clerkRead, letterRead, messageRead, dataOf, askRead, ClerkStep}
 use Rattle.pair.proofs.Changes.{Own, stays, turns, stores, removes, Its, own-held, not-one, the-one, pick-ap}
 use Rattle.pair.proofs.Grounds.{clerk-placed, clerk-full}
 use Rattle.pair.proofs.Letters.{letter-name, ask-letter}
@@ -225,13 +226,8 @@ live-takes j i d ck k n R.suspended R.failed busy = (refl, refl)
 
 -- ---- acts and timers, by the record
 abbrev rowRead : R.CAct → Row
-rowRead R.accept = RingsOut
-rowRead R.resumes = Resumes
-rowRead R.recalls = GoesOn
-rowRead R.quits = UserCancels
-rowRead R.t1 = T1RunsOut
-rowRead R.t2 = T2RunsOut
-rowRead R.t3 = T3RunsOut
+rowRead (R.act x) = rowOfAct x
+rowRead (R.timer x) = rowOfTimer x
 
 abbrev ownPlan : ℕ → Record → Row → ℕ → Plan
 ownPlan i r row refusal = pick (holdsFor row r) (rowTaken i r row) (refusedPlan refusal Sending.Nothing)
@@ -240,55 +236,59 @@ waiting-acts :
     (j : Words) (i : ℕ) (d : R.Data) (ck : Bool) (x : R.CAct) (refusal : ℕ) →
     Says j (ownPlan i (waitingRecord j d ck) (rowRead x) refusal) (one (waitingRecord j d ck)) (R.clerkActs (R.waiting d ck) x)
 unfolding rowTaken R.clerkActs R.waitingActs
-waiting-acts j i d ck R.accept refusal = (refl, refl)
-waiting-acts j i d ck R.resumes refusal = (refl, refl)
-waiting-acts j i d ck R.recalls refusal = (refl, refl)
-waiting-acts j i d ck R.quits refusal = (refl, refl)
-waiting-acts j i d ck R.t1 refusal = (refl, refl)
-waiting-acts j i d ck R.t2 refusal = (refl, refl)
-waiting-acts j i d ck R.t3 refusal = (refl, refl)
+waiting-acts j i d ck (R.act Act.Accept) refusal = (refl, refl)
+waiting-acts j i d ck (R.act Act.Resume) refusal = (refl, refl)
+waiting-acts j i d ck (R.act Act.GoOn) refusal = (refl, refl)
+waiting-acts j i d ck (R.act Act.Cancel) refusal = (refl, refl)
+waiting-acts j i d ck (R.timer T1) refusal = (refl, refl)
+waiting-acts j i d ck (R.timer T2) refusal = (refl, refl)
+waiting-acts j i d ck (R.timer T3) refusal = (refl, refl)
+
+-- a row that ends the record with a ccCancel, in a state where it is taken; and one that is always taken
+live-cancels :
+    (j : Words) (i : ℕ) (d : R.Data) (ck k : Bool) (n : R.Conn) (s : R.CState) (row : Row) (refusal : ℕ) →
+    holdsFor row (liveRecord j d ck k n s) ≡ true → effectOf row .next ≡ Gone → effectOf row .sends ≡ Sends.One CcCancel →
+    Says j (ownPlan i (liveRecord j d ck k n s) row refusal) (one (liveRecord j d ck k n s)) (R.absent, R.cancel n ∷ [])
+unfolding rowTaken
+live-cancels j i d ck k R.ret s row refusal held ends cancels = rw (held, ends, cancels) (refl, refl)
+live-cancels j i d ck k R.rls s row refusal held ends cancels = rw (held, ends, cancels) (refl, refl)
+
+always : (s : R.CState) → holdsIn Always (clerkStateRead s) ≡ true
+always R.invoked = refl
+always R.waitAnswer = refl
+always R.ringing = refl
+always R.suspended = refl
 
 live-acts :
     (j : Words) (i : ℕ) (d : R.Data) (ck k : Bool) (n : R.Conn) (s : R.CState) (x : R.CAct) (refusal : ℕ) →
     Says j (ownPlan i (liveRecord j d ck k n s) (rowRead x) refusal) (one (liveRecord j d ck k n s)) (R.clerkActs (R.live d ck k n s) x)
 unfolding rowTaken R.clerkActs R.liveActs
-live-acts j i d ck k n R.invoked R.accept refusal = (refl, refl)
-live-acts j i d ck k n R.waitAnswer R.accept refusal = (refl, refl)
-live-acts j i d ck k n R.ringing R.accept refusal = (refl, refl)
-live-acts j i d ck k n R.suspended R.accept refusal = (refl, refl)
-live-acts j i d ck k n R.invoked R.resumes refusal = (refl, refl)
-live-acts j i d ck k n R.waitAnswer R.resumes refusal = (refl, refl)
-live-acts j i d ck k n R.ringing R.resumes refusal = (refl, refl)
-live-acts j i d ck k R.ret R.suspended R.resumes refusal = (refl, refl)
-live-acts j i d ck k R.rls R.suspended R.resumes refusal = (refl, refl)
-live-acts j i d ck k n R.invoked R.recalls refusal = (refl, refl)
-live-acts j i d ck k n R.waitAnswer R.recalls refusal = (refl, refl)
-live-acts j i d ck k n R.ringing R.recalls refusal = (refl, refl)
-live-acts j i d ck k n R.suspended R.recalls refusal = (refl, refl)
-live-acts j i d ck k R.ret R.invoked R.quits refusal = (refl, refl)
-live-acts j i d ck k R.rls R.invoked R.quits refusal = (refl, refl)
-live-acts j i d ck k R.ret R.waitAnswer R.quits refusal = (refl, refl)
-live-acts j i d ck k R.rls R.waitAnswer R.quits refusal = (refl, refl)
-live-acts j i d ck k R.ret R.ringing R.quits refusal = (refl, refl)
-live-acts j i d ck k R.rls R.ringing R.quits refusal = (refl, refl)
-live-acts j i d ck k R.ret R.suspended R.quits refusal = (refl, refl)
-live-acts j i d ck k R.rls R.suspended R.quits refusal = (refl, refl)
-live-acts j i d ck k n R.invoked R.t1 refusal = (refl, refl)
-live-acts j i d ck k n R.waitAnswer R.t1 refusal = (refl, refl)
-live-acts j i d ck k n R.ringing R.t1 refusal = (refl, refl)
-live-acts j i d ck k n R.suspended R.t1 refusal = (refl, refl)
-live-acts j i d ck k R.ret R.invoked R.t2 refusal = (refl, refl)
-live-acts j i d ck k R.rls R.invoked R.t2 refusal = (refl, refl)
-live-acts j i d ck k R.ret R.waitAnswer R.t2 refusal = (refl, refl)
-live-acts j i d ck k R.rls R.waitAnswer R.t2 refusal = (refl, refl)
-live-acts j i d ck k n R.ringing R.t2 refusal = (refl, refl)
-live-acts j i d ck k R.ret R.suspended R.t2 refusal = (refl, refl)
-live-acts j i d ck k R.rls R.suspended R.t2 refusal = (refl, refl)
-live-acts j i d ck k n R.invoked R.t3 refusal = (refl, refl)
-live-acts j i d ck k R.ret R.waitAnswer R.t3 refusal = (refl, refl)
-live-acts j i d ck k R.rls R.waitAnswer R.t3 refusal = (refl, refl)
-live-acts j i d ck k n R.ringing R.t3 refusal = (refl, refl)
-live-acts j i d ck k n R.suspended R.t3 refusal = (refl, refl)
+live-acts j i d ck k n R.invoked (R.act Act.Accept) refusal = (refl, refl)
+live-acts j i d ck k n R.waitAnswer (R.act Act.Accept) refusal = (refl, refl)
+live-acts j i d ck k n R.ringing (R.act Act.Accept) refusal = (refl, refl)
+live-acts j i d ck k n R.suspended (R.act Act.Accept) refusal = (refl, refl)
+live-acts j i d ck k n R.invoked (R.act Act.Resume) refusal = (refl, refl)
+live-acts j i d ck k n R.waitAnswer (R.act Act.Resume) refusal = (refl, refl)
+live-acts j i d ck k n R.ringing (R.act Act.Resume) refusal = (refl, refl)
+live-acts j i d ck k R.ret R.suspended (R.act Act.Resume) refusal = (refl, refl)
+live-acts j i d ck k R.rls R.suspended (R.act Act.Resume) refusal = (refl, refl)
+live-acts j i d ck k n R.invoked (R.act Act.GoOn) refusal = (refl, refl)
+live-acts j i d ck k n R.waitAnswer (R.act Act.GoOn) refusal = (refl, refl)
+live-acts j i d ck k n R.ringing (R.act Act.GoOn) refusal = (refl, refl)
+live-acts j i d ck k n R.suspended (R.act Act.GoOn) refusal = (refl, refl)
+live-acts j i d ck k n s (R.act Act.Cancel) refusal = live-cancels j i d ck k n s (rowOfAct Act.Cancel) refusal (always s) refl refl
+live-acts j i d ck k n R.invoked (R.timer T1) refusal = (refl, refl)
+live-acts j i d ck k n R.waitAnswer (R.timer T1) refusal = (refl, refl)
+live-acts j i d ck k n R.ringing (R.timer T1) refusal = (refl, refl)
+live-acts j i d ck k n R.suspended (R.timer T1) refusal = (refl, refl)
+live-acts j i d ck k n R.invoked (R.timer T2) refusal = live-cancels j i d ck k n R.invoked (rowOfTimer T2) refusal refl refl refl
+live-acts j i d ck k n R.waitAnswer (R.timer T2) refusal = live-cancels j i d ck k n R.waitAnswer (rowOfTimer T2) refusal refl refl refl
+live-acts j i d ck k n R.ringing (R.timer T2) refusal = (refl, refl)
+live-acts j i d ck k n R.suspended (R.timer T2) refusal = live-cancels j i d ck k n R.suspended (rowOfTimer T2) refusal refl refl refl
+live-acts j i d ck k n R.invoked (R.timer T3) refusal = (refl, refl)
+live-acts j i d ck k n R.waitAnswer (R.timer T3) refusal = live-cancels j i d ck k n R.waitAnswer (rowOfTimer T3) refusal refl refl refl
+live-acts j i d ck k n R.ringing (R.timer T3) refusal = (refl, refl)
+live-acts j i d ck k n R.suspended (R.timer T3) refusal = (refl, refl)
 
 -- ---- the record that is found is the one that is read
 module _ (j : Words) (rs : List Record) where
@@ -389,7 +389,7 @@ ranOut timer plan = both (counts timer) (done (plan .outcome))
 
 waiting-runs-out :
     (j : Words) (i : ℕ) (d : R.Data) (ck : Bool) (timer : Timer) →
-    ranOut timer (ownPlan i (waitingRecord j d ck) (rowRead (timerRead timer)) 9) ≡ R.runsOut (R.waiting d ck) (timerRead timer)
+    ranOut timer (ownPlan i (waitingRecord j d ck) (rowRead (R.timer timer)) 9) ≡ R.runsOut (R.waiting d ck) (R.timer timer)
 unfolding rowTaken R.clerkActs R.waitingActs
 waiting-runs-out j i d ck T1 = refl
 waiting-runs-out j i d ck T2 = refl
@@ -397,7 +397,7 @@ waiting-runs-out j i d ck T3 = refl
 
 live-runs-out :
     (j : Words) (i : ℕ) (d : R.Data) (ck k : Bool) (n : R.Conn) (s : R.CState) (timer : Timer) →
-    ranOut timer (ownPlan i (liveRecord j d ck k n s) (rowRead (timerRead timer)) 9) ≡ R.runsOut (R.live d ck k n s) (timerRead timer)
+    ranOut timer (ownPlan i (liveRecord j d ck k n s) (rowRead (R.timer timer)) 9) ≡ R.runsOut (R.live d ck k n s) (R.timer timer)
 unfolding rowTaken R.clerkActs R.liveActs
 live-runs-out j i d ck k n R.invoked T1 = refl
 live-runs-out j i d ck k n R.waitAnswer T1 = refl
@@ -412,23 +412,23 @@ live-runs-out j i d ck k n R.waitAnswer T3 = refl
 live-runs-out j i d ck k n R.ringing T3 = refl
 live-runs-out j i d ck k n R.suspended T3 = refl
 
-absent-runs-out : (timer : Timer) → both (counts timer) false ≡ R.runsOut R.absent (timerRead timer)
+absent-runs-out : (timer : Timer) → both (counts timer) false ≡ R.runsOut R.absent (R.timer timer)
 absent-runs-out T1 = refl
 absent-runs-out T2 = refl
 absent-runs-out T3 = refl
 
 module _ (j : Words) (rs : List Record) (timer : Timer) where
   abbrev reports : Found → Plan
-  reports f = does j rs (Input.Timer j timer) (λ r. refl) (timerRead timer) 9 f
+  reports f = does j rs (Input.Timer j timer) (λ r. refl) (R.timer timer) 9 f
 
   runs-out-at :
       (c : R.Clerk) (i : ℕ) (r : Record) → meant j rs ≡ At i → held clerkView j rs ≡ one r →
-      ranOut timer (ownPlan i r (rowRead (timerRead timer)) 9) ≡ R.runsOut c (timerRead timer) → ranOut timer (reports (At i)) ≡ R.runsOut c (timerRead timer)
+      ranOut timer (ownPlan i r (rowRead (R.timer timer)) 9) ≡ R.runsOut c (R.timer timer) → ranOut timer (reports (At i)) ≡ R.runsOut c (R.timer timer)
   runs-out-at c i r e h says =
-      ap (ranOut timer) (own-at j rs (Input.Timer j timer) (λ r. refl) (timerRead timer) 9 i)
-      ∙ at-record j rs i r (λ x. ranOut timer (ownPlan i x (rowRead (timerRead timer)) 9) ≡ R.runsOut c (timerRead timer)) e h says
+      ap (ranOut timer) (own-at j rs (Input.Timer j timer) (λ r. refl) (R.timer timer) 9 i)
+      ∙ at-record j rs i r (λ x. ranOut timer (ownPlan i x (rowRead (R.timer timer)) 9) ≡ R.runsOut c (R.timer timer)) e h says
 
-  found-runs-out : (c : R.Clerk) (f : Found) → meant j rs ≡ f → held clerkView j rs ≡ clerkRead j c → ranOut timer (reports f) ≡ R.runsOut c (timerRead timer)
+  found-runs-out : (c : R.Clerk) (f : Found) → meant j rs ≡ f → held clerkView j rs ≡ clerkRead j c → ranOut timer (reports f) ≡ R.runsOut c (R.timer timer)
   unfolding planOf
   found-runs-out R.absent Nothing e h = absent-runs-out timer
   found-runs-out R.absent (At i) e h = not-missed j rs i e h
@@ -530,29 +530,22 @@ module _ (d : Desk) (reached : Reached d) where
 
   pub clerk-acts :
       (j : Words) (act : Act) (c : R.Clerk) → held clerkView j rs ≡ clerkRead j c →
-      ClerkStep (step d (Input.Act j act)) j (R.clerkActs c (clerkActRead act))
+      ClerkStep (step d (Input.Act j act)) j (R.clerkActs c (R.act act))
   unfolding step planFor decided
-  clerk-acts j Accept = own-step (Input.Act j Accept) (λ r. refl) R.accept 7
-  clerk-acts j Resume = own-step (Input.Act j Resume) (λ r. refl) R.resumes 7
-  clerk-acts j GoOn = own-step (Input.Act j GoOn) (λ r. refl) R.recalls 7
-  clerk-acts j Cancel = own-step (Input.Act j Cancel) (λ r. refl) R.quits 7
+  clerk-acts j act = own-step (Input.Act j act) (λ r. refl) (R.act act) 7
 
   pub clerk-reports :
       (j : Words) (timer : Timer) (c : R.Clerk) → held clerkView j rs ≡ clerkRead j c →
-      ClerkStep (step d (Input.Timer j timer)) j (R.clerkActs c (timerRead timer))
+      ClerkStep (step d (Input.Timer j timer)) j (R.clerkActs c (R.timer timer))
   unfolding step planFor decided
-  clerk-reports j T1 = own-step (Input.Timer j T1) (λ r. refl) R.t1 9
-  clerk-reports j T2 = own-step (Input.Timer j T2) (λ r. refl) R.t2 9
-  clerk-reports j T3 = own-step (Input.Timer j T3) (λ r. refl) R.t3 9
+  clerk-reports j timer = own-step (Input.Timer j timer) (λ r. refl) (R.timer timer) 9
 
   -- whether a timer's report that is taken counts
   pub clerk-runs-out :
       (j : Words) (timer : Timer) (c : R.Clerk) → held clerkView j rs ≡ clerkRead j c →
-      both (counts timer) (done (step d (Input.Timer j timer) .outcome)) ≡ R.runsOut c (timerRead timer)
+      both (counts timer) (done (step d (Input.Timer j timer) .outcome)) ≡ R.runsOut c (R.timer timer)
   unfolding step planFor decided
-  clerk-runs-out j T1 c h = found-runs-out j rs T1 c (meant j rs) refl h
-  clerk-runs-out j T2 c h = found-runs-out j rs T2 c (meant j rs) refl h
-  clerk-runs-out j T3 c h = found-runs-out j rs T3 c (meant j rs) refl h
+  clerk-runs-out j timer c h = found-runs-out j rs timer c (meant j rs) refl h
 
   module _ (names : Names) (q : Request) where
     abbrev asks : Decision → Stepped

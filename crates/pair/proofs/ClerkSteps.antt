@@ -12,7 +12,6 @@ use Rattle.terms.specs.Request.{canKeepSent}
 use Rattle.terms.specs.declared.request.Names.{Names}
 use Rattle.terms.specs.declared.request.Request.{Request}
 use Rattle.clerk_table.specs.declared.inputs.Act.{Act}
-use Rattle.clerk_table.specs.declared.inputs.Act.the-variants.{Accept, Resume, GoOn, Cancel}
 use Rattle.clerk_table.specs.declared.inputs.Input.{Input}
 use Rattle.clerk_table.specs.declared.inputs.Input.the-variants as Input
 use Rattle.clerk_table.specs.declared.table.Timer.{Timer}
@@ -29,7 +28,7 @@ use Rattle.pair_request.proofs.Effects.{clerk-act-effect, act-plain, clerk-take
 use Rattle.pair_request.proofs.Agree.{agreed, untaken}
 use Rattle.pair.specs.World.{World, History, Event, clerkDoes, clerkHears, clerkHolds, messagesOf, sentBy, done, counts, clerkStepped, clerkHeard, clerkNotes, withTakenUp, withRunOut, ClerkAllowed}
 use Rattle.pair.specs.Claims.{Heads, About, same}
-use Rattle.pair.proofs.Ends.{clerkRead, letterRead, messageRead, Clear, dataOf, askRead, clerkActRead, timerRead, ClerkStep}
+use Rattle.pair.proofs.Ends.{clerkRead, letterRead, messageRead, Clear, dataOf, askRead, ClerkStep}
 use Rattle.pair.proofs.Letters.{letter-name, clear-kept, sent-name, clear-ask}
 use Rattle.pair.proofs.ClerkEnd.{clerk-hears, clerk-acts, clerk-reports, clerk-runs-out, AskStep, refused, stored, clerk-asks}
 use Rattle.pair.proofs.Wires.{head-own, head-other, AllClear, no-message, one-more, plain-clear, Worded, quiet, word, worded-append, worded-sent, has-own, has-other}
@@ -59,13 +58,6 @@ noted-timer h j so = record { takenUp = refl; runOut = has-own so j (h .runOut);
 
 unnoted-timer : (h : History) (k j : Words) (so : Bool) → (k ≡ j → ⊥) → Unnoted (withRunOut h so k) h j
 unnoted-timer h k j so d = record { takenUp = refl; runOut = has-other so k j (h .runOut) d; guarded = refl; dropped = refl }
-
--- an act is no timer
-act-no-timer : (c : R.Clerk) (act : Act) → R.runsOut c (clerkActRead act) ≡ false
-act-no-timer c Accept = refl
-act-no-timer c Resume = refl
-act-no-timer c GoOn = refl
-act-no-timer c Cancel = refl
 
 module _ {p : R.Policy} {w : World} (g : Good p w) (known : Known p w) where
   -- ---- a step about a request, and one about none
@@ -127,8 +119,8 @@ module _ {p : R.Policy} {w : World} (g : Good p w) (known : Known p w) where
 
   clerk-act : (k : Words) (act : Act) → Turned p w (clerkDoes (Input.Act k act)) (clerkStepped w (w .down) (step (w .clerk) (Input.Act k act)) (w .history))
   clerk-act k act =
-      acting k (clerkActRead act) (Input.Act k act) (w .history) refl (Clerk.acts k act) (clerk-acts (w .clerk) (g .clerk) k act)
-      (λ n sim. subst (λ t. Noted (w .history) (w .history) k false t false false) (sym (act-no-timer (n .clerk) act)) (unnoted (w .history) k))
+      acting k (R.act act) (Input.Act k act) (w .history) refl (Clerk.acts k act) (clerk-acts (w .clerk) (g .clerk) k act)
+      (λ n sim. unnoted (w .history) k)
       (λ j d. unnoted (w .history) j)
 
   clerk-timer :
@@ -139,7 +131,7 @@ module _ {p : R.Policy} {w : World} (g : Good p w) (known : Known p w) where
   clerk-timer k timer =
       let h = w .history in
       let so = both (counts timer) (done (step (w .clerk) (Input.Timer k timer) .outcome)) in
-      acting k (timerRead timer) (Input.Timer k timer) (withRunOut h so k) refl (Clerk.times k timer)
+      acting k (R.timer timer) (Input.Timer k timer) (withRunOut h so k) refl (Clerk.times k timer)
       (clerk-reports (w .clerk) (g .clerk) k timer)
       (λ n sim.
       subst (λ t. Noted (withRunOut h so k) h k false t false false) (clerk-runs-out (w .clerk) (g .clerk) k timer (n .clerk) (sim .clerk)) (noted-timer h k so))

@@ -24,11 +24,7 @@ use Rattle.terms.specs.declared.request.Request.{Request}
 use Rattle.places.specs.Places as P
 use Rattle.clerk_table.specs.declared.table.State as ClerkStates
 use Rattle.clerk_table.specs.declared.table.State.the-variants as ClerkState
-use Rattle.clerk_table.specs.declared.table.Timer.{Timer}
-use Rattle.clerk_table.specs.declared.table.Timer.the-variants.{T1, T2, T3}
 use Rattle.clerk_table.specs.declared.record.Record as ClerkRecord
-use Rattle.clerk_table.specs.declared.inputs.Act as ClerkActs
-use Rattle.clerk_table.specs.declared.inputs.Act.the-variants as ClerkAct
 use Rattle.clerk_records.specs.Records as ClerkRecords
 use Rattle.clerk.specs.Entry.{askFlags}
 use Rattle.clerk.specs.declared.steps.Stepped as ClerkStepped
@@ -149,17 +145,6 @@ abbrev pub askRead : Names → Request → R.Msg
 askRead names q = R.request (dataOf names q) (canKeepSent (q .flags)) (q .flags / 2)
 
 -- ---- inputs
-abbrev pub clerkActRead : ClerkActs.Act → R.CAct
-clerkActRead ClerkAct.Accept = R.accept
-clerkActRead ClerkAct.Resume = R.resumes
-clerkActRead ClerkAct.GoOn = R.recalls
-clerkActRead ClerkAct.Cancel = R.quits
-
-abbrev pub timerRead : Timer → R.CAct
-timerRead T1 = R.t1
-timerRead T2 = R.t2
-timerRead T3 = R.t3
-
 abbrev pub lineActRead : LineActs.Act → R.LAct
 lineActRead LineAct.Alerted = R.alerted
 lineActRead LineAct.CallFailed = R.callFailed

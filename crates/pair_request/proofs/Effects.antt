@@ -3,7 +3,9 @@ use Prim.Native.Nat.{ℕ}
 use mathlib.Core.Path.{_≡_, refl, ap}
 use mathlib.Core.Bool.{Bool, true, false, false≢true}
 use mathlib.Core.List.{List, [], _∷_, _++_}
-use Rattle.pair_request.specs.Reading.{Conn, ret, rls, Data, Msg, request, result, denied, exec, ringout, busyAgain, noMatch, suspend, resume, cancel, alerts, failed, CState, invoked, waitAnswer, ringing, suspended, Clerk, absent, waiting, live, LState, idle, await, alert, Line, none, holds, and, not, sameConn, CAnswer, inRinging, onBusyAgain, unfit, onExec, clerkTakes, CAct, accept, resumes, recalls, quits, t1, t2, t3, liveActs, waitingActs, clerkActs, Policy, keepOf, connOf, Verdict, takes, denies, Word, onRequest, onRingout, resumeFits, onResume, onSuspend, lineTakes, LAct, offers, alerted, callFailed, cancels, guard, lineActs, Net, or, present, isT1orT2, guardEnds, held, Event, asks, clerkDoes, lineDoes, clerkGets, lineGets, losesUp, losesDown, afterClerk, afterLine, lost, afterAsk, askStep, clerkGetStep, lineGetStep, loseUpStep, loseDownStep, next}
+use Rattle.clerk_table.specs.declared.inputs.Act.the-variants as Act
+use Rattle.clerk_table.specs.declared.table.Timer.the-variants.{T1, T2, T3}
+use Rattle.pair_request.specs.Reading.{Conn, ret, rls, Data, Msg, request, result, denied, exec, ringout, busyAgain, noMatch, suspend, resume, cancel, alerts, failed, CState, invoked, waitAnswer, ringing, suspended, Clerk, absent, waiting, live, LState, idle, await, alert, Line, none, holds, and, not, sameConn, CAnswer, inRinging, onBusyAgain, unfit, onExec, clerkTakes, CAct, act, timer, liveActs, waitingActs, clerkActs, Policy, keepOf, connOf, Verdict, takes, denies, Word, onRequest, onRingout, resumeFits, onResume, onSuspend, lineTakes, LAct, offers, alerted, callFailed, cancels, guard, lineActs, Net, or, present, isT1orT2, guardEnds, held, Event, asks, clerkDoes, lineDoes, clerkGets, lineGets, losesUp, losesDown, afterClerk, afterLine, lost, afterAsk, askStep, clerkGetStep, lineGetStep, loseUpStep, loseDownStep, next}
 use Rattle.pair_request.specs.Listed.{NotReq, NoReq}
 
 -- ---- lists of messages
@@ -61,38 +63,38 @@ pub data ClerkActEffect : Clerk → Clerk → List Msg → Type 0 where
 
 live-act-effect : (d : Data) (ck k : Bool) (n : Conn) (s : CState) (x : CAct) → ClerkActEffect (live d ck k n s) (liveActs d ck k n s x .0) (liveActs d ck k n s x .1)
 unfolding liveActs
-live-act-effect d ck k n waitAnswer accept = accepts
-live-act-effect d ck k n invoked accept = stays
-live-act-effect d ck k n ringing accept = stays
-live-act-effect d ck k n suspended accept = stays
-live-act-effect d ck k n suspended resumes = resuming
-live-act-effect d ck k n invoked resumes = stays
-live-act-effect d ck k n waitAnswer resumes = stays
-live-act-effect d ck k n ringing resumes = stays
-live-act-effect d ck k n suspended recalls = recalling
-live-act-effect d ck k n invoked recalls = stays
-live-act-effect d ck k n waitAnswer recalls = stays
-live-act-effect d ck k n ringing recalls = stays
-live-act-effect d ck k n s quits = quit-live
-live-act-effect d ck k n s t1 = stays
-live-act-effect d ck k n invoked t2 = quit-live
-live-act-effect d ck k n waitAnswer t2 = quit-live
-live-act-effect d ck k n ringing t2 = stays
-live-act-effect d ck k n suspended t2 = quit-live
-live-act-effect d ck k n invoked t3 = stays
-live-act-effect d ck k n waitAnswer t3 = quit-live
-live-act-effect d ck k n ringing t3 = stays
-live-act-effect d ck k n suspended t3 = stays
+live-act-effect d ck k n waitAnswer (act Act.Accept) = accepts
+live-act-effect d ck k n invoked (act Act.Accept) = stays
+live-act-effect d ck k n ringing (act Act.Accept) = stays
+live-act-effect d ck k n suspended (act Act.Accept) = stays
+live-act-effect d ck k n suspended (act Act.Resume) = resuming
+live-act-effect d ck k n invoked (act Act.Resume) = stays
+live-act-effect d ck k n waitAnswer (act Act.Resume) = stays
+live-act-effect d ck k n ringing (act Act.Resume) = stays
+live-act-effect d ck k n suspended (act Act.GoOn) = recalling
+live-act-effect d ck k n invoked (act Act.GoOn) = stays
+live-act-effect d ck k n waitAnswer (act Act.GoOn) = stays
+live-act-effect d ck k n ringing (act Act.GoOn) = stays
+live-act-effect d ck k n s (act Act.Cancel) = quit-live
+live-act-effect d ck k n s (timer T1) = stays
+live-act-effect d ck k n invoked (timer T2) = quit-live
+live-act-effect d ck k n waitAnswer (timer T2) = quit-live
+live-act-effect d ck k n ringing (timer T2) = stays
+live-act-effect d ck k n suspended (timer T2) = quit-live
+live-act-effect d ck k n invoked (timer T3) = stays
+live-act-effect d ck k n waitAnswer (timer T3) = quit-live
+live-act-effect d ck k n ringing (timer T3) = stays
+live-act-effect d ck k n suspended (timer T3) = stays
 
 waiting-act-effect : (d : Data) (ck : Bool) (x : CAct) → ClerkActEffect (waiting d ck) (waitingActs d ck x .0) (waitingActs d ck x .1)
 unfolding waitingActs
-waiting-act-effect d ck accept = stays
-waiting-act-effect d ck resumes = stays
-waiting-act-effect d ck recalls = stays
-waiting-act-effect d ck quits = quit-waiting
-waiting-act-effect d ck t1 = quit-waiting
-waiting-act-effect d ck t2 = stays
-waiting-act-effect d ck t3 = stays
+waiting-act-effect d ck (act Act.Accept) = stays
+waiting-act-effect d ck (act Act.Resume) = stays
+waiting-act-effect d ck (act Act.GoOn) = stays
+waiting-act-effect d ck (act Act.Cancel) = quit-waiting
+waiting-act-effect d ck (timer T1) = quit-waiting
+waiting-act-effect d ck (timer T2) = stays
+waiting-act-effect d ck (timer T3) = stays
 
 pub clerk-act-effect : (c : Clerk) (x : CAct) → ClerkActEffect c (clerkActs c x .0) (clerkActs c x .1)
 unfolding clerkActs

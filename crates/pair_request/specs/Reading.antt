@@ -8,6 +8,10 @@ use lib.Dec.{eqb}
 use Rattle.lists.specs.Choice.{pick}
 use Rattle.lists.specs.declared.words.Words.{Words}
 use Rattle.message.specs.declared.Kind.{Kind}
+use Rattle.clerk_table.specs.declared.inputs.Act.{Act}
+use Rattle.clerk_table.specs.declared.inputs.Act.the-variants as Act
+use Rattle.clerk_table.specs.declared.table.Timer.{Timer}
+use Rattle.clerk_table.specs.declared.table.Timer.the-variants.{T1, T2, T3}
 
 pub data Conn : Type 0 where
   ret rls : Conn
@@ -122,42 +126,44 @@ clerkTakes c noMatch b = inRinging c (λ d ck k n. (absent, []))
 clerkTakes c alerts b = inRinging c (λ d ck k n. (absent, []))
 clerkTakes c failed b = inRinging c (λ d ck k n. (absent, cancel n ∷ []))
 
+-- an act of User A, or a timer's report
 pub data CAct : Type 0 where
-  accept resumes recalls quits t1 t2 t3 : CAct
+  act : Act → CAct
+  timer : Timer → CAct
 
 -- user's acts and timers at the clerk's end, by the state of an acknowledged record
 unfoldable pub liveActs : Data → Bool → Bool → Conn → CState → CAct → CAnswer
-liveActs d ck k n waitAnswer accept = (live d ck k n ringing, ringout ∷ [])
-liveActs d ck k n invoked accept = (live d ck k n invoked, [])
-liveActs d ck k n ringing accept = (live d ck k n ringing, [])
-liveActs d ck k n suspended accept = (live d ck k n suspended, [])
-liveActs d ck k n suspended resumes = (live d ck k n invoked, resume n ∷ [])
-liveActs d ck k n invoked resumes = (live d ck k n invoked, [])
-liveActs d ck k n waitAnswer resumes = (live d ck k n waitAnswer, [])
-liveActs d ck k n ringing resumes = (live d ck k n ringing, [])
-liveActs d ck k n suspended recalls = (live d ck k n waitAnswer, [])
-liveActs d ck k n invoked recalls = (live d ck k n invoked, [])
-liveActs d ck k n waitAnswer recalls = (live d ck k n waitAnswer, [])
-liveActs d ck k n ringing recalls = (live d ck k n ringing, [])
-liveActs d ck k n s quits = (absent, cancel n ∷ [])
-liveActs d ck k n s t1 = (live d ck k n s, [])
-liveActs d ck k n invoked t2 = (absent, cancel n ∷ [])
-liveActs d ck k n waitAnswer t2 = (absent, cancel n ∷ [])
-liveActs d ck k n ringing t2 = (live d ck k n ringing, [])
-liveActs d ck k n suspended t2 = (absent, cancel n ∷ [])
-liveActs d ck k n invoked t3 = (live d ck k n invoked, [])
-liveActs d ck k n waitAnswer t3 = (absent, cancel n ∷ [])
-liveActs d ck k n ringing t3 = (live d ck k n ringing, [])
-liveActs d ck k n suspended t3 = (live d ck k n suspended, [])
+liveActs d ck k n waitAnswer (act Act.Accept) = (live d ck k n ringing, ringout ∷ [])
+liveActs d ck k n invoked (act Act.Accept) = (live d ck k n invoked, [])
+liveActs d ck k n ringing (act Act.Accept) = (live d ck k n ringing, [])
+liveActs d ck k n suspended (act Act.Accept) = (live d ck k n suspended, [])
+liveActs d ck k n suspended (act Act.Resume) = (live d ck k n invoked, resume n ∷ [])
+liveActs d ck k n invoked (act Act.Resume) = (live d ck k n invoked, [])
+liveActs d ck k n waitAnswer (act Act.Resume) = (live d ck k n waitAnswer, [])
+liveActs d ck k n ringing (act Act.Resume) = (live d ck k n ringing, [])
+liveActs d ck k n suspended (act Act.GoOn) = (live d ck k n waitAnswer, [])
+liveActs d ck k n invoked (act Act.GoOn) = (live d ck k n invoked, [])
+liveActs d ck k n waitAnswer (act Act.GoOn) = (live d ck k n waitAnswer, [])
+liveActs d ck k n ringing (act Act.GoOn) = (live d ck k n ringing, [])
+liveActs d ck k n s (act Act.Cancel) = (absent, cancel n ∷ [])
+liveActs d ck k n s (timer T1) = (live d ck k n s, [])
+liveActs d ck k n invoked (timer T2) = (absent, cancel n ∷ [])
+liveActs d ck k n waitAnswer (timer T2) = (absent, cancel n ∷ [])
+liveActs d ck k n ringing (timer T2) = (live d ck k n ringing, [])
+liveActs d ck k n suspended (timer T2) = (absent, cancel n ∷ [])
+liveActs d ck k n invoked (timer T3) = (live d ck k n invoked, [])
+liveActs d ck k n waitAnswer (timer T3) = (absent, cancel n ∷ [])
+liveActs d ck k n ringing (timer T3) = (live d ck k n ringing, [])
+liveActs d ck k n suspended (timer T3) = (live d ck k n suspended, [])
 
 unfoldable pub waitingActs : Data → Bool → CAct → CAnswer
-waitingActs d ck accept = (waiting d ck, [])
-waitingActs d ck resumes = (waiting d ck, [])
-waitingActs d ck recalls = (waiting d ck, [])
-waitingActs d ck quits = (absent, cancel ret ∷ [])
-waitingActs d ck t1 = (absent, cancel ret ∷ [])
-waitingActs d ck t2 = (waiting d ck, [])
-waitingActs d ck t3 = (waiting d ck, [])
+waitingActs d ck (act Act.Accept) = (waiting d ck, [])
+waitingActs d ck (act Act.Resume) = (waiting d ck, [])
+waitingActs d ck (act Act.GoOn) = (waiting d ck, [])
+waitingActs d ck (act Act.Cancel) = (absent, cancel ret ∷ [])
+waitingActs d ck (timer T1) = (absent, cancel ret ∷ [])
+waitingActs d ck (timer T2) = (waiting d ck, [])
+waitingActs d ck (timer T3) = (waiting d ck, [])
 
 unfoldable pub clerkActs : Clerk → CAct → CAnswer
 clerkActs absent x = (absent, [])
@@ -279,13 +285,10 @@ present (waiting d ck) = true
 present (live d ck k n s) = true
 
 abbrev pub isT1orT2 : CAct → Bool
-isT1orT2 accept = false
-isT1orT2 resumes = false
-isT1orT2 recalls = false
-isT1orT2 quits = false
-isT1orT2 t1 = true
-isT1orT2 t2 = true
-isT1orT2 t3 = false
+isT1orT2 (act x) = false
+isT1orT2 (timer T1) = true
+isT1orT2 (timer T2) = true
+isT1orT2 (timer T3) = false
 
 -- did T1 or T2 run out and end the record, which was there
 abbrev pub runsOut : Clerk → CAct → Bool
