@@ -2,33 +2,36 @@
 use Prim.Native.Nat.{ℕ, zero, suc, _*_, _≤_, _<_}
 use mathlib.Core.Path.{_≡_, refl, sym, _∙_, ap}
 use mathlib.Core.Bool.{Bool, true, false, not}
-use mathlib.Core.List.{List, map}
+use mathlib.Core.List.{List, _++_, map}
 use lib.ListN.{length, getD, take, drop, set}
-use lib.Seq.{getD-take, set-out}
+use lib.Seq.{getD-take, getD-drop, set-out}
 use lib.Dec.{ltb, leb, eqb}
 use native.Mathlib.Omega.{arith}
 use borrow.Author.Tests.{ne-eqb, lt-ltb, lt-leb, ltb-true, ltb-false}
 use Rattle.lists.specs.Choice.{pick}
 use Rattle.lists.specs.Lists.{both, without}
+use Rattle.lists.specs.Parts.{over}
 use Rattle.lists.specs.Words.{sameWords}
 use Rattle.lists.specs.declared.words.Words.{Words}
 use Rattle.lists.proofs.Choice.{pick-elim}
 use Rattle.lists.proofs.Lists.{without-past}
+use Rattle.desk.specs.declared.Connection.{Connection}
+use Rattle.desk.specs.declared.Keep.{Keep}
 use Rattle.store.specs.Rows.{stateWord, live, free, hasIdentifier, rows, blankRow, rowsFit, found, removedRow}
-use Rattle.store.proofs.RowsLaws.{fit-from, put-length, drop-length}
-use Rattle.store.proofs.Decoded.{identified-live, free-live, decoded-length, decoded-past, decoded-found, decoded-at, decoded-put, decoded-drop}
+use Rattle.store.proofs.RowsLaws.{fit-from, put-length, turn-length, drop-length}
+use Rattle.store.proofs.Decoded.{identified-live, free-live, decoded-length, decoded-past, decoded-found, decoded-at, decoded-put, decoded-turn, decoded-drop}
 use Rattle.terms.specs.Terms as Terms
-use Rattle.terms.specs.Terms.{termsOf}
+use Rattle.terms.specs.Terms.{choicesAt, termsOf}
 use Rattle.terms.proofs.CodesLaws.{flag-back}
-use Rattle.terms.proofs.TermsLaws.{terms-back, terms-front}
+use Rattle.terms.proofs.TermsLaws.{terms-back, terms-front, word-from, terms-chosen}
 use Rattle.clerk_table.specs.declared.table.State.{State}
 use Rattle.clerk_table.specs.declared.table.State.the-variants.{Free, WaitAck, Invoked, WaitAnswer, Ringout, Suspended}
 use Rattle.clerk_table.specs.declared.record.Record.{Record}
 use Rattle.clerk_table.specs.declared.record.Change.{Change}
-use Rattle.clerk_table.specs.declared.record.Change.the-variants.{Stay, Put, Remove}
+use Rattle.clerk_table.specs.declared.record.Change.the-variants.{Stay, Put, Turn, Remove}
 use Rattle.clerk_records.specs.Codes.{stateOf, stateCode}
 use Rattle.clerk_records.specs.Layout.{width, canKeepAt, places, words, lastState}
-use Rattle.clerk_records.specs.Records.{recordOf, recordWords, blank, records, inUse, used, unused, identified, meant, place, recordsAfter, applied}
+use Rattle.clerk_records.specs.Records.{recordOf, recordWords, turnedWords, blank, records, inUse, used, unused, identified, meant, place, turned, recordsAfter, applied}
 
 -- ---- codes: what is stored is read back
 state-back : (s : State) → stateOf (stateCode s) ≡ s
@@ -43,6 +46,17 @@ state-back Suspended = refl
 pub record-back : (r : Record) → recordOf (recordWords r) ≡ r
 unfolding recordOf
 record-back r = rw (terms-back (r .terms) _, state-back (r .state), flag-back (r .canKeep))
+
+-- a row with other choices and another state: can-keep, behind them, is read as it was
+record-turned :
+    (keep : Keep) (connection : Connection) (state : State) (row : List ℕ) → width ≤ length row →
+    recordOf (take choicesAt row ++ over (turnedWords keep connection state) (drop choicesAt row)) ≡ turned keep connection state (recordOf row)
+unfolding recordOf
+record-turned keep connection state row long =
+    let words = over (turnedWords keep connection state) (drop choicesAt row) in
+    let new = word-from choicesAt row words (omega arith) in
+    let behind : getD words 3 0 ≡ getD row canKeepAt 0 = getD-drop 3 (drop choicesAt row) 0 0 ∙ getD-drop choicesAt row 3 0 in
+    rw (terms-chosen row _ keep connection (omega arith), new 2, state-back state, new 3 ∙ behind)
 
 -- a state word from 1 to the last is a record in use
 state-live : (w : ℕ) → both (ltb 0 w) (leb w lastState) ≡ inUse (stateOf w)
@@ -110,6 +124,10 @@ applied-length ws l (Put i r) =
     pick-elim (λ (x : List ℕ). length x ≡ words) (ltb i places)
     (λ t. put-length width places ws i (recordWords r) refl (ltb-true i places t) (omega arith) ∙ l)
     (λ f. l)
+applied-length ws l (Turn keep connection state i) =
+    pick-elim (λ (x : List ℕ). length x ≡ words) (ltb i places)
+    (λ t. turn-length width places ws i choicesAt (turnedWords keep connection state) (omega arith) (ltb-true i places t) (omega arith) ∙ l)
+    (λ f. l)
 applied-length ws l (Remove i) =
     pick-elim (λ (x : List ℕ). length x ≡ words) (rowsFit width places (length ws))
     (λ u.
@@ -129,6 +147,17 @@ put-records ws i r l =
     (λ t. decoded-put width places recordOf ws (recordWords r) i r (record-back r) refl (ltb-true i places t) (omega arith))
     (λ f. sym (set-out (map recordOf (rows width places ws)) i r (omega (arith, ltb-false i places f, decoded-length width places recordOf ws))))
 
+turn-records :
+    (ws : List ℕ) (i : ℕ) (keep : Keep) (connection : Connection) (state : State) → length ws ≡ words →
+    records (applied ws (Turn keep connection state i)) ≡ set (records ws) i (turned keep connection state (getD (records ws) i blank))
+unfolding applied records
+turn-records ws i keep connection state l =
+    let rs = map recordOf (rows width places ws) in
+    let r = turned keep connection state (getD rs i blank) in
+    pick-elim (λ (x : List ℕ). map recordOf (rows width places x) ≡ set rs i r) (ltb i places)
+    (λ t. decoded-turn width places recordOf choicesAt (turnedWords keep connection state) (turned keep connection state) (record-turned keep connection state) record-front ws i (omega arith) (ltb-true i places t) (omega arith))
+    (λ f. sym (set-out rs i r (omega (arith, ltb-false i places f, decoded-length width places recordOf ws))))
+
 remove-records : (ws : List ℕ) (i : ℕ) → length ws ≡ words → records (applied ws (Remove i)) ≡ without blank (records ws) i
 unfolding applied removedRow records
 remove-records ws i l =
@@ -141,4 +170,5 @@ pub records-applied : (ws : List ℕ) → length ws ≡ words → (c : Change) �
 unfolding applied
 records-applied ws l Stay = refl
 records-applied ws l (Put i r) = put-records ws i r l
+records-applied ws l (Turn keep connection state i) = turn-records ws i keep connection state l
 records-applied ws l (Remove i) = remove-records ws i l

@@ -1,4 +1,4 @@
-// The places of a clerk's desk: a record is found, loaded, put and removed, in words that the caller lends.
+// The places of a clerk's desk: a record is found, loaded, put, turned and removed, in words that the caller lends.
 use crate::CAN_KEEP_AT;
 use crate::LAST_STATE;
 use crate::PLACES;
@@ -9,9 +9,13 @@ use crate::codes::state_of;
 use clerk_table::record::Change;
 use clerk_table::record::Record;
 use clerk_table::table::State;
+use desk::Connection;
+use desk::Keep;
 use lists::Found;
 use lists::words::Words;
+use terms::codes::connection_code;
 use terms::codes::flag_code;
+use terms::codes::keep_code;
 use terms::no_terms;
 use terms::put_terms;
 use terms::terms_of;
@@ -19,9 +23,10 @@ ghost use mathlib.Core.Path.{_≡_};
 ghost use Prim.Native.Nat.{_≤_, _<_};
 ghost use lib.ListN.{length, getD};
 ghost use Rattle.lists.specs.Parts.{over};
-ghost use Rattle.store.specs.Rows.{putRow};
+ghost use Rattle.store.specs.Rows.{putRow, turnRow};
+ghost use Rattle.terms.specs.Terms.{choicesAt};
 ghost use Rattle.clerk_records.specs.Layout as Layout;
-ghost use Rattle.clerk_records.specs.Records.{recordOf, recordWords, blank, records, meant, place, applied};
+ghost use Rattle.clerk_records.specs.Records.{recordOf, recordWords, turnedWords, blank, records, meant, place, applied};
 
 // The record of a row.
 fn record_of(row: &[u64]) -> Record
@@ -100,6 +105,24 @@ fn put_in(words: &mut [u64], i: usize, r: Record)
     put_words(&mut words[at..], r);
 }
 
+// The choices and the state over the front of some words: they stand in a row one behind the other.
+fn turn_words(words: &mut [u64], keep: Keep, connection: Connection, state: State)
+    requires { ⌜ length (turnedWords keep connection state) ≤ length (now words) ⌝ }
+    ensures { λ q. ⌜ now (words .exit) ≡ over (turnedWords keep connection state) (now (words .entry)) ⌝ }
+{
+    words[0] = keep_code(keep);
+    words[1] = connection_code(connection);
+    words[2] = state_code(state);
+}
+
+fn turn_in(words: &mut [u64], i: usize, keep: Keep, connection: Connection, state: State)
+    requires { ⌜ (i < Layout.places) × (Layout.words ≤ length (now words)) ⌝ }
+    ensures { λ q. ⌜ now (words .exit) ≡ turnRow Layout.width (now (words .entry)) i choicesAt (turnedWords keep connection state) ⌝ }
+{
+    let at = i * WIDTH + terms::CHOICES_AT;
+    turn_words(&mut words[at..], keep, connection, state);
+}
+
 // A planned change, made in place.
 pub fn apply(words: &mut [u64; WORDS], change: Change)
     ensures { λ r. ⌜ now (words .exit) ≡ applied (now (words .entry)) change ⌝ }
@@ -109,6 +132,11 @@ pub fn apply(words: &mut [u64; WORDS], change: Change)
         Change::Put(i, r) => {
             if i < PLACES {
                 put_in(words, i, r);
+            }
+        }
+        Change::Turn(keep, connection, state, i) => {
+            if i < PLACES {
+                turn_in(words, i, keep, connection, state);
             }
         }
         Change::Remove(i) => store::remove(words, WIDTH, PLACES, i),

@@ -34,7 +34,7 @@ use Rattle.clerk_table.specs.declared.table.Timer.{Timer}
 use Rattle.clerk_table.specs.declared.table.Timer.the-variants.{T1, T2, T3}
 use Rattle.clerk_table.specs.declared.record.Record.{Record}
 use Rattle.clerk_table.specs.declared.record.Decision.{Decision}
-use Rattle.clerk_table.specs.declared.record.Change.the-variants.{Put, Remove}
+use Rattle.clerk_table.specs.declared.record.Change.the-variants.{Turn, Remove}
 use Rattle.clerk_table.specs.declared.record.Plan.{Plan}
 use Rattle.clerk_table.specs.declared.inputs.Act.{Act}
 use Rattle.clerk_table.specs.declared.inputs.Act.the-variants.{Accept, Resume, GoOn, Cancel}
@@ -154,7 +154,7 @@ module _ (identifier : Words) (rs : List Record) (i : ℕ) (sound : Sound rs) (u
   r = getD rs i blank
 
   -- from state to state behind the acknowledgment
-  turned : (s : State) → (r .state ≡ WaitAck → ⊥) → behind s ≡ true → Moved clerkView Turned Whole identifier rs (recordsAfter rs (Put i (withState r s)))
+  turned : (s : State) → (r .state ≡ WaitAck → ⊥) → behind s ≡ true → Moved clerkView Turned Whole identifier rs (recordsAfter rs (Turn (r .terms .keep) (r .terms .connection) s i))
   turned s away b =
       turns i (withState r s) u own (behind-used s b) own
       (record {

@@ -6,7 +6,6 @@ use Rattle.desk.specs.Outcome.{noTimers}
 use Rattle.desk.specs.Sends.{sent}
 use Rattle.desk.specs.declared.outcome.Timers.{Timers}
 use Rattle.clerk_table.specs.Table.{effectOf}
-use Rattle.clerk_table.specs.Record.{withState}
 use Rattle.clerk_table.specs.declared.table.State.{State}
 use Rattle.clerk_table.specs.declared.table.State.the-variants.{Free, WaitAck, Invoked, WaitAnswer, Ringout, Suspended}
 use Rattle.clerk_table.specs.declared.table.Row.{Row}
@@ -20,12 +19,12 @@ use Rattle.clerk_table.specs.declared.table.Stops.{Stops}
 use Rattle.clerk_table.specs.declared.table.Stops.the-variants as Stops
 use Rattle.clerk_table.specs.declared.record.Record.{Record}
 use Rattle.clerk_table.specs.declared.record.Change.{Change}
-use Rattle.clerk_table.specs.declared.record.Change.the-variants.{Put, Remove}
+use Rattle.clerk_table.specs.declared.record.Change.the-variants.{Turn, Remove}
 use Rattle.clerk_table.specs.declared.record.Plan.{Plan}
 
 abbrev pub changed : Next → ℕ → Record → Change
 changed Gone place r = Remove place
-changed (To state) place r = Put place (withState r state)
+changed (To state) place r = Turn (r .terms .keep) (r .terms .connection) state place
 
 abbrev pub only : Timer → Timers
 only T1 = record { t1 = true; t2 = false; t3 = false; guard = false }

@@ -1,6 +1,8 @@
 // A clerk's record in flight (document 01, "The two desks"); what a desk decides about an input, and what it plans: the change and the outcome.
 use crate::table::Row;
 use crate::table::State;
+use desk::Connection;
+use desk::Keep;
 use desk::outcome::Outcome;
 use desk::outcome::Sending;
 use desk::outcome::refused;
@@ -8,7 +10,7 @@ use desk::sends::Sends;
 use terms::Terms;
 use terms::request::Request;
 ghost use mathlib.Core.Path.{_≡_};
-ghost use Rattle.clerk_table.specs.Record.{withState, withTerms, refusedPlan};
+ghost use Rattle.clerk_table.specs.Record.{withTerms, refusedPlan};
 
 // The terms, the state, and the can-keep that was sent.
 pub struct Record {
@@ -25,28 +27,18 @@ pub enum Decision {
     Store(usize, Request),
 }
 
-// What becomes of the desk: nothing, a record put at a place, or the record of a place removed.
+// What becomes of the desk: nothing; a new record put at a place; these choices and this state given to the record of a place, which keeps all else; the record of
+// a place removed. What a turn gives stands before its place, so that in memory no word of a new record lies across it.
 pub enum Change {
     Stay,
     Put(usize, Record),
+    Turn(Keep, Connection, State, usize),
     Remove(usize),
 }
 
 pub struct Plan {
     pub change: Change,
     pub outcome: Outcome,
-}
-
-// The record in another state.
-pub fn with_state(r: Record, state: State) -> Record
-    ensures { λ q. ⌜ q ≡ withState r state ⌝ }
-{
-    let terms = r.terms;
-    Record {
-        terms,
-        state,
-        canKeep: r.canKeep,
-    }
 }
 
 // The record with other terms.

@@ -2,7 +2,6 @@
 use crate::record::Change;
 use crate::record::Plan;
 use crate::record::Record;
-use crate::record::with_state;
 use crate::table::Next;
 use crate::table::Row;
 use crate::table::Starts;
@@ -22,7 +21,12 @@ fn changed_to(next: Next, place: usize, r: Record) -> Change
 {
     match next {
         Next::Gone => Change::Remove(place),
-        Next::To(state) => Change::Put(place, with_state(r, state)),
+        Next::To(state) => {
+            let terms = r.terms;
+            let keep = terms.keep;
+            let connection = terms.connection;
+            Change::Turn(keep, connection, state, place)
+        }
     }
 }
 

@@ -1,21 +1,24 @@
 -- The words behind the records and the list of lines are one thing, by the laws of decoded rows; a change of the records leaves the lines and settings, and a change of a line leaves the rest.
 use Prim.Native.Nat.{ℕ, zero, suc, _+_, _-_, _*_, _≤_, _<_}
 use mathlib.Core.Path.{_≡_, refl, sym, _∙_, ap}
+use mathlib.Core.Bool.{Bool}
 use mathlib.Core.List.{List, [], _∷_, _++_, map, append-assoc}
 use lib.ListN.{length, getD, take, drop, set, length-append, length-drop, length-replicate}
-use lib.Seq.{getD-take, getD-drop, length-take-le, take-nil, take-take, take-add, take-at, drop-at, drop-drop, drop-append-add}
+use lib.Seq.{getD-take, getD-drop, length-take-le, take-nil, take-take, take-add, take-at, drop-at, drop-drop}
 use lib.Dec.{eqb}
 use native.Mathlib.Nat.{zero-add, suc-add}
 use native.Mathlib.Omega.{arith}
 use Rattle.lists.specs.Parts.{over}
-use Rattle.store.specs.Rows.{rows, putRow, dropRow, blankRow}
-use Rattle.store.proofs.RowsLaws.{place-rest, put-length, drop-length}
+use Rattle.store.specs.Rows.{rows, putRow, turnRow, dropRow, blankRow}
+use Rattle.store.proofs.RowsLaws.{place-rest, over-behind, put-length, turn-length, drop-length}
 use Rattle.store.proofs.Decoded.{decoded-length, decoded-at, decoded-past, decoded-put}
+use Rattle.terms.specs.Terms as Terms
 use Rattle.terms.proofs.CodesLaws.{flag-back}
+use Rattle.line_table.specs.declared.table.State.{State}
 use Rattle.line_table.specs.declared.record.Record.{Record}
 use Rattle.line_table.specs.declared.line.Line.{Line}
 use Rattle.line_records.specs.Layout as Layout
-use Rattle.line_records.specs.Records.{recordOf, recordWords, records}
+use Rattle.line_records.specs.Records.{recordOf, turnedWords, recordWords, records}
 use Rattle.line_records.specs.Lines.{lineOf, lineWords, noLine, lines, overLine, keeps, retains}
 
 -- the words of all lines
@@ -90,21 +93,6 @@ pub settings-behind : (v w : List ℕ) → drop Layout.linesAt v ≡ drop Layout
 settings-behind v w h = sym (drop-drop lineWordsAll Layout.linesAt v) ∙ ap (drop lineWordsAll) h ∙ drop-drop lineWordsAll Layout.linesAt w
 
 -- ---- what a change leaves
-over-behind : (n a : ℕ) (row ws : List ℕ) → a + length row ≤ n → a ≤ length ws → drop n (take a ws ++ over row (drop a ws)) ≡ drop n ws
-over-behind n a row ws h f =
-    let front = take a ws ++ row in
-    let rest = drop (length row) (drop a ws) in
-    let m = n - (a + length row) in
-    let l : length front ≡ a + length row = length-append (take a ws) row ∙ ap (λ (k : ℕ). k + length row) (length-take-le a ws f) in
-    let e : n ≡ length front + m = omega arith in
-    let s : a + (length row + m) ≡ n = omega arith in
-    ap (drop n) (sym (append-assoc (take a ws) row rest))
-    ∙ ap (λ (k : ℕ). drop k (front ++ rest)) e
-    ∙ drop-append-add front rest m
-    ∙ drop-drop m (length row) (drop a ws)
-    ∙ drop-drop (length row + m) a ws
-    ∙ ap (λ (k : ℕ). drop k ws) s
-
 pub putRow-length :
     (words : List ℕ) (i : ℕ) (r : Record) → i < Layout.places → length words ≡ Layout.words →
     length (putRow Layout.width words i (recordWords r)) ≡ length words
@@ -115,6 +103,14 @@ pub putRow-behind :
     drop Layout.linesAt (putRow Layout.width words i (recordWords r)) ≡ drop Layout.linesAt words
 unfolding putRow
 putRow-behind words i r h l = over-behind Layout.linesAt (i * Layout.width) (recordWords r) words (omega arith) (omega arith)
+
+module _ (words : List ℕ) (i : ℕ) (state : State) (active suspended : Bool) (h : i < Layout.places) (l : length words ≡ Layout.words) where
+  pub turnRow-length : length (turnRow Layout.width words i Terms.width (turnedWords state active suspended)) ≡ length words
+  turnRow-length = turn-length Layout.width Layout.places words i Terms.width (turnedWords state active suspended) (omega arith) h (omega arith)
+
+  pub turnRow-behind : drop Layout.linesAt (turnRow Layout.width words i Terms.width (turnedWords state active suspended)) ≡ drop Layout.linesAt words
+  unfolding turnRow
+  turnRow-behind = over-behind Layout.linesAt (i * Layout.width + Terms.width) (turnedWords state active suspended) words (omega arith) (omega arith)
 
 pub dropRow-length :
     (words : List ℕ) (i : ℕ) → i < Layout.places → length words ≡ Layout.words → length (dropRow Layout.width Layout.places words i) ≡ length words

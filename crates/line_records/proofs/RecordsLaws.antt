@@ -2,7 +2,7 @@
 use Prim.Native.Nat.{ℕ, _*_, _≤_, _<_}
 use mathlib.Core.Path.{_≡_, refl, _∙_, ap}
 use mathlib.Core.Bool.{Bool, true, false, not}
-use mathlib.Core.List.{List}
+use mathlib.Core.List.{List, _++_}
 use lib.ListN.{length, getD, take, drop, set}
 use lib.Seq.{getD-take}
 use lib.Dec.{ltb, leb, eqb}
@@ -10,23 +10,25 @@ use native.Mathlib.Omega.{arith}
 use borrow.Author.Tests.{eqb-true, eqb-false, ltb-true, lt-leb}
 use Rattle.lists.specs.Choice.{pick}
 use Rattle.lists.specs.Lists.{both, without}
+use Rattle.lists.specs.Parts.{over}
 use Rattle.lists.specs.Words.{sameWords}
 use Rattle.lists.specs.declared.words.Words.{Words}
 use Rattle.lists.proofs.Choice.{pick-elim}
-use Rattle.store.specs.Rows.{stateWord, live, free, hasIdentifier, putRow, dropRow, blankRow, rowsFit, found}
+use Rattle.store.specs.Rows.{stateWord, live, free, hasIdentifier, putRow, turnRow, dropRow, blankRow, rowsFit, found}
 use Rattle.store.proofs.RowsLaws.{fit-from}
-use Rattle.store.proofs.Decoded.{identified-live, free-live, decoded-length, decoded-at, decoded-past, decoded-found, decoded-put, decoded-drop}
+use Rattle.store.proofs.Decoded.{identified-live, free-live, decoded-length, decoded-at, decoded-past, decoded-found, decoded-put, decoded-turn, decoded-drop}
 use Rattle.terms.specs.Terms as Terms
 use Rattle.terms.specs.Terms.{termsOf}
 use Rattle.terms.proofs.CodesLaws.{flag-back}
-use Rattle.terms.proofs.TermsLaws.{terms-back, terms-front}
+use Rattle.terms.proofs.TermsLaws.{terms-back, terms-front, word-from, terms-kept}
+use Rattle.line_table.specs.Record.{moved}
 use Rattle.line_table.specs.Search.{inUse, used}
 use Rattle.line_table.specs.declared.table.State.{State}
 use Rattle.line_table.specs.declared.table.State.the-variants.{Free, Invoked, Await, Alert}
 use Rattle.line_table.specs.declared.record.Record.{Record}
 use Rattle.line_records.specs.Layout as Layout
 use Rattle.line_records.specs.Codes.{stateOf, stateCode}
-use Rattle.line_records.specs.Records.{recordOf, recordWords, blank, records, unused, identified, meant, place}
+use Rattle.line_records.specs.Records.{recordOf, turnedWords, recordWords, blank, records, unused, identified, meant, place}
 
 -- ---- a record and its words: what is stored is read back, and nothing behind the row is read
 state-back : (s : State) → stateOf (stateCode s) ≡ s
@@ -50,6 +52,15 @@ record-front row =
       same Layout.activeAt (omega arith),
       same Layout.suspendedAt (omega arith),
     )
+
+record-turned :
+    (state : State) (active suspended : Bool) (row : List ℕ) → Layout.width ≤ length row →
+    recordOf (take Terms.width row ++ over (turnedWords state active suspended) (drop Terms.width row)) ≡ moved (recordOf row) state active suspended
+unfolding recordOf
+record-turned state active suspended row long =
+    let words = over (turnedWords state active suspended) (drop Terms.width row) in
+    let new = word-from Terms.width row words (omega arith) in
+    rw (terms-kept row words (omega arith), new 0, new 1, new 2, state-back state, flag-back active, flag-back suspended)
 
 blank-row : recordOf (blankRow Layout.width) ≡ blank
 unfolding recordOf termsOf
@@ -120,6 +131,13 @@ pub records-put :
     records (putRow Layout.width words i (recordWords r)) ≡ set (records words) i r
 unfolding records
 records-put words i r h l = decoded-put Layout.width Layout.places recordOf words (recordWords r) i r (record-back r) refl h l
+
+pub records-turn :
+    (words : List ℕ) (i : ℕ) (state : State) (active suspended : Bool) → i < Layout.places → Layout.linesAt ≤ length words →
+    records (turnRow Layout.width words i Terms.width (turnedWords state active suspended)) ≡ set (records words) i (moved (getD (records words) i blank) state active suspended)
+unfolding records
+records-turn words i state active suspended h l =
+    decoded-turn Layout.width Layout.places recordOf Terms.width (turnedWords state active suspended) (λ r. moved r state active suspended) (record-turned state active suspended) record-front words i (omega arith) h l
 
 pub records-drop :
     (words : List ℕ) (i : ℕ) → i < Layout.places → Layout.linesAt ≤ length words →

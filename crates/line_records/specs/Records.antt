@@ -1,4 +1,4 @@
--- The records of the line desk: what the first words of a desk are, as a list of records, and a record put or removed.
+-- The records of the line desk: what the first words of a desk are, as a list of records, and a record put, turned or removed.
 use Prim.Native.Nat.{ℕ}
 use mathlib.Core.Bool.{Bool, true, false}
 use mathlib.Core.List.{List, [], _∷_, _++_, map}
@@ -9,10 +9,12 @@ use Rattle.lists.specs.Lists.{both, first}
 use Rattle.lists.specs.Words.{sameWords}
 use Rattle.lists.specs.declared.Found.{Found}
 use Rattle.lists.specs.declared.words.Words.{Words}
-use Rattle.store.specs.Rows.{stateWord, rows, putRow, dropRow}
+use Rattle.store.specs.Rows.{stateWord, rows, putRow, turnRow, dropRow}
 use Rattle.terms.specs.Codes.{flagCode}
+use Rattle.terms.specs.Terms as Terms
 use Rattle.terms.specs.Terms.{termsOf, termsWords}
 use Rattle.line_table.specs.Search.{used}
+use Rattle.line_table.specs.declared.table.State.{State}
 use Rattle.line_table.specs.declared.record.Record.{Record}
 use Rattle.line_records.specs.Layout.{activeAt, suspendedAt, width, places}
 use Rattle.line_records.specs.Codes.{stateOf, stateCode}
@@ -27,9 +29,12 @@ recordOf row =
       suspended = eqb (getD row suspendedAt 0) 1;
     }
 
--- a record as a row of words
+-- a record as a row of words: its terms, and behind them what a turn puts anew
+abbrev pub turnedWords : State → Bool → Bool → List ℕ
+turnedWords state active suspended = stateCode state ∷ flagCode active ∷ flagCode suspended ∷ []
+
 abbrev pub recordWords : Record → List ℕ
-recordWords r = termsWords (r .terms) ++ (stateCode (r .state) ∷ flagCode (r .active) ∷ flagCode (r .suspended) ∷ [])
+recordWords r = termsWords (r .terms) ++ turnedWords (r .state) (r .active) (r .suspended)
 
 -- what a free place holds, and what is read past the last
 abbrev pub blank : Record
@@ -53,9 +58,12 @@ meant identifier rs = first (identified identifier) rs
 unfoldable pub place : List Record → Found
 place rs = first unused rs
 
--- the words with a record at a place, and with a place's record removed; a place that is not there changes nothing
+-- the words with a record at a place, with a place's record turned, and with it removed; a place that is not there changes nothing
 unfoldable pub putRecord : List ℕ → ℕ → Record → List ℕ
 putRecord words i r = pick (ltb i places) (putRow width words i (recordWords r)) words
+
+unfoldable pub turnRecord : List ℕ → ℕ → State → Bool → Bool → List ℕ
+turnRecord words i state active suspended = pick (ltb i places) (turnRow width words i Terms.width (turnedWords state active suspended)) words
 
 unfoldable pub removed : List ℕ → ℕ → List ℕ
 removed words i = pick (ltb i places) (dropRow width places words i) words

@@ -6,23 +6,14 @@ use crate::lines::put_line;
 use crate::places::load;
 use crate::places::put_record;
 use crate::places::remove_record;
+use crate::places::turn_record;
 use line_table::line::with_status;
 use line_table::record::Change;
-use line_table::record::Record;
-use line_table::record::moved_to;
 use line_table::search::is_marked;
 use lists::words::Words;
 ghost use mathlib.Core.Path.{_≡_};
 ghost use Rattle.line_records.specs.Layout.{places};
-ghost use Rattle.line_records.specs.Change.{activated, markPlace, marked, statusStored, withReport, applied};
-
-// The record with its activity mark set.
-fn activated_record(r: Record) -> Record
-    ensures { λ q. ⌜ q ≡ activated r ⌝ }
-{
-    let state = r.state;
-    moved_to(r, state, true, r.suspended)
-}
+ghost use Rattle.line_records.specs.Change.{markPlace, marked, statusStored, withReport, applied};
 
 // The record of a place marked active, if a busy report of the line marks it.
 fn mark_place(words: &mut [u64; WORDS], i: usize, number: Words)
@@ -30,8 +21,8 @@ fn mark_place(words: &mut [u64; WORDS], i: usize, number: Words)
 {
     let r = load(words, i);
     if is_marked(number, r) {
-        let q = activated_record(r);
-        put_record(words, i, q);
+        let state = r.state;
+        turn_record(words, i, state, true, r.suspended);
     }
 }
 
@@ -71,6 +62,13 @@ pub fn apply(words: &mut [u64; WORDS], change: Change)
     match change {
         Change::Stay => {}
         Change::Put(i, r) => put_record(words, i, r),
+        Change::Turn(state, active, suspended, i) => turn_record(
+            words,
+            i,
+            state,
+            active,
+            suspended,
+        ),
         Change::Remove(i) => remove_record(words, i),
         Change::Report(k, number, busy) => report_line(words, k, number, busy),
     }

@@ -1,4 +1,4 @@
-// The places of a line desk: a record is found, loaded, put and removed, in words that the caller lends.
+// The places of a line desk: a record is found, loaded, put, turned and removed, in words that the caller lends.
 use crate::ACTIVE_AT;
 use crate::LAST_STATE;
 use crate::PLACES;
@@ -9,6 +9,7 @@ use crate::WORDS;
 use crate::codes::state_code;
 use crate::codes::state_of;
 use line_table::record::Record;
+use line_table::table::State;
 use lists::Found;
 use lists::words::Words;
 use terms::codes::flag_code;
@@ -18,9 +19,10 @@ ghost use mathlib.Core.Path.{_≡_};
 ghost use Prim.Native.Nat.{_≤_, _<_};
 ghost use lib.ListN.{length, getD};
 ghost use Rattle.lists.specs.Parts.{over};
-ghost use Rattle.store.specs.Rows.{putRow};
+ghost use Rattle.store.specs.Rows.{putRow, turnRow};
+ghost use Rattle.terms.specs.Terms as Terms;
 ghost use Rattle.line_records.specs.Layout.{width, places, linesAt};
-ghost use Rattle.line_records.specs.Records.{recordOf, recordWords, blank, records, meant, place, putRecord, removed};
+ghost use Rattle.line_records.specs.Records.{recordOf, turnedWords, recordWords, blank, records, meant, place, putRecord, turnRecord, removed};
 
 // The record of a row.
 fn record_of(row: &[u64]) -> Record
@@ -37,6 +39,16 @@ fn record_of(row: &[u64]) -> Record
     }
 }
 
+// The state and the marks over the front of some words: they stand in a row one behind the other.
+fn turn_words(words: &mut [u64], state: State, active: bool, suspended: bool)
+    requires { ⌜ length (turnedWords state active suspended) ≤ length (now words) ⌝ }
+    ensures { λ q. ⌜ now (words .exit) ≡ over (turnedWords state active suspended) (now (words .entry)) ⌝ }
+{
+    words[0] = state_code(state);
+    words[1] = flag_code(active);
+    words[2] = flag_code(suspended);
+}
+
 // A record over the front of some words.
 fn put_words(row: &mut [u64], r: Record)
     requires { ⌜ width ≤ length (now row) ⌝ }
@@ -45,9 +57,7 @@ fn put_words(row: &mut [u64], r: Record)
     let agreed = r.terms;
     let state = r.state;
     put_terms(row, agreed);
-    row[STATE_AT] = state_code(state);
-    row[ACTIVE_AT] = flag_code(r.active);
-    row[SUSPENDED_AT] = flag_code(r.suspended);
+    turn_words(&mut row[STATE_AT..], state, r.active, r.suspended);
 }
 
 // The place of the record in use with that identifier.
@@ -102,6 +112,23 @@ pub fn put_record(words: &mut [u64; WORDS], i: usize, r: Record)
 {
     if i < PLACES {
         put_in(words, i, r);
+    }
+}
+
+fn turn_in(words: &mut [u64], i: usize, state: State, active: bool, suspended: bool)
+    requires { ⌜ (i < places) × (linesAt ≤ length (now words)) ⌝ }
+    ensures { λ q. ⌜ now (words .exit) ≡ turnRow width (now (words .entry)) i Terms.width (turnedWords state active suspended) ⌝ }
+{
+    let at = i * WIDTH + STATE_AT;
+    turn_words(&mut words[at..], state, active, suspended);
+}
+
+// The record of a place in another state and with other marks; a place that is not there changes nothing.
+pub fn turn_record(words: &mut [u64; WORDS], i: usize, state: State, active: bool, suspended: bool)
+    ensures { λ r. ⌜ now (words .exit) ≡ turnRecord (now (words .entry)) i state active suspended ⌝ }
+{
+    if i < PLACES {
+        turn_in(words, i, state, active, suspended);
     }
 }
 

@@ -39,7 +39,7 @@ use Rattle.line_table.specs.declared.record.Record.{Record}
 use Rattle.line_table.specs.declared.record.Decision.{Decision}
 use Rattle.line_table.specs.declared.record.Decision.the-variants.{Refuse, Deny, Take, Store, Report}
 use Rattle.line_table.specs.declared.record.Change.{Change}
-use Rattle.line_table.specs.declared.record.Change.the-variants.{Put, Remove}
+use Rattle.line_table.specs.declared.record.Change.the-variants.{Turn, Remove}
 use Rattle.line_table.specs.declared.inputs.Input.{Input}
 use Rattle.line_table.specs.declared.inputs.Input.the-variants as Input
 use Rattle.line_table.specs.declared.inputs.RecordMessage.{RecordMessage}
@@ -80,7 +80,7 @@ module _ (ws : List ℕ) (sound : Sound ws) where
     abbrev its : Record
     its = getD (records ws) i blank
 
-    turn : (s : State) (active suspended : Bool) → inUse s ≡ true → (suspended ≡ true → s ≡ Await) → Turns identifier (Put i (moved its s active suspended))
+    turn : (s : State) (active suspended : Bool) → inUse s ≡ true → (suspended ≡ true → s ≡ Await) → Turns identifier (Turn s active suspended i)
     turn s active suspended is suspension =
         let whole = sound .each i u in
         record {

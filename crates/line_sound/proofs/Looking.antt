@@ -20,7 +20,7 @@ use Rattle.line_table.specs.Search.{blocks, fits, passes}
 use Rattle.line_table.specs.declared.table.State.the-variants.{Await}
 use Rattle.line_table.specs.declared.record.Record.{Record}
 use Rattle.line_table.specs.declared.record.Decision.{Decision}
-use Rattle.line_table.specs.declared.record.Change.the-variants.{Put}
+use Rattle.line_table.specs.declared.record.Change.the-variants.{Turn}
 use Rattle.line_table.specs.declared.inputs.Input.the-variants as Input
 use Rattle.line_table.specs.declared.search.Sought.the-variants.{Blocking, Fitting}
 use Rattle.line_records.specs.Layout as Layout
@@ -69,7 +69,6 @@ module _ (d : Desk) (number : Words) (full : length (d .words) ≡ Layout.words)
     tells-fitting unblocked Nothing e zero = absurd (omega (arith, zero))
     tells-fitting unblocked (At i) e zero =
         let r : Record = recordAt d i in
-        let r′ : Record = moved r Await (r .active) (r .suspended) in
         record {
           place = i;
           line = k;
@@ -78,8 +77,8 @@ module _ (d : Desk) (number : Words) (full : length (d .words) ≡ Layout.words)
           unblocked = none-passes (blocks number) (records (d .words)) (blank-passes-not number .0) unblocked;
           fitting = first-holds (fits number) (records (d .words)) i blank e;
           oldest = λ j h. first-earlier (fits number) (records (d .words)) i blank e j (omega (arith, h));
-          stored = records-applied (d .words) (Put i r′) full;
-          others = lines-applied (d .words) (Put i r′) full;
+          stored = records-applied (d .words) (Turn Await (r .active) (r .suspended) i) full;
+          others = lines-applied (d .words) (Turn Await (r .active) (r .suspended) i) full;
         }
 
     tells-blocking :

@@ -5,7 +5,6 @@ use Rattle.desk.specs.Outcome.{noTimers, doneWith}
 use Rattle.desk.specs.Sends.{sent}
 use Rattle.desk.specs.declared.outcome.Timers.{Timers}
 use Rattle.line_table.specs.Table.{effectOf}
-use Rattle.line_table.specs.Record.{moved}
 use Rattle.line_table.specs.declared.table.Row.{Row}
 use Rattle.line_table.specs.declared.table.Next.{Next}
 use Rattle.line_table.specs.declared.table.Next.the-variants.{Gone, To}
@@ -13,7 +12,7 @@ use Rattle.line_table.specs.declared.table.Mark.{Mark}
 use Rattle.line_table.specs.declared.table.Mark.the-variants.{Nothing, Sets, Clears}
 use Rattle.line_table.specs.declared.record.Record.{Record}
 use Rattle.line_table.specs.declared.record.Change.{Change}
-use Rattle.line_table.specs.declared.record.Change.the-variants.{Put, Remove}
+use Rattle.line_table.specs.declared.record.Change.the-variants.{Turn, Remove}
 use Rattle.line_table.specs.declared.record.Plan.{Plan}
 
 -- the line's one timer
@@ -25,9 +24,9 @@ markedBy Nothing before = before
 markedBy Sets before = true
 markedBy Clears before = false
 
-abbrev pub changed : Next → ℕ → Record → Bool → Bool → Change
-changed Gone place r active suspended = Remove place
-changed (To state) place r active suspended = Put place (moved r state active suspended)
+abbrev pub changed : Next → ℕ → Bool → Bool → Change
+changed Gone place active suspended = Remove place
+changed (To state) place active suspended = Turn state active suspended place
 
 -- a delete stops the guard
 abbrev pub stopped : Next → Timers
@@ -37,6 +36,6 @@ stopped (To state) = noTimers
 unfoldable pub rowTaken : ℕ → Record → Row → Plan
 rowTaken place r row =
     record {
-      change = changed (effectOf row .next) place r (markedBy (effectOf row .active) (r .active)) (markedBy (effectOf row .suspended) (r .suspended));
+      change = changed (effectOf row .next) place (markedBy (effectOf row .active) (r .active)) (markedBy (effectOf row .suspended) (r .suspended));
       outcome = doneWith (sent (effectOf row .sends) (r .terms .identifier) (r .terms .connection)) noTimers (stopped (effectOf row .next));
     }

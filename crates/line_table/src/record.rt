@@ -10,7 +10,7 @@ use lists::words::Words;
 use terms::Terms;
 use terms::request::Request;
 ghost use mathlib.Core.Path.{_≡_};
-ghost use Rattle.line_table.specs.Record.{moved, refusedPlan};
+ghost use Rattle.line_table.specs.Record.{refusedPlan};
 
 pub struct Record {
     pub terms: Terms,
@@ -29,11 +29,13 @@ pub enum Decision {
     Report(usize, bool),
 }
 
-// What becomes of the desk: nothing; a record put at a place; the record of a place removed; the status of the line at a place, with its
-// number, stored.
+// What becomes of the desk: nothing; a new record put at a place; this state, activity mark and suspended mark given to the record of a place, which keeps its
+// terms; the record of a place removed; the status of the line at a place, with its number, stored. What a turn gives stands before its place, so that in memory no
+// word of a new record lies across it.
 pub enum Change {
     Stay,
     Put(usize, Record),
+    Turn(State, bool, bool, usize),
     Remove(usize),
     Report(usize, Words, bool),
 }
@@ -41,19 +43,6 @@ pub enum Change {
 pub struct Plan {
     pub change: Change,
     pub outcome: Outcome,
-}
-
-// The record in a state and with its marks.
-pub fn moved_to(r: Record, state: State, active: bool, suspended: bool) -> Record
-    ensures { λ q. ⌜ q ≡ moved r state active suspended ⌝ }
-{
-    let terms = r.terms;
-    Record {
-        terms,
-        state,
-        active,
-        suspended,
-    }
 }
 
 // A refusal changes nothing.

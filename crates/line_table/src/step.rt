@@ -2,7 +2,6 @@
 use crate::record::Change;
 use crate::record::Plan;
 use crate::record::Record;
-use crate::record::moved_to;
 use crate::table::Mark;
 use crate::table::Next;
 use crate::table::Row;
@@ -36,12 +35,12 @@ fn marked_by(mark: Mark, before: bool) -> bool
     }
 }
 
-fn changed_to(next: Next, place: usize, r: Record, active: bool, suspended: bool) -> Change
-    ensures { λ q. ⌜ q ≡ changed next place r active suspended ⌝ }
+fn changed_to(next: Next, place: usize, active: bool, suspended: bool) -> Change
+    ensures { λ q. ⌜ q ≡ changed next place active suspended ⌝ }
 {
     match next {
         Next::Gone => Change::Remove(place),
-        Next::To(state) => Change::Put(place, moved_to(r, state, active, suspended)),
+        Next::To(state) => Change::Turn(state, active, suspended, place),
     }
 }
 
@@ -69,7 +68,7 @@ pub fn take_row(place: usize, r: Record, row: Row) -> Plan
     let connection = terms.connection;
     let active = marked_by(activity, r.active);
     let suspended = marked_by(suspension, r.suspended);
-    let change = changed_to(next, place, r, active, suspended);
+    let change = changed_to(next, place, active, suspended);
     let sending = sent_for(sends, identifier, connection);
     let stops = timers_stopped(next);
     let outcome = done(sending, no_timers(), stops);

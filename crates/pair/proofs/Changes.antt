@@ -1,16 +1,16 @@
 -- A change of a desk's records that is about one identifier: what is held under it afterwards. It is said once for both desks, over any type of record, by the laws of places.
 use Prim.Native.Nat.{ℕ}
-use mathlib.Core.Path.{_≡_, refl, sym, ap, _∙_}
+use mathlib.Core.Path.{_≡_, refl, sym, ap, _∙_, subst}
 use mathlib.Core.Bool.{Bool, true, false}
 use mathlib.Core.List.{List}
-use lib.ListN.{set}
+use lib.ListN.{getD, set}
 use native.Mathlib.Omega.{arith}
 use Rattle.lists.specs.Choice.{pick}
 use Rattle.lists.specs.Lists.{without}
 use Rattle.lists.specs.declared.Found.the-variants.{At, Nothing}
 use Rattle.lists.specs.declared.words.Words.{Words}
 use Rattle.places.specs.Places.{View, Placed, placeIn, meantIn, Held, none, one, held}
-use Rattle.places.proofs.Holding.{meant-its, held-put, held-add, held-remove}
+use Rattle.places.proofs.Holding.{meant-its, held-found, held-put, held-add, held-remove}
 
 -- a list after a change, and what it leaves under the identifier: nothing is changed; the record under it is turned, or removed; a new one is stored
 pub data Own {A : Type 0} (v : View A) (rs : List A) (j : Words) : List A → Held A → Type 0 where
@@ -18,6 +18,13 @@ pub data Own {A : Type 0} (v : View A) (rs : List A) (j : Words) : List A → He
   turns : (i : ℕ) (r : A) → meantIn v j rs ≡ At i → Own v rs j (set rs i r) (one r)
   stores : (i : ℕ) (r : A) → placeIn v rs ≡ At i → meantIn v j rs ≡ Nothing → Own v rs j (set rs i r) (one r)
   removes : (i : ℕ) → meantIn v j rs ≡ At i → Own v rs j (without (v .blank) rs i) none
+
+-- the record that is found is the one held, so a turn of it is one of what is held
+pub turns-found :
+    {A : Type 0} (v : View A) (rs : List A) (j : Words) (i : ℕ) {r : A} (leaves : Held A → Held A) → meantIn v j rs ≡ At i →
+    leaves (one (getD rs i (v .blank))) ≡ one r → Own v rs j (set rs i r) (leaves (held v j rs))
+turns-found v rs j i {r} leaves e left =
+    subst (Own v rs j (set rs i r)) (sym (ap leaves (held-found v rs j i e) ∙ left)) (turns i r e)
 
 -- what may be held under it: none, or a used record that has it
 abbrev pub Its : {A : Type 0} → View A → Words → Held A → Type 0

@@ -41,7 +41,7 @@ use Rattle.clerk_table.specs.declared.table.Timer.{Timer}
 use Rattle.clerk_table.specs.declared.table.Timer.the-variants.{T1, T2, T3}
 use Rattle.clerk_table.specs.declared.record.Record.{Record}
 use Rattle.clerk_table.specs.declared.record.Change.{Change}
-use Rattle.clerk_table.specs.declared.record.Change.the-variants.{Stay, Put, Remove}
+use Rattle.clerk_table.specs.declared.record.Change.the-variants.{Stay, Put, Turn, Remove}
 use Rattle.clerk_table.specs.declared.record.Decision.{Decision}
 use Rattle.clerk_table.specs.declared.record.Decision.the-variants.{Refuse, Take, Store}
 use Rattle.clerk_table.specs.declared.record.Plan.{Plan}
@@ -51,7 +51,7 @@ use Rattle.clerk_table.specs.declared.inputs.Input.{Input}
 use Rattle.clerk_table.specs.declared.inputs.Input.the-variants as Input
 use Rattle.clerk_table.specs.declared.inputs.Meant.{Meant}
 use Rattle.clerk_table.specs.declared.inputs.Meant.the-variants as Meant
-use Rattle.clerk_records.specs.Records.{blank, records, meant, place, recordsAfter, applied}
+use Rattle.clerk_records.specs.Records.{blank, records, meant, place, turned, recordsAfter, applied}
 use Rattle.clerk_records.proofs.RecordsLaws.{records-applied}
 use Rattle.clerk_plan.specs.Plan.{holdsFor, askPlace, askFound, recordDecision, messageMeant, ownFound, decided, newRecord, storedPlan, planOf, planFor}
 use Rattle.clerk.specs.Entry.{askFlags}
@@ -62,7 +62,7 @@ use Rattle.clerk_sound.specs.Sound.{clerkView, Reached}
 use Rattle.pair_request.specs.Reading as R
 use Rattle.pair.specs.World.{sentBy, done, counts}
 use Rattle.pair.proofs.Ends.{clerkRecord, clerkStateRead, keepRead, connRead, clerkRead, letterRead, messageRead, dataOf, askRead, ClerkStep}
-use Rattle.pair.proofs.Changes.{Own, stays, turns, stores, removes, Its, own-held, not-one, the-one, pick-ap}
+use Rattle.pair.proofs.Changes.{Own, stays, turns-found, stores, removes, Its, own-held, not-one, the-one, pick-ap}
 use Rattle.pair.proofs.Grounds.{clerk-placed, clerk-full}
 use Rattle.pair.proofs.Letters.{letter-name, ask-letter}
 
@@ -71,6 +71,8 @@ use Rattle.pair.proofs.Letters.{letter-name, ask-letter}
 abbrev leaves : Change → Held Record → Held Record
 leaves Stay before = before
 leaves (Put i r) before = one r
+leaves (Turn keep connection state i) none = none
+leaves (Turn keep connection state i) (one r) = one (turned keep connection state r)
 leaves (Remove i) before = none
 
 -- it leaves and sends what an answer of the reading says
@@ -455,7 +457,7 @@ module _ (rs : List Record) (input : Input) where
     where
       by : (next : Next) → OwnChange (changed next i (settledBy input (getD rs i blank)))
       by Gone = removes i e
-      by (To state) = turns i _ e
+      by (To state) = turns-found clerkView rs _ i (leaves (changed (To state) i (settledBy input (getD rs i blank)))) e refl
 
   own-message :
       (l : Letter) (busy : Bool) (m : Meant) (f : Found) → meant (namesOf input .identifier) rs ≡ f → OwnPlan (messageMeant rs l busy f m)

@@ -25,7 +25,7 @@ use Rattle.line.specs.declared.Desk.{Desk}
 use Rattle.line_sound.specs.Sound.{lineView, Reached}
 use Rattle.pair_request.specs.Reading as R
 use Rattle.pair.proofs.Ends.{lineRecord, lineRead, policyOf, LineStep}
-use Rattle.pair.proofs.Changes.{Own, turns, removes, Its, own-held, not-one, the-one}
+use Rattle.pair.proofs.Changes.{Own, turns-found, removes, Its, own-held, not-one, the-one}
 use Rattle.pair.proofs.Grounds.{line-placed, line-full}
 use Rattle.pair.proofs.LineRows.{leaves, Answers, answers}
 
@@ -108,6 +108,6 @@ pub own-row :
 unfolding rowTaken meant
 own-row rs identifier i r e row = by (effectOf row .next) _ _
   where
-    by : (next : Next) (active suspended : Bool) → OwnChange rs identifier (changed next i r active suspended)
+    by : (next : Next) (active suspended : Bool) → OwnChange rs identifier (changed next i active suspended)
     by Gone active suspended = removes i e
-    by (To state) active suspended = turns i _ e
+    by (To state) active suspended = turns-found lineView rs identifier i (leaves (changed (To state) i active suspended)) e refl

@@ -18,14 +18,14 @@ use Rattle.terms.specs.Request.{canKeepSent}
 use Rattle.places.specs.Places as P
 use Rattle.clerk.specs.Entry.{askFlags}
 use Rattle.line_table.specs.Inputs.{rowFor, rowOfAct, replyMissed, keepChosen, connectionChosen}
-use Rattle.line_table.specs.Record.{refusedPlan}
+use Rattle.line_table.specs.Record.{moved, refusedPlan}
 use Rattle.line_table.specs.Search.{invoked}
 use Rattle.line_table.specs.Step.{rowTaken}
 use Rattle.line_table.specs.declared.table.Row.{Row}
 use Rattle.line_table.specs.declared.table.Row.the-variants.{Offers, GuardRunsOut}
 use Rattle.line_table.specs.declared.record.Record.{Record}
 use Rattle.line_table.specs.declared.record.Change.{Change}
-use Rattle.line_table.specs.declared.record.Change.the-variants.{Stay, Put, Remove, Report}
+use Rattle.line_table.specs.declared.record.Change.the-variants.{Stay, Put, Turn, Remove, Report}
 use Rattle.line_table.specs.declared.record.Plan.{Plan}
 use Rattle.line_table.specs.declared.inputs.Act.{Act}
 use Rattle.line_table.specs.declared.inputs.Act.the-variants as Act
@@ -43,6 +43,8 @@ use Rattle.pair.proofs.Ends.{keepRead, connRead, lineRecord, lineRead, 
 abbrev pub leaves : Change → P.Held Record → P.Held Record
 leaves Stay before = before
 leaves (Put i r) before = P.one r
+leaves (Turn state active suspended i) P.none = P.none
+leaves (Turn state active suspended i) (P.one r) = P.one (moved r state active suspended)
 leaves (Remove i) before = P.none
 leaves (Report k number busy) before = before
 

@@ -4,7 +4,7 @@ use mathlib.Core.Path.{_≡_}
 use mathlib.Core.Bool.{Bool, true, false}
 use mathlib.Core.Logic.{_⊎_}
 use mathlib.Core.List.{List, [], _∷_, _++_}
-use lib.ListN.{length}
+use lib.ListN.{length, getD}
 use Rattle.lists.specs.Words.{Bytes}
 use Rattle.lists.specs.declared.words.Words.{Words}
 use Rattle.message.specs.Format.{messageBytes}
@@ -22,10 +22,11 @@ use Rattle.line_table.specs.declared.inputs.Input as LineInput
 use Rattle.line_table.specs.declared.inputs.Input.the-variants as AtLine
 use Rattle.line_table.specs.declared.record.Record as LineRecord
 use Rattle.line_table.specs.declared.record.Change.{Change}
-use Rattle.line_table.specs.declared.record.Change.the-variants.{Stay, Put, Remove, Report}
+use Rattle.line_table.specs.declared.record.Change.the-variants.{Stay, Put, Turn, Remove, Report}
 use Rattle.line_table.specs.declared.table.State.the-variants as LineState
 use Rattle.line_table.specs.Record.{moved}
 use Rattle.line_table.specs.Search.{marks}
+use Rattle.line_records.specs.Records.{blank, records}
 use Rattle.line_plan.specs.Plan.{planFor}
 use Rattle.pair.specs.World.{World, Event, clerkDoes, lineDoes, clerkHears, lineHears, dropsUp, dropsDown, clerkHolds, lineHolds, nameOf, messagesOf, has, next, Allowed, Run, stop, then, startWorld, Reached}
 
@@ -135,12 +136,13 @@ OverForGood =
     (later : World) → Run w later → (clerkHolds later identifier ≡ none) × (lineHolds later identifier ≡ none)
 
 -- ---- 5. no step alters another request
--- the request that a change of the line desk is about
-abbrev pub Puts : Change → Words → Type 0
-Puts Stay identifier = ⊥
-Puts (Put i r) identifier = r .terms .identifier ≡ identifier
-Puts (Remove i) identifier = ⊥
-Puts (Report k number busy) identifier = ⊥
+-- the request whose record a change of the line desk turns
+abbrev pub Turns : List ℕ → Change → Words → Type 0
+Turns words Stay identifier = ⊥
+Turns words (Put i r) identifier = ⊥
+Turns words (Turn state active mark i) identifier = getD (records words) i blank .terms .identifier ≡ identifier
+Turns words (Remove i) identifier = ⊥
+Turns words (Report k number busy) identifier = ⊥
 
 abbrev pub Heads : List Message → Words → Type 0
 Heads [] identifier = ⊥
@@ -152,7 +154,7 @@ LineAbout words (AtLine.Message l) identifier = l .identifier ≡ identifier
 LineAbout words (AtLine.Act name act) identifier = name ≡ identifier
 LineAbout words (AtLine.Guard name) identifier = name ≡ identifier
 LineAbout words (AtLine.Report number busy) identifier = ⊥
-LineAbout words (AtLine.Look number) identifier = Puts (planFor words (AtLine.Look number) .change) identifier
+LineAbout words (AtLine.Look number) identifier = Turns words (planFor words (AtLine.Look number) .change) identifier
 
 abbrev pub About : World → Event → Words → Type 0
 About w (clerkDoes input) identifier = namesOf input .identifier ≡ identifier

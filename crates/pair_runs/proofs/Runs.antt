@@ -6,7 +6,7 @@ use Rattle.lists.specs.Lists.{firstFrom, count}
 use Rattle.lists.specs.Words.{word, octets, wordsOf, bytesOf, sameWords}
 use Rattle.message.specs.Number.{numberAt, fieldAt, scanAt, digitsAt, digitsInRange}
 use Rattle.message.specs.Format.{inRange}
-use Rattle.store.specs.Rows.{rows, putRow, dropRow, rowsFit, removedRow}
+use Rattle.store.specs.Rows.{rows, putRow, turnRow, dropRow, rowsFit, removedRow}
 use Rattle.desk.specs.Letter.{numberWords, letterOf, messageOf}
 use Rattle.desk.specs.Carriers.{carrierFits}
 use Rattle.terms.specs.Codes.{kindOf, keepOf, connectionOf}
@@ -36,7 +36,7 @@ use Rattle.pair_runs.proofs.Allowed.{bytes-told, runs, run-told, allRun
 
 -- all that a run computes with: who names this unfolds every definition on its line
 unfoldable all : Bool
-unfolding firstFrom count word octets wordsOf bytesOf sameWords numberAt fieldAt scanAt digitsAt digitsInRange inRange rows putRow dropRow rowsFit removedRow numberWords letterOf messageOf carrierFits kindOf keepOf connectionOf termsOf held ClerkStep.rowTaken ClerkCodes.stateOf ClerkRecords.recordOf ClerkRecords.records ClerkRecords.meant ClerkRecords.place ClerkRecords.applied ClerkPlan.decided ClerkPlan.planOf ClerkPlan.planFor ClerkEntry.messageEntry Clerk.step Clerk.entered LineStep.rowTaken LineCodes.stateOf LineRecords.recordOf LineRecords.records LineRecords.meant LineRecords.place LineRecords.putRecord LineRecords.removed Lines.lineOf Lines.lines Lines.lineAt Lines.overLine Lines.putLine Lines.keeps Lines.retains Lines.withSettings Change.markPlace Change.marked Change.statusStored Change.withReport Change.applied Decide.takesCall Decide.recordDecision Decide.countedDecision Decide.admittedDecision Decide.requestDecision Decide.messageDecision Decide.ownDecision Decide.offerAt Decide.lookDecision Decide.reportDecision Decide.decided LinePlan.planOf LinePlan.planFor Start.goodLine Start.lineTaken Start.takeLines Start.started LineEntry.messageEntry Line.step Line.entered messagesOf has clerkHeard lineHeard upDropped downDropped next
+unfolding firstFrom count word octets wordsOf bytesOf sameWords numberAt fieldAt scanAt digitsAt digitsInRange inRange rows putRow turnRow dropRow rowsFit removedRow numberWords letterOf messageOf carrierFits kindOf keepOf connectionOf termsOf held ClerkStep.rowTaken ClerkCodes.stateOf ClerkRecords.recordOf ClerkRecords.records ClerkRecords.meant ClerkRecords.place ClerkRecords.applied ClerkPlan.decided ClerkPlan.planOf ClerkPlan.planFor ClerkEntry.messageEntry Clerk.step Clerk.entered LineStep.rowTaken LineCodes.stateOf LineRecords.recordOf LineRecords.records LineRecords.meant LineRecords.place LineRecords.putRecord LineRecords.turnRecord LineRecords.removed Lines.lineOf Lines.lines Lines.lineAt Lines.overLine Lines.putLine Lines.keeps Lines.retains Lines.withSettings Change.markPlace Change.marked Change.statusStored Change.withReport Change.applied Decide.takesCall Decide.recordDecision Decide.countedDecision Decide.admittedDecision Decide.requestDecision Decide.messageDecision Decide.ownDecision Decide.offerAt Decide.lookDecision Decide.reportDecision Decide.decided LinePlan.planOf LinePlan.planFor Start.goodLine Start.lineTaken Start.takeLines Start.started LineEntry.messageEntry Line.step Line.entered messagesOf has clerkHeard lineHeard upDropped downDropped next
 all = true
 
 pub shown : Shown

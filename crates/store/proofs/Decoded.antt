@@ -1,19 +1,20 @@
 -- Rows of words read as records, over any width, count, type and decoder: each search, each store and each delete in words is the same in records. By the laws of rows, row by row.
-use Prim.Native.Nat.{ℕ, zero, suc, _*_, _≤_, _<_}
+use Prim.Native.Nat.{ℕ, zero, suc, _+_, _*_, _≤_, _<_}
 use mathlib.Core.Path.{_≡_, refl, sym, ap, _∙_}
 use mathlib.Core.Bool.{Bool, true, false, not}
-use mathlib.Core.List.{List, [], _∷_, map}
-use lib.ListN.{length, getD, take, drop, set, length-map, List·getD-map}
+use mathlib.Core.List.{List, [], _∷_, _++_, map}
+use lib.ListN.{length, getD, take, drop, set, length-drop, length-map, List·getD-map}
 use native.Mathlib.Omega.{arith}
 use borrow.Author.Tests.{lt-ltb}
 use lib.Dec.{eqb}
 use Rattle.lists.specs.Choice.{pick}
 use Rattle.lists.specs.Lists.{both, first, without}
+use Rattle.lists.specs.Parts.{over}
 use Rattle.lists.specs.Words.{sameWords}
 use Rattle.lists.specs.declared.words.Words.{Words}
 use Rattle.lists.proofs.Lists.{first-map, first-same, map-set, map-without}
-use Rattle.store.specs.Rows.{live, free, hasIdentifier, rows, putRow, dropRow, blankRow, rowsFit, found, removedRow}
-use Rattle.store.proofs.RowsLaws.{rows-length, rows-at, rows-put, rows-drop}
+use Rattle.store.specs.Rows.{live, free, hasIdentifier, rows, putRow, turnRow, dropRow, blankRow, rowsFit, found, removedRow}
+use Rattle.store.proofs.RowsLaws.{place-within, rows-length, rows-at, rows-put, turned, turned-length, turn-put, rows-drop}
 
 getD-past : {A : Type 0} (xs : List A) (i : ℕ) (d : A) → length xs ≤ i → getD xs i d ≡ d
 getD-past [] i d h = refl
@@ -82,6 +83,22 @@ module _ {A : Type 0} (width count : ℕ) (decode : List ℕ → A) where
       ap (map decode) (rows-put width count ws i row size h fits)
       ∙ map-set decode (rows width count ws) i row
       ∙ ap (λ (x : A). set (map decode (rows width count ws)) i x) back
+
+  -- the record of a place turned: with those words put anew, its row reads as the record turned so
+  pub decoded-turn :
+      (from : ℕ) (words : List ℕ) (turns : A → A) →
+      ((row : List ℕ) → width ≤ length row → decode (take from row ++ over words (drop from row)) ≡ turns (decode row)) →
+      ((row : List ℕ) → decode (take width row) ≡ decode row) → (ws : List ℕ) (i : ℕ) → from + length words ≤ width → i < count → count * width ≤ length ws →
+      map decode (rows width count (turnRow width ws i from words))
+      ≡ set (map decode (rows width count ws)) i (turns (getD (map decode (rows width count ws)) i (decode [])))
+  decoded-turn from words turns reads front ws i within h fits =
+      let row = turned width count ws i from words within h fits in
+      let back : decode (take width row) ≡ turns (getD (map decode (rows width count ws)) i (decode [])) =
+      front row
+      ∙ reads (drop (i * width) ws) (simp length-drop (omega (arith, place-within width count i (length ws) h fits)))
+      ∙ ap turns (sym (decoded-at front ws i h)) in
+      ap (λ (v : List ℕ). map decode (rows width count v)) (turn-put width count ws i from words within h fits)
+      ∙ decoded-put ws (take width row) i _ back (turned-length width count ws i from words within h fits) h fits
 
   -- a record taken out: a row of zeros reads as no words do
   pub decoded-drop :

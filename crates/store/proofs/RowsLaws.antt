@@ -9,14 +9,14 @@ use native.Mathlib.Omega.{arith}
 use borrow.Author.Tests.{eqb-true, ltb-true, leb-true, eq-eqb, lt-ltb, le-leb}
 use lib.Dec.{leb, ltb, eqb}
 use lib.ListN.{length, getD, take, drop, set, replicate, length-append, length-drop, length-replicate, getD-replicate, take-append-drop, replicate-append-replicate}
-use lib.Seq.{length-take-le, take-all, drop-drop, take-add, take-at, drop-at, set-at, getD-take, getD-drop, sets, sets-eq}
+use lib.Seq.{length-take-le, take-all, drop-drop, take-add, take-at, drop-at, drop-append-add, set-at, getD-take, getD-drop, sets, sets-eq}
 use Rattle.lists.specs.Lists.{both, first, without}
 use Rattle.lists.specs.Parts.{over}
 use Rattle.lists.specs.declared.Found.the-variants.{At, Nothing}
 use Rattle.lists.specs.declared.words.Words.{Words}
 use Rattle.lists.proofs.Lists.{both-parts, first-below, first-holds, first-earlier, first-none}
 use Rattle.terms.specs.Terms as Terms
-use Rattle.store.specs.Rows.{stateWord, live, free, hasIdentifier, rows, rowAt, putRow, blankRow, dropRow, most, rowsFit}
+use Rattle.store.specs.Rows.{stateWord, live, free, hasIdentifier, rows, rowAt, putRow, turnRow, blankRow, dropRow, most, rowsFit}
 
 -- ---- places: row i ends within the rows, and the rows behind it are the rest
 pub place-within : (width count i n : ℕ) → i < count → count * width ≤ n → i * width + width ≤ n
@@ -61,6 +61,22 @@ without-at :
 unfolding without
 without-at z [] y ys n e = rw (← e)
 without-at {A} z (x ∷ xs) y ys n e = rw (← e) (ap {B = List A} (λ r. x ∷ r) (without-at z xs y ys (length xs) refl))
+
+-- words over a part: what stands behind them stays
+pub over-behind : (n a : ℕ) (row ws : List ℕ) → a + length row ≤ n → a ≤ length ws → drop n (take a ws ++ over row (drop a ws)) ≡ drop n ws
+over-behind n a row ws h f =
+    let front = take a ws ++ row in
+    let rest = drop (length row) (drop a ws) in
+    let m = n - (a + length row) in
+    let l : length front ≡ a + length row = length-append (take a ws) row ∙ ap (λ (k : ℕ). k + length row) (length-take-le a ws f) in
+    let e : n ≡ length front + m = omega arith in
+    let s : a + (length row + m) ≡ n = omega arith in
+    ap (drop n) (sym (append-assoc (take a ws) row rest))
+    ∙ ap (λ (k : ℕ). drop k (front ++ rest)) e
+    ∙ drop-append-add front rest m
+    ∙ drop-drop m (length row) (drop a ws)
+    ∙ drop-drop (length row + m) a ws
+    ∙ ap (λ (k : ℕ). drop k ws) s
 
 -- words stored one by one, j words behind word k and on: at a literal j it computes to the stores of straight-line code
 abbrev pub stores : List ℕ → ℕ → ℕ → List ℕ → List ℕ
@@ -173,6 +189,32 @@ module _ (width : ℕ) where
   put-length count ws i row l h fits =
       let k = place-within width count i (length ws) h fits in
       simp (length-append, length-drop) (omega (arith, length-take-le (i * width) ws (omega arith)))
+
+  -- ---- words of a row put anew: the same as the row put that has them and is else the one there
+  module _ (count : ℕ) (ws : List ℕ) (i from : ℕ) (words : List ℕ) (within : from + length words ≤ width) (h : i < count) (fits : count * width ≤ length ws) where
+    abbrev behind : List ℕ
+    behind = drop (i * width) ws
+
+    abbrev pub turned : List ℕ
+    turned = take from behind ++ over words (drop from behind)
+
+    room : width ≤ length behind
+    room = simp length-drop (omega (arith, place-within width count i (length ws) h fits))
+
+    pub turned-length : length (take width turned) ≡ width
+    turned-length =
+        let l : length turned ≡ length behind =
+        simp (length-append, length-drop) (omega (arith, room, length-drop (i * width) ws, length-take-le from behind (omega (arith, room)))) in
+        length-take-le width turned (omega (arith, room))
+
+    pub turn-put : turnRow width ws i from words ≡ putRow width ws i (take width turned)
+    unfolding turnRow putRow
+    turn-put =
+        rw (turned-length, take-add (i * width) from ws, ← drop-drop from (i * width) ws, ← over-behind width from words behind within (omega (arith, room)), take-append-drop width turned)
+        (simp append-assoc)
+
+    pub turn-length : length (turnRow width ws i from words) ≡ length ws
+    turn-length = ap length turn-put ∙ put-length count ws i (take width turned) turned-length h fits
 
   -- a row stored word by word, as straight-line code leaves it
   pub put-words :

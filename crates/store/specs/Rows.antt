@@ -42,6 +42,10 @@ rowAt width ws i = take width (drop (i * width) ws)
 unfoldable pub putRow : ℕ → List ℕ → ℕ → List ℕ → List ℕ
 putRow width ws i row = take (i * width) ws ++ over row (drop (i * width) ws)
 
+-- the words with some of the row at place i put anew, from one of its words on: all others stay
+unfoldable pub turnRow : ℕ → List ℕ → ℕ → ℕ → List ℕ → List ℕ
+turnRow width ws i from words = take (i * width + from) ws ++ over words (drop (i * width + from) ws)
+
 -- all zeros: the row of every place at the start, and of the last one after a removal
 abbrev pub blankRow : ℕ → List ℕ
 blankRow width = replicate width 0

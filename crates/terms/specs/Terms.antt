@@ -14,6 +14,10 @@ use Rattle.terms.specs.declared.Terms.{Terms}
 abbrev pub width : ℕ
 width = 10
 
+-- the first word of the two choices: no step changes what stands before it
+abbrev pub choicesAt : ℕ
+choicesAt = 8
+
 -- words as terms
 unfoldable pub termsOf : List ℕ → Terms
 termsOf row =
@@ -27,11 +31,14 @@ termsOf row =
       connection = connectionOf (getD row 9 0);
     }
 
--- terms as words
+-- terms as words, the two choices last
+abbrev pub choiceWords : Keep → Connection → List ℕ
+choiceWords keep connection = keepCode keep ∷ connectionCode connection ∷ []
+
 abbrev pub termsWords : Terms → List ℕ
 termsWords t =
     t .identifier .low ∷ t .identifier .high ∷ t .numberA .low ∷ t .numberA .high ∷ t .numberB .low ∷ t .numberB .high ∷
-    t .service ∷ kindCode (t .kind) ∷ keepCode (t .keep) ∷ connectionCode (t .connection) ∷ []
+    t .service ∷ kindCode (t .kind) ∷ choiceWords (t .keep) (t .connection)
 
 -- what a free place has
 abbrev pub noTerms : Terms

@@ -20,6 +20,9 @@ ghost use Rattle.terms.specs.Terms.{noTerms, termsAt, termsPut, withChoi
 // How many words the terms take. They stand at the front of a record's words, and the state behind them.
 pub const WIDTH: usize = 10;
 
+// The first word of the two choices: no step changes what stands before it.
+pub const CHOICES_AT: usize = 8;
+
 pub struct Terms {
     pub identifier: Words,
     pub numberA: Words,

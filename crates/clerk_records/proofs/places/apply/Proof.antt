@@ -17,6 +17,12 @@ put-in-requires c κs = search needs
 enum-known-change-2 : tie.Need-enum-known-change-2
 enum-known-change-2 c = search needs
 
+turn-in-requires : tie.Need-turn-in-requires
+turn-in-requires c κs = search needs
+
+enum-known-change-3 : tie.Need-enum-known-change-3
+enum-known-change-3 c = search needs
+
 remove-requires : tie.Need-remove-requires
 remove-requires c κs = search needs
 
@@ -34,7 +40,15 @@ returns-3 c = rw (c .before .before .change .given .1, le-ltb _ _ (c .if1 .left)
 
 returns-4 : tie.Need-returns-4
 unfolding applied
-returns-4 c = rw (c .before .before .before .change2 .given .1) (c .remove .ensures)
+returns-4 c = rw (c .before .before .before .before .change2 .given .1, lt-ltb _ _ (c .before .before .if2 .taken)) (c .turn-in .ensures)
+
+returns-5 : tie.Need-returns-5
+unfolding applied
+returns-5 c = rw (c .before .before .change2 .given .1, le-ltb _ _ (c .if2 .left))
+
+returns-6 : tie.Need-returns-6
+unfolding applied
+returns-6 c = rw (c .before .before .before .change3 .given .1) (c .remove .ensures)
 
 pub apply-spec : {M : Type 1} → statement M
 apply-spec =
@@ -44,8 +58,12 @@ apply-spec =
     enum-known-change
     put-in-requires
     enum-known-change-2
+    turn-in-requires
+    enum-known-change-3
     remove-requires
     returns
     returns-2
     returns-3
-    returns-4)
+    returns-4
+    returns-5
+    returns-6)

@@ -16,11 +16,17 @@ put-record-requires c κs = search needs
 enum-known-change-2 : tie.Need-enum-known-change-2
 enum-known-change-2 c = search needs
 
-remove-record-requires : tie.Need-remove-record-requires
-remove-record-requires c κs = search needs
+turn-record-requires : tie.Need-turn-record-requires
+turn-record-requires c κs = search needs
 
 enum-known-change-3 : tie.Need-enum-known-change-3
 enum-known-change-3 c = search needs
+
+remove-record-requires : tie.Need-remove-record-requires
+remove-record-requires c κs = search needs
+
+enum-known-change-4 : tie.Need-enum-known-change-4
+enum-known-change-4 c = search needs
 
 report-line-requires : tie.Need-report-line-requires
 report-line-requires c κs = search needs
@@ -35,11 +41,15 @@ returns-2 c = rw (c .before .before .before .change .given .1) (c .put-record .e
 
 returns-3 : tie.Need-returns-3
 unfolding applied
-returns-3 c = rw (c .before .before .before .change2 .given .1) (c .remove-record .ensures)
+returns-3 c = rw (c .before .before .before .change2 .given .1) (c .turn-record .ensures)
 
 returns-4 : tie.Need-returns-4
 unfolding applied
-returns-4 c = rw (c .before .before .before .change3 .given .1) (c .report-line .ensures)
+returns-4 c = rw (c .before .before .before .change3 .given .1) (c .remove-record .ensures)
+
+returns-5 : tie.Need-returns-5
+unfolding applied
+returns-5 c = rw (c .before .before .before .change4 .given .1) (c .report-line .ensures)
 
 pub apply-spec : {M : Type 1} → statement M
 apply-spec =
@@ -49,10 +59,13 @@ apply-spec =
     enum-known-change
     put-record-requires
     enum-known-change-2
-    remove-record-requires
+    turn-record-requires
     enum-known-change-3
+    remove-record-requires
+    enum-known-change-4
     report-line-requires
     returns
     returns-2
     returns-3
-    returns-4)
+    returns-4
+    returns-5)

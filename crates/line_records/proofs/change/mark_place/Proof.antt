@@ -10,15 +10,12 @@ load-requires c κs = search needs
 is-marked-requires : tie.Need-is-marked-requires
 is-marked-requires c κs = search needs
 
-activated-record-requires : tie.Need-activated-record-requires
-activated-record-requires c κs = search needs
-
-put-record-requires : tie.Need-put-record-requires
-put-record-requires c κs = search needs
+turn-record-requires : tie.Need-turn-record-requires
+turn-record-requires c κs = search needs
 
 returns : tie.Need-returns
 unfolding markPlace
-returns c = rw (← c .before .before .before .before .before .load .ensures, ← c .before .before .before .before .is-marked .ensures, c .before .before .before .if1 .taken, ← c .before .before .activated-record .ensures) (c .put-record .ensures)
+returns c = rw (← c .before .before .before .before .load .ensures, ← c .before .before .before .is-marked .ensures, c .before .before .if1 .taken) (c .turn-record .ensures)
 
 returns-2 : tie.Need-returns-2
 unfolding markPlace
@@ -30,7 +27,6 @@ mark-place-spec =
     (tie.spec
     load-requires
     is-marked-requires
-    activated-record-requires
-    put-record-requires
+    turn-record-requires
     returns
     returns-2)

@@ -9,15 +9,12 @@ enum-told c = search needs
 enum-known-next : tie.Need-enum-known-next
 enum-known-next c = search needs
 
-moved-to-requires : tie.Need-moved-to-requires
-moved-to-requires c κs = search needs
-
 returns : tie.Need-returns
 returns c = rw (c .enum-told .given .1)
 
 returns-2 : tie.Need-returns-2
-returns-2 c = rw (c .before .before .next .given .1, c .moved-to .ensures)
+returns-2 c = rw (c .before .next .given .1)
 
 pub changed-to-spec : {M : Type 1} → statement M
 changed-to-spec =
-    tie.close (tie.spec enum-told enum-known-next moved-to-requires returns returns-2)
+    tie.close (tie.spec enum-told enum-known-next returns returns-2)

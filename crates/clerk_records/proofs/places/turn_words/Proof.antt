@@ -1,0 +1,49 @@
+-- Three stores, one after the other, are these words over the front.
+use native.Mathlib.Omega.{arith}
+use lib.ListN.{length-set}
+use lib.Seq.{sets-eq}
+use denote.Ref.{now}
+use Rattle.clerk_records.specs.Records.{turnedWords}
+use borrow.Author.Needs.{needs}
+use Rattle.clerk_records.proofs.places.turn_words.Statement.{statement}
+use Rattle.clerk_records.proofs.places.turn_words.Tie as tie
+
+keep-code-requires : tie.Need-keep-code-requires
+keep-code-requires c κs = search needs
+
+slice-write-words : tie.Need-slice-write-words
+slice-write-words c = search needs
+
+connection-code-requires : tie.Need-connection-code-requires
+connection-code-requires c κs = search needs
+
+slice-write-words-2 : tie.Need-slice-write-words-2
+slice-write-words-2 c = simp length-set (omega arith)
+
+state-code-requires : tie.Need-state-code-requires
+state-code-requires c κs = search needs
+
+slice-write-words-3 : tie.Need-slice-write-words-3
+slice-write-words-3 c = search needs
+
+same-length : tie.Need-same-length
+same-length c = search needs
+
+returns : tie.Need-returns
+returns c =
+    let a = c .before .before .before .before .args in
+    rw (c .before .before .keep-code .ensures, c .before .connection-code .ensures, c .state-code .ensures)
+    (sets-eq (turnedWords (a .keep) (a .connection) (a .state)) (now (a .words)) 0 (omega arith))
+
+pub turn-words-spec : {M : Type 1} → statement M
+turn-words-spec =
+    tie.close
+    (tie.spec
+    keep-code-requires
+    slice-write-words
+    connection-code-requires
+    slice-write-words-2
+    state-code-requires
+    slice-write-words-3
+    same-length
+    returns)
