@@ -124,7 +124,7 @@ applied-length ws l (Put i r) =
     pick-elim (λ (x : List ℕ). length x ≡ words) (ltb i places)
     (λ t. put-length width places ws i (recordWords r) refl (ltb-true i places t) (omega arith) ∙ l)
     (λ f. l)
-applied-length ws l (Turn keep connection state i) =
+applied-length ws l (Turn i keep connection state) =
     pick-elim (λ (x : List ℕ). length x ≡ words) (ltb i places)
     (λ t. turn-length width places ws i choicesAt (turnedWords keep connection state) (omega arith) (ltb-true i places t) (omega arith) ∙ l)
     (λ f. l)
@@ -149,7 +149,7 @@ put-records ws i r l =
 
 turn-records :
     (ws : List ℕ) (i : ℕ) (keep : Keep) (connection : Connection) (state : State) → length ws ≡ words →
-    records (applied ws (Turn keep connection state i)) ≡ set (records ws) i (turned keep connection state (getD (records ws) i blank))
+    records (applied ws (Turn i keep connection state)) ≡ set (records ws) i (turned keep connection state (getD (records ws) i blank))
 unfolding applied records
 turn-records ws i keep connection state l =
     let rs = map recordOf (rows width places ws) in
@@ -170,5 +170,5 @@ pub records-applied : (ws : List ℕ) → length ws ≡ words → (c : Change) �
 unfolding applied
 records-applied ws l Stay = refl
 records-applied ws l (Put i r) = put-records ws i r l
-records-applied ws l (Turn keep connection state i) = turn-records ws i keep connection state l
+records-applied ws l (Turn i keep connection state) = turn-records ws i keep connection state l
 records-applied ws l (Remove i) = remove-records ws i l

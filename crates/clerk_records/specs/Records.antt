@@ -78,12 +78,12 @@ turned keep connection state r = withState (withTerms r (withChoices (r .terms) 
 abbrev pub recordsAfter : List Record → Change → List Record
 recordsAfter rs Stay = rs
 recordsAfter rs (Put i r) = set rs i r
-recordsAfter rs (Turn keep connection state i) = set rs i (turned keep connection state (getD rs i blank))
+recordsAfter rs (Turn i keep connection state) = set rs i (turned keep connection state (getD rs i blank))
 recordsAfter rs (Remove i) = without blank rs i
 
 -- the words afterwards; a place that is not there changes nothing
 unfoldable pub applied : List ℕ → Change → List ℕ
 applied words Stay = words
 applied words (Put i r) = pick (ltb i places) (putRow width words i (recordWords r)) words
-applied words (Turn keep connection state i) = pick (ltb i places) (turnRow width words i choicesAt (turnedWords keep connection state)) words
+applied words (Turn i keep connection state) = pick (ltb i places) (turnRow width words i choicesAt (turnedWords keep connection state)) words
 applied words (Remove i) = removedRow width places words i

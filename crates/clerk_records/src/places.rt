@@ -134,7 +134,7 @@ pub fn apply(words: &mut [u64; WORDS], change: Change)
                 put_in(words, i, r);
             }
         }
-        Change::Turn(keep, connection, state, i) => {
+        Change::Turn(i, keep, connection, state) => {
             if i < PLACES {
                 turn_in(words, i, keep, connection, state);
             }

@@ -154,7 +154,7 @@ module _ (identifier : Words) (rs : List Record) (i : ℕ) (sound : Sound rs) (u
   r = getD rs i blank
 
   -- from state to state behind the acknowledgment
-  turned : (s : State) → (r .state ≡ WaitAck → ⊥) → behind s ≡ true → Moved clerkView Turned Whole identifier rs (recordsAfter rs (Turn (r .terms .keep) (r .terms .connection) s i))
+  turned : (s : State) → (r .state ≡ WaitAck → ⊥) → behind s ≡ true → Moved clerkView Turned Whole identifier rs (recordsAfter rs (Turn i (r .terms .keep) (r .terms .connection) s))
   turned s away b =
       turns i (withState r s) u own (behind-used s b) own
       (record {

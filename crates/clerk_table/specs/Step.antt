@@ -24,7 +24,7 @@ use Rattle.clerk_table.specs.declared.record.Plan.{Plan}
 
 abbrev pub changed : Next → ℕ → Record → Change
 changed Gone place r = Remove place
-changed (To state) place r = Turn (r .terms .keep) (r .terms .connection) state place
+changed (To state) place r = Turn place (r .terms .keep) (r .terms .connection) state
 
 abbrev pub only : Timer → Timers
 only T1 = record { t1 = true; t2 = false; t3 = false; guard = false }

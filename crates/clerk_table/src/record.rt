@@ -12,11 +12,11 @@ use terms::request::Request;
 ghost use mathlib.Core.Path.{_≡_};
 ghost use Rattle.clerk_table.specs.Record.{withTerms, refusedPlan};
 
-// The terms, the state, and the can-keep that was sent.
+// The state, the can-keep that was sent, and the terms. Its bytes stand first, so that in a change they share their place with what a turn gives, and no word does.
 pub struct Record {
-    pub terms: Terms,
     pub state: State,
     pub canKeep: bool,
+    pub terms: Terms,
 }
 
 // What the desk decides about an input: a refusal's number and the body of the reply that goes with it; a row of the table for the record of a place; or
@@ -27,12 +27,12 @@ pub enum Decision {
     Store(usize, Request),
 }
 
-// What becomes of the desk: nothing; a new record put at a place; these choices and this state given to the record of a place, which keeps all else; the record of
-// a place removed. What a turn gives stands before its place, so that in memory no word of a new record lies across it.
+// What becomes of the desk: nothing; a new record put at a place; the record of a place turned, which is given these choices and this state and keeps all else; the
+// record of a place removed.
 pub enum Change {
     Stay,
     Put(usize, Record),
-    Turn(Keep, Connection, State, usize),
+    Turn(usize, Keep, Connection, State),
     Remove(usize),
 }
 

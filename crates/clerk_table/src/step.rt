@@ -25,7 +25,7 @@ fn changed_to(next: Next, place: usize, r: Record) -> Change
             let terms = r.terms;
             let keep = terms.keep;
             let connection = terms.connection;
-            Change::Turn(keep, connection, state, place)
+            Change::Turn(place, keep, connection, state)
         }
     }
 }

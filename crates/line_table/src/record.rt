@@ -29,9 +29,9 @@ pub enum Decision {
     Report(usize, bool),
 }
 
-// What becomes of the desk: nothing; a new record put at a place; this state, activity mark and suspended mark given to the record of a place, which keeps its
-// terms; the record of a place removed; the status of the line at a place, with its number, stored. What a turn gives stands before its place, so that in memory no
-// word of a new record lies across it.
+// What becomes of the desk: nothing; a new record put at a place; the record of a place turned, which is given this state, activity mark and suspended mark and keeps
+// its terms; the record of a place removed; the status of the line at a place, with its number, stored. What a turn gives stands before its place, so that in memory
+// no word of a new record lies across it: a search loads whole records, and is quicker where they begin with words.
 pub enum Change {
     Stay,
     Put(usize, Record),

@@ -71,8 +71,8 @@ use Rattle.pair.proofs.Letters.{letter-name, ask-letter}
 abbrev leaves : Change → Held Record → Held Record
 leaves Stay before = before
 leaves (Put i r) before = one r
-leaves (Turn keep connection state i) none = none
-leaves (Turn keep connection state i) (one r) = one (turned keep connection state r)
+leaves (Turn i keep connection state) none = none
+leaves (Turn i keep connection state) (one r) = one (turned keep connection state r)
 leaves (Remove i) before = none
 
 -- it leaves and sends what an answer of the reading says
