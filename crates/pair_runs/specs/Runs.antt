@@ -26,7 +26,7 @@ use Rattle.line_table.specs.declared.inputs.Input.the-variants as AtLine
 use Rattle.line_table.specs.declared.record.Record as LineRecord
 use Rattle.line_records.specs.Codes as LineCodes
 use Rattle.pair.specs.World.{World, Event, clerkDoes, lineDoes, clerkHears, lineHears, dropsUp, dropsDown, clerkHolds, lineHolds, messagesOf, has, next, startWorld, Reached}
-use Rattle.pair.specs.Claims.{Acknowledged, NoRequest}
+use Rattle.pair.specs.Meaning.{Acknowledged, NoRequest}
 
 -- events one after the other
 unfoldable pub play : World → List Event → World
