@@ -1,4 +1,5 @@
--- Demand 3: two desks, two wires that deliver in order or drop; what is claimed of every run. Meaning.antt says what its words mean, World.antt what can happen.
+-- Demand 3: what is claimed of two desks and two wires that deliver in order or drop, in every run. Each claim is a type; its proof has its name.
+-- Meaning.antt says what the claims' words mean, World.antt what can happen.
 use Prim.Native.Nat.{ℕ}
 use mathlib.Core.Path.{_≡_}
 use mathlib.Core.Bool.{Bool, true, false}
