@@ -57,7 +57,7 @@ abbrev pub NoOtherAltered : Type 0
 NoOtherAltered =
     (w : World) → Reached w → (e : Event) → Allowed w e → (identifier : Words) → (About w e identifier → ⊥) → Untouched w e identifier
 
--- and such a step sends, takes and drops none of its messages, unless it is the drop of one
+-- and a step that is not about a request, and does not drop one of its messages, leaves its messages on both wires as they were
 abbrev pub NoOtherMessage : Type 0
 NoOtherMessage =
     (w : World) → Reached w → (e : Event) → Allowed w e → (identifier : Words) → (About w e identifier → ⊥) → (Drops w e identifier → ⊥) →

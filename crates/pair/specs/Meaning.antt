@@ -53,7 +53,7 @@ pub record Stores (identifier : Words) (w : World) (e : Event) : Type 0 where
 -- some step of the run is that one
 unfoldable pub Accepted : {first w : World} → Words → Run first w → Type 0
 Accepted identifier stop = ⊥
-Accepted identifier (then {w} run e once) = Stores identifier w e ⊎ Accepted identifier run
+Accepted identifier (then {w} run e allowed) = Stores identifier w e ⊎ Accepted identifier run
 
 -- ---- 2. while both hold it the data agree
 pub record Agree (c : ClerkRecord.Record) (l : LineRecord.Record) : Type 0 where
@@ -90,7 +90,7 @@ abbrev pub Sends : Sending → Words → Type 0
 Sends Sending.Nothing identifier = ⊥
 Sends (Sending.Send l) identifier = l .identifier ≡ identifier
 
--- the request that a step is about: the one it names, the one whose message it delivers, the one whose ccExecPossible a Look sends
+-- the request that an input of the line desk is about: the one it names, the one whose ccExecPossible a Look sends
 abbrev pub LineAbout : LineDesk.Desk → LineInput.Input → Words → Type 0
 LineAbout d (AtLine.Message l) identifier = l .identifier ≡ identifier
 LineAbout d (AtLine.Act name act) identifier = name ≡ identifier
@@ -98,6 +98,7 @@ LineAbout d (AtLine.Guard name) identifier = name ≡ identifier
 LineAbout d (AtLine.Report number busy) identifier = ⊥
 LineAbout d (AtLine.Look number) identifier = Sends (Line.step d (AtLine.Look number) .outcome .sending) identifier
 
+-- the request that a step is about: the one that its input is about, or whose message it delivers
 abbrev pub About : World → Event → Words → Type 0
 About w (clerkDoes input) identifier = namesOf input .identifier ≡ identifier
 About w (lineDoes input) identifier = LineAbout (w .line) input identifier

@@ -1,4 +1,4 @@
--- Two desks, two wires that deliver in order or drop, and the history of the run. Each step is an input at a desk's door, by the definition that its contract cites, or the drop of a message.
+-- Two desks, two wires that deliver in order or drop, and the history of the run. A step is an input at a desk, as the desk's contract has it, or the drop of a message.
 use Prim.Native.Nat.{ℕ}
 use mathlib.Core.Path.{_≡_}
 use mathlib.Core.Bool.{Bool, true, false}
@@ -41,8 +41,7 @@ use Rattle.line_sound.specs.Sound as LineSound
 use Rattle.pair_request.specs.Wires.{leftOut, Signal, callDied, rejected}
 
 -- ---- the world
--- the identifiers that were taken up by an ask; of which a message was dropped; of which a T1 or T2 report was taken at the clerk's end; of which a
--- guard report was taken at the line's
+-- four lists of identifiers: taken up by an ask; a message of it was dropped; a T1 or T2 report of it was taken at the clerk's end; a guard report at the line's
 pub record History : Type 0 where
   pub takenUp : List Words
   pub dropped : List Words
@@ -136,7 +135,7 @@ counts T1 = true
 counts T2 = true
 counts T3 = false
 
--- what is noted of an input that is done, or is not: an ask that takes up an identifier; a timer of the demand, or a guard, that has run out
+-- what is noted of an input, if it is done (`so`): an ask takes up an identifier; a timer of the demand, or a guard, has run out
 abbrev pub clerkNotes : History → ClerkInput.Input → Bool → History
 clerkNotes h (AtClerk.Ask names q) so = withTakenUp h so (names .identifier)
 clerkNotes h (AtClerk.Message l busy) so = h
@@ -158,7 +157,8 @@ unfoldable pub lineHeard : World → List Message → World
 lineHeard w [] = w
 lineHeard w (m ∷ rest) = lineStepped w rest (Line.received (w .line) m) (w .history)
 
--- a message that nobody sent (docs/HOST.md, 12): type 12, or type 4 short, in Release Complete
+-- a message that nobody sent (docs/HOST.md, 12): type 12, or type 4 short, in Release Complete. The types 11 and 7 that it names are no steps of a run: claim 3 would
+-- not hold of them (`LeftOut` in crate pair_runs)
 abbrev pub signalLetter : Signal → Words → Letter
 signalLetter callDied identifier = plainLetter identifier ReleaseComplete CallFailed
 signalLetter rejected identifier = plainLetter identifier ReleaseComplete (RequestError 1)
@@ -184,7 +184,8 @@ next w (dropsDown i) =
     record { clerk = w .clerk; up = w .up; line = w .line; down = leftOut i (w .down); history = withDropped (w .history) (lostAt i (w .down)) }
 
 -- ---- runs
--- a message comes by the wire alone; an ask is one that the entry makes of what a host gives, and every identifier is taken up by at most one ask that is not refused
+-- every other message comes by the wire alone. An ask is any that the entry makes of values of the code's types (`Fair`), and every identifier is taken up by at most
+-- one ask that is not refused
 abbrev pub ClerkAllowed : World → ClerkInput.Input → Type 0
 ClerkAllowed w (AtClerk.Ask names q) =
     ClerkSound.Fair (AtClerk.Ask names q)
@@ -216,7 +217,7 @@ pub data Run (first : World) : World → Type 0 where
 abbrev pub noHistory : History
 noHistory = record { takenUp = []; dropped = []; runOut = []; guarded = [] }
 
--- two desks started empty, the line desk with any lines and settings
+-- two desks started empty, the line desk with any lines and settings; where these are refused, a desk without lines
 abbrev pub startWorld : List ℕ → Bool → Bool → World
 startWorld given keep retain =
     record { clerk = Clerk.startedDesk; up = []; line = LineStart.started given keep retain .desk; down = []; history = noHistory }
