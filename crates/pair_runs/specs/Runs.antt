@@ -181,11 +181,11 @@ kept = busyAgain ++ (clerkHears false ∷ [])
 
 -- T2 is reported, and its ccCancel is dropped
 abbrev runOut : List Event
-runOut = acknowledged ++ (clerkReports first T2 ∷ dropsUp ∷ [])
+runOut = acknowledged ++ (clerkReports first T2 ∷ dropsUp 0 ∷ [])
 
 -- a guard is reported, and its ccCancel is dropped
 abbrev pub over : List Event
-over = runOut ++ (guardReports first ∷ dropsDown ∷ [])
+over = runOut ++ (guardReports first ∷ dropsDown 0 ∷ [])
 
 -- ---- the table: a run, an identifier, and what is seen of that request at its end
 pub record Row : Type 0 where
