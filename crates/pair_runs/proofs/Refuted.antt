@@ -1,5 +1,4 @@
 -- Each wrong claim, held against a run that was computed.
-use Prim.Native.Nat.{ℕ}
 use mathlib.Core.Path.{_≡_, refl, sym, _∙_, ap}
 use mathlib.Core.Bool.{Bool, true, false, true≢false, false≢true}
 use mathlib.Core.Logic.{_⊎_, inl, inr}
@@ -13,9 +12,10 @@ use Rattle.desk.specs.declared.Connection.the-variants as Connection
 use Rattle.desk.specs.declared.Keep.{Keep}
 use Rattle.desk.specs.declared.Keep.the-variants as Keep
 use Rattle.places.specs.Places.{Held, none, one}
+use Rattle.clerk_table.specs.declared.inputs.Input.the-variants as AtClerk
 use Rattle.clerk_table.specs.declared.record.Record as ClerkRecord
+use Rattle.clerk_table.specs.declared.table.Timer.the-variants.{T2}
 use Rattle.clerk_records.specs.Records as ClerkRecords
-use Rattle.line_table.specs.declared.inputs.Input.the-variants as AtLine
 use Rattle.line_table.specs.declared.record.Record as LineRecord
 use Rattle.line_table.specs.declared.table.State.{State}
 use Rattle.line_table.specs.declared.table.State.the-variants as LineState
@@ -23,7 +23,7 @@ use Rattle.line_records.specs.Records as LineRecords
 use Rattle.pair.specs.World.{World, Event, clerkDoes, lineDoes, clerkIsTold, clerkHears, lineHears, dropsUp, dropsDown, clerkHolds, lineHolds, next, Run, stop, then}
 use Rattle.pair.specs.Meaning.{Accepted, Stores, Unaltered, same, marked}
 use Rattle.pair_runs.specs.Refuted as Wrong
-use Rattle.pair_runs.specs.Runs.{play, first, numberB, oneLine, start, asks, lineReports, stored, acknowledged, wentOn, noReply, runOut, rejection}
+use Rattle.pair_runs.specs.Runs.{play, first, numberB, oneLine, start, asks, lineReports, stored, acknowledged, wentOn, noReply, runOut, deserted, rejection}
 use Rattle.pair_runs.proofs.Allowed.{bytes-told, allowed-told, runs}
 use Rattle.pair_runs.proofs.Runs.{all, reach, heldOr, someone, held-one, not-listed}
 
@@ -104,7 +104,7 @@ answer-unmarked wrong =
     true≢false
     (wrong (at wentOn) (reach false wentOn refl) (wordsOf first) refl refl refl (clerkAt wentOn) (lineAt wentOn) (clerk-holds wentOn refl) (line-holds wentOn refl) refl)
 
--- ---- 4. T2 alone; an ask after the start; a request heard after it was rejected
+-- ---- 4. T2 alone; a T2 report in Ringout; an ask after the start; a request heard after it was rejected
 not-none : {A : Type 0} (h : Held A) → someone h ≡ true → h ≡ none → ⊥
 not-none h so e = true≢false (sym so ∙ ap someone e)
 
@@ -113,6 +113,12 @@ unfolding play runs all
 over-unguarded wrong =
     not-none (lineHolds (at runOut) (wordsOf first)) refl
     (wrong (at runOut) (reach false runOut refl) (wordsOf first) refl tt (at runOut) stop .1)
+
+pub over-by-refused-t2 : Wrong.OverByRefusedT2 → ⊥
+unfolding play runs all
+over-by-refused-t2 wrong =
+    let later = next (at deserted) (clerkDoes (AtClerk.Timer (wordsOf first) T2)) in
+    not-none (clerkHolds later (wordsOf first)) refl (wrong (at deserted) (reach false deserted refl) (wordsOf first) refl tt later stop .0)
 
 pub gone-before-taken-up : Wrong.GoneBeforeTakenUp → ⊥
 unfolding play runs all
@@ -174,6 +180,7 @@ refuted =
       quietThoughDropped = quiet-though-dropped;
       answerUnmarked = answer-unmarked;
       overUnguarded = over-unguarded;
+      overByRefusedT2 = over-by-refused-t2;
       goneBeforeTakenUp = gone-before-taken-up;
       goneThoughUnderWay = gone-though-under-way;
       lookAltersNothing = look-alters-nothing;

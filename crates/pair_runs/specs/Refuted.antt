@@ -6,11 +6,13 @@ use mathlib.Core.List.{List, []}
 use Rattle.lists.specs.Words.{Bytes}
 use Rattle.lists.specs.declared.words.Words.{Words}
 use Rattle.places.specs.Places.{none, one}
+use Rattle.clerk_table.specs.declared.inputs.Input.the-variants as AtClerk
 use Rattle.clerk_table.specs.declared.record.Record as ClerkRecord
 use Rattle.clerk_table.specs.declared.table.State.the-variants as ClerkState
+use Rattle.clerk_table.specs.declared.table.Timer.the-variants.{T2}
 use Rattle.line_table.specs.declared.inputs.Input.the-variants as AtLine
 use Rattle.line_table.specs.declared.record.Record as LineRecord
-use Rattle.pair.specs.World.{World, Event, lineDoes, clerkHolds, lineHolds, messagesOf, has, next, Allowed, Run, startWorld, Reached}
+use Rattle.pair.specs.World.{World, Event, clerkDoes, lineDoes, clerkHolds, lineHolds, messagesOf, has, next, Allowed, Run, startWorld, Reached}
 use Rattle.pair.specs.Meaning.{Accepted, Listed, NoRequest, About, Untouched}
 
 -- ---- 1. without "acknowledged"
@@ -50,6 +52,12 @@ OverUnguarded =
     (w : World) → Reached w → (identifier : Words) → has (w .history .runOut) identifier ≡ true → NoRequest (messagesOf identifier (w .up)) →
     (later : World) → Run w later → (clerkHolds later identifier ≡ none) × (lineHolds later identifier ≡ none)
 
+-- with a T2 report that is taken or refused (mend M1)
+abbrev pub OverByRefusedT2 : Type 0
+OverByRefusedT2 =
+    (w : World) → Reached w → (identifier : Words) → has (w .history .guarded) identifier ≡ true → NoRequest (messagesOf identifier (w .up)) →
+    (later : World) → Run (next w (clerkDoes (AtClerk.Timer identifier T2))) later → (clerkHolds later identifier ≡ none) × (lineHolds later identifier ≡ none)
+
 -- without "was taken up"; without "no request message under way"
 abbrev pub GoneBeforeTakenUp : Type 0
 GoneBeforeTakenUp =
@@ -86,6 +94,7 @@ pub record Refuted : Type 0 where
   pub quietThoughDropped : QuietThoughDropped → ⊥
   pub answerUnmarked : AnswerUnmarked → ⊥
   pub overUnguarded : OverUnguarded → ⊥
+  pub overByRefusedT2 : OverByRefusedT2 → ⊥
   pub goneBeforeTakenUp : GoneBeforeTakenUp → ⊥
   pub goneThoughUnderWay : GoneThoughUnderWay → ⊥
   pub lookAltersNothing : LookAltersNothing → ⊥

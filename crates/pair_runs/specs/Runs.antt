@@ -222,6 +222,10 @@ secondLost = asks Ccbs true first ∷ asks Ccbs true second ∷ dropsUp 1 ∷ li
 abbrev unheard : List Event
 unheard = ringing ++ (lineActs first Far.Alerted ∷ dropsDown 0 ∷ clerkReports first T2 ∷ [])
 
+-- the guard is reported while the call rings, and its ccCancel is dropped
+abbrev pub deserted : List Event
+deserted = ringing ++ (guardReports first ∷ dropsDown 0 ∷ [])
+
 -- the clerk's host is told that the request was rejected, while it is under way
 abbrev pub rejection : List Event
 rejection = asks Ccbs true first ∷ clerkIsTold rejected (wordsOf first) false ∷ []
@@ -257,13 +261,13 @@ pairs =
     row ringing first (sees 4 3 0 0 2 2 0 0 0 0 0) ∷
     -- no record and no record: the request is completed
     row completed first (sees 0 0 0 0 0 0 0 0 0 0 0) ∷
-    -- after it another ask, with an identifier that was not taken up before
-    row (completed ++ (asks Ccbs true second ∷ [])) second (sees 1 0 0 0 0 0 1 0 0 0 0) ∷
     []
 
--- a request is answered, offered, kept or ended
+-- a request is asked for, answered, offered, kept or ended
 unfoldable pub answers : List Row
 answers =
+    -- after a completed request another ask, with an identifier that was not taken up before
+    row (completed ++ (asks Ccbs true second ∷ [])) second (sees 1 0 0 0 0 0 1 0 0 0 0) ∷
     -- before the acknowledgment: the line's end holds the request, the clerk's is in Wait-Ack
     row stored first (sees 1 1 0 0 0 2 0 1 0 0 0) ∷
     -- another ask for the same two numbers is denied short, and its error heard: it is gone at both ends, and the first is as it was
@@ -312,6 +316,8 @@ losses =
     row secondLost first (sees 1 1 0 0 0 2 0 1 0 0 0) ∷
     -- type 11 is dropped: no timer ends Ringout (mend M1), so the clerk's end waits for its host
     row unheard first (sees 4 0 0 0 2 0 0 0 1 0 0) ∷
+    -- so too where the guard's ccCancel is dropped in Ringout: a T2 report is refused there, and has not run out
+    row (deserted ++ (clerkReports first T2 ∷ [])) first (sees 4 0 0 0 2 0 0 0 1 0 1) ∷
     []
 
 -- the signalling of the call tells of a failure
