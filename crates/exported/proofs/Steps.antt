@@ -2,11 +2,10 @@
 use Prim.Native.Nat.{ℕ}
 use mathlib.Core.Path.{_≡_, refl, sym, _∙_, ap, subst}
 use mathlib.Core.Bool.{Bool, true, false}
-use mathlib.Core.List.{List, [], _∷_, _++_}
+use mathlib.Core.List.{List, _∷_, _++_}
 use lib.ListN.{length}
 use lib.Dec.{ltb, eqb}
 use native.Mathlib.Omega.{arith}
-use borrow.Author.Tests.{eqb-true}
 use Rattle.lists.specs.Choice.{pick}
 use Rattle.lists.specs.Lists.{both}
 use Rattle.lists.specs.Words.{word, octets, wordsOf, bytesOf}
@@ -20,7 +19,6 @@ use Rattle.message.specs.Reading as Reading
 use Rattle.message.specs.Wire.{messageAt}
 use Rattle.message.specs.declared.Message.{Message}
 use Rattle.desk.specs.Letter.{numberWords, letterOf, messageOf}
-use Rattle.desk.specs.declared.letter.Letter.{Letter}
 use Rattle.desk.specs.declared.outcome.Outcome.{Outcome}
 use Rattle.writer.specs.declared.Written.{Written}
 use Rattle.writer.specs.declared.Written.the-variants.{Wrote, Refused}
@@ -34,7 +32,6 @@ use Rattle.clerk_table.specs.declared.table.Timer.the-variants.{T1, T2, T3}
 use Rattle.clerk.specs.Entry as ClerkEntry
 use Rattle.clerk.specs.Entry.{askMessage}
 use Rattle.clerk.specs.Steps as Clerk
-use Rattle.clerk.specs.declared.entry.Asking.{Asking}
 use Rattle.clerk.specs.declared.entry.Entry as ClerkEntries
 use Rattle.clerk.specs.declared.entry.Entry.the-variants as ClerkEntered
 use Rattle.clerk.specs.declared.entry.BytesEntry as ClerkBytes
@@ -49,20 +46,19 @@ use Rattle.line.specs.Start.{started}
 use Rattle.line.specs.Steps as Line
 use Rattle.line.specs.declared.entry.Entry as LineEntries
 use Rattle.line.specs.declared.entry.Entry.the-variants as LineEntered
-use Rattle.line.specs.declared.entry.BytesEntry as LineBytes
 use Rattle.line.specs.declared.steps.Stepped as LineStepped
 use Rattle.line.specs.declared.steps.SteppedBytes as LineSteppedBytes
 use Rattle.host_numbers.specs.Given.{clerkActGiven, timerGiven, lineActGiven, isWord, yes, reportGiven, askWords, askingOf, askGiven, clerkBytesGiven}
-use Rattle.tollherring.specs.Face.{Face, refusedFace, faced}
+use Rattle.tollherring.specs.Face.{refusedFace, faced}
 use Rattle.tollherring.specs.Clerk.{clerkEntered, clerkBytes, clerkAsked, clerkReceived, clerkActed, clerkReported}
 use Rattle.tollherring.specs.Line.{startWords, lineStartedWords, lineStartedAnswer, lineEntered, lineBytes, lineReceived, lineStatusReported, lineLooked, lineActed, lineGuarded}
 use Rattle.tollherring.proofs.Claims.{no-room-nothing}
 use Rattle.pair_request.specs.Wires.{Signal, callDied, rejected}
-use Rattle.pair.specs.World.{World, Event, clerkDoes, lineDoes, clerkIsTold, clerkHears, lineHears, nameOf, sentBy, clerkHeard, lineHeard, signalLetter, next, Reached}
+use Rattle.pair.specs.World.{World, Event, clerkDoes, lineDoes, clerkIsTold, clerkHears, lineHears, nameOf, sentBy, clerkHeard, lineHeard, signalLetter, next}
 use Rattle.pair.specs.Meaning.{ClerkHearsBytes, LineHearsBytes}
 use Rattle.pair.proofs.AsBytes.{heard-as-bytes}
 use Rattle.exported.specs.Calls.{End, clerkEnd, lineEnd, IsStep, done, refused}
-use Rattle.exported.specs.Claims.{ClerkCall, LineCall, askEvent, Calls, FaceIsStep, StartsAsRun}
+use Rattle.exported.specs.Claims.{ClerkCall, LineCall, askEvent, FaceIsStep, StartsAsRun}
 
 -- ---- a step's face: done, or refused for want of room
 faced-step :
@@ -287,20 +283,20 @@ pub face-is-step : FaceIsStep
 unfolding clerkActed clerkReported lineReceived lineStatusReported lineLooked lineActed lineGuarded letterOf
 face-is-step w reach out =
     record {
-      asked = asking w out;
-      allowed = λ a typed e fresh. (asks a typed e, λ so. fresh);
-      acted = acting w out;
-      reported = reporting w out;
-      lineReported = line-reporting w out;
-      looked = looking w out;
-      lineActs = line-acting w out;
-      guarded = guarding w out;
-      clerkHeard = λ m rest head behind busy.
+      clerkAsk = asking w out;
+      askAllowed = λ a typed e fresh. (asks a typed e, λ so. fresh);
+      clerkAct = acting w out;
+      clerkReport = reporting w out;
+      lineReport = line-reporting w out;
+      lineLook = looking w out;
+      lineAct = line-acting w out;
+      lineGuard = guarding w out;
+      clerkReceive = λ m rest head behind busy.
           clerk-worded w (clerkHears (yes busy)) out (length (messageBytes m)) (messageBytes m ++ behind) busy
           (clerk-hearing w out m rest head behind (yes busy) (subst (ClerkHearsBytes w (yes busy) behind) head (heard-as-bytes w reach (yes busy) behind .0)));
-      lineHeard = λ m rest head behind.
+      lineReceive = λ m rest head behind.
           line-hearing w out m rest head behind (subst (LineHearsBytes w behind) head (heard-as-bytes w reach true behind .1));
-      told = λ signal identifier behind busy.
+      clerkTold = λ signal identifier behind busy.
           let m = signalMessage signal identifier in
           clerk-worded w (clerkIsTold signal (nameOf m) (yes busy)) out (length (messageBytes m)) (messageBytes m ++ behind) busy
           (clerk-telling w out signal identifier behind (yes busy));

@@ -33,10 +33,11 @@ use Rattle.pair.specs.World.{World, Event, clerkDoes, lineDoes, clerkIsTold, cl
 use Rattle.exported.specs.Calls.{clerkEnd, lineEnd, Puts, IsStep}
 
 -- ---- what a step puts on a wire, the call writes as its bytes
-pub record Written (m : Message) : Type 0 where
-  -- so the writer never answers 2
+pub record AsBytes (m : Message) : Type 0 where
+  -- so the writer never answers 2, and 53 bytes are always enough
   pub ranged : inRange m ≡ true
-  -- a call whose outcome sends it is done wherever there is room: the front of the buffer is the bytes of the message, and nothing behind them changes
+  pub most : length (messageBytes m) ≤ 53
+  -- where there is room, a call whose outcome sends it is done: the front of the buffer is the bytes of the message, and nothing behind them changes
   pub roomy :
       (words after out : List ℕ) (outcome : Outcome) (unread : ℕ) → sentBy (outcome .sending) ≡ m ∷ [] → length (messageBytes m) ≤ length out →
       faced words after out outcome unread ≡ face after (over (messageBytes m) out) (toldOf outcome (length (messageBytes m)) unread) (outcome .refusal)
@@ -44,9 +45,9 @@ pub record Written (m : Message) : Type 0 where
 abbrev pub SentAsBytes : Type 0
 SentAsBytes =
     (w : World) → Reached w → (e : Event) → Allowed w e → (m : Message) →
-    Puts (clerkEnd w) (clerkEnd (next w e)) m ⊎ Puts (lineEnd w) (lineEnd (next w e)) m → Written m
+    Puts (clerkEnd w) (clerkEnd (next w e)) m ⊎ Puts (lineEnd w) (lineEnd (next w e)) m → AsBytes m
 
--- ---- every call is a step of the run, or leaves the desk and the buffer as they were
+-- ---- a call is a step of `next`, or leaves the desk and the buffer as they were
 -- a call at an end is the step of an event
 abbrev pub ClerkCall : World → Event → List ℕ → ℕ → Face → Type 0
 ClerkCall w e = IsStep (clerkEnd w) (clerkEnd (next w e))
@@ -59,42 +60,42 @@ askEvent a = clerkDoes (AtClerk.Ask (askNames a) (askRequest a))
 
 -- the calls at the desks of a world, whatever numbers and arrays are passed with the buffer `out`
 pub record Calls (w : World) (out : List ℕ) : Type 0 where
-  -- an ask; of values of the code's types, under an identifier that was not taken up before, it is one that a run may have
-  pub asked :
+  -- an ask; a run may have it if it is of values of the code's types and its identifier was not taken up before
+  pub clerkAsk :
       (identifier : List ℕ) (kind : ℕ) (numberA numberB : List ℕ) (service canKeep preference : ℕ) →
       ClerkCall w (askEvent (askingOf identifier kind numberA numberB service canKeep preference)) out 0
       (clerkAsked (w .clerk .words) out identifier kind numberA numberB service canKeep preference)
-  pub allowed :
+  pub askAllowed :
       (a : Asking) → Typed a → askEntry a ≡ Given (AtClerk.Ask (askNames a) (askRequest a)) → has (w .history .takenUp) (wordsOf (a .identifier)) ≡ false →
       Allowed w (askEvent a)
   -- User A's act, and a timer's report
-  pub acted :
+  pub clerkAct :
       (identifier : List ℕ) (number : ℕ) →
       (act : ClerkAct.Act) × ClerkCall w (clerkDoes (AtClerk.Act (wordsOf identifier) act)) out 0 (clerkActed (w .clerk .words) out identifier number)
-  pub reported :
+  pub clerkReport :
       (identifier : List ℕ) (number : ℕ) →
       (timer : Timer) × ClerkCall w (clerkDoes (AtClerk.Timer (wordsOf identifier) timer)) out 0 (clerkReported (w .clerk .words) out identifier number)
   -- a line report, a Look, an act, the guard's report
-  pub lineReported :
+  pub lineReport :
       (digits : List ℕ) (busy : ℕ) → LineCall w (lineDoes (AtLine.Report (numberWords digits) (yes busy))) out 0 (lineStatusReported (w .line .words) out digits busy)
-  pub looked : (digits : List ℕ) → LineCall w (lineDoes (AtLine.Look (numberWords digits))) out 0 (lineLooked (w .line .words) out digits)
-  pub lineActs :
+  pub lineLook : (digits : List ℕ) → LineCall w (lineDoes (AtLine.Look (numberWords digits))) out 0 (lineLooked (w .line .words) out digits)
+  pub lineAct :
       (identifier : List ℕ) (number : ℕ) →
       (act : LineAct.Act) × LineCall w (lineDoes (AtLine.Act (wordsOf identifier) act)) out 0 (lineActed (w .line .words) out identifier number)
-  pub guarded : (identifier : List ℕ) → LineCall w (lineDoes (AtLine.Guard (wordsOf identifier))) out 0 (lineGuarded (w .line .words) out identifier)
+  pub lineGuard : (identifier : List ℕ) → LineCall w (lineDoes (AtLine.Guard (wordsOf identifier))) out 0 (lineGuarded (w .line .words) out identifier)
   -- bytes that begin with those of the head of the wire
-  pub clerkHeard :
+  pub clerkReceive :
       (m : Message) (rest : List Message) → w .down ≡ m ∷ rest → (behind : List ℕ) (busy : ℕ) →
       ClerkCall w (clerkHears (yes busy)) out (length (messageBytes m)) (clerkReceived (w .clerk .words) out (messageBytes m ++ behind) busy)
-  pub lineHeard :
+  pub lineReceive :
       (m : Message) (rest : List Message) → w .up ≡ m ∷ rest → (behind : List ℕ) →
       LineCall w lineHears out (length (messageBytes m)) (lineReceived (w .line .words) out (messageBytes m ++ behind))
   -- the bytes that the clerk's host makes of what the signalling of a call tells it
-  pub told :
+  pub clerkTold :
       (signal : Signal) (identifier : Words) (behind : List ℕ) (busy : ℕ) →
       let m = messageOf (signalLetter signal identifier) in
       ClerkCall w (clerkIsTold signal (nameOf m) (yes busy)) out (length (messageBytes m)) (clerkReceived (w .clerk .words) out (messageBytes m ++ behind) busy)
-  -- bytes that the reader refuses. All other bytes are a message that is neither the next of the wire nor a signal: nobody of the pair sent it, and no event brings it
+  -- bytes that the reader refuses. Of other bytes nothing is said: they are a message that is neither the head of the wire nor a signal, so nobody of the pair sent it
   pub clerkUnread :
       (bytes : List ℕ) (number busy : ℕ) → messageAt bytes ≡ Reading.refused number →
       (answer : ℕ) × (clerkReceived (w .clerk .words) out bytes busy ≡ refusedFace (w .clerk .words) out answer)
