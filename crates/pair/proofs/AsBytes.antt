@@ -27,7 +27,8 @@ use Rattle.clerk.specs.Steps as Clerk
 use Rattle.line.specs.Steps as Line
 use Rattle.pair_request.specs.Reading as R
 use Rattle.pair.specs.World.{World}
-use Rattle.pair.specs.Claims.{ClerkHearsBytes, LineHearsBytes, HeardAsBytes}
+use Rattle.pair.specs.Meaning.{ClerkHearsBytes, LineHearsBytes}
+use Rattle.pair.specs.Demand3.{HeardAsBytes}
 use Rattle.pair.proofs.Ends.{letterRead, messageRead, Clear}
 use Rattle.pair.proofs.Letters.{request-fields}
 use Rattle.pair.proofs.Wires.{Worded, quiet, word}

@@ -1,7 +1,7 @@
 -- The five claims of demand 3: what holds of one request's net holds of the world that it is read from.
 use Prim.Native.Nat.{ℕ}
 use mathlib.Core.Path.{_≡_, refl, sym, _∙_, ap, subst}
-use mathlib.Core.Bool.{Bool, true, false, false≢true}
+use mathlib.Core.Bool.{Bool, true, false, true≢false, false≢true}
 use mathlib.Core.Logic.{_⊎_, inl, inr}
 use mathlib.Core.List.{List, [], _∷_, map}
 use native.Mathlib.Omega.{arith}
@@ -25,7 +25,8 @@ use Rattle.pair_request.specs.Listed as RL
 use Rattle.pair_request.proofs.Over.{Over}
 use Rattle.pair_request.proofs.Claims.{acked-was-accepted, TakesUp, accepts-by-request, both-hold-waiting, both-hold-live, quiet-pair, over-now, over-next}
 use Rattle.pair.specs.World.{World, Event, lineHears, clerkHolds, lineHolds, messagesOf, next, Allowed, Run, stop, then, startWorld, Reached, reached}
-use Rattle.pair.specs.Claims.{Acknowledged, IsRequest, Requests, Heads, Stores, Accepted, AcknowledgedWasAccepted, Agree, DataAgree, KindAgrees, Listed, no-record, invoked, wait-answer, suspended, ringout, QuietListed, OverForGood}
+use Rattle.pair.specs.Meaning.{Acknowledged, isRequest, Requests, Heads, Stores, Accepted, Agree, Listed, no-record, invoked, wait-answer, suspended, ringout, NoRequest}
+use Rattle.pair.specs.Demand3.{AcknowledgedWasAccepted, DataAgree, KindAgrees, QuietListed, OverForGood, GoneForGood}
 use Rattle.pair.proofs.Ends.{clerkRead, clerkRecord, lineRead, lineRecord, messageRead, keepRead, connRead, clerkStateRead}
 use Rattle.pair.proofs.Wires.{messages-hit}
 use Rattle.pair.proofs.Changes.{not-one, the-one}
@@ -38,9 +39,9 @@ known-world w (reached given keep retain b run) =
 
 -- ---- 1. accepted first
 -- the head of the wire, which is the request's, is the request message that the net takes up
-request-body : (k : Kind) (service flags : ℕ) → IsRequest (requestBody k service flags)
-request-body Ccbs service flags = tt
-request-body Ccnr service flags = tt
+request-body : (k : Kind) (service flags : ℕ) → isRequest (requestBody k service flags) ≡ true
+request-body Ccbs service flags = refl
+request-body Ccnr service flags = refl
 
 abbrev first : Message → List Message → Message
 first m [] = m
@@ -53,7 +54,7 @@ unfolding messageOf
 requests-head j d ck q left [] h e = h
 requests-head j d ck q left (m ∷ ms) h e =
     let same : m ≡ messageRead j (R.request d ck q) = ap (first m) (sym (messages-hit j m ms h) ∙ e) in
-    (h, subst (λ (x : Message). IsRequest (x .body)) (sym same) (request-body (d .kind) (d .service) (askFlags ck q)))
+    (h, subst (λ (x : Message). isRequest (x .body) ≡ true) (sym same) (request-body (d .kind) (d .service) (askFlags ck q)))
 
 -- a step by which the net was accepted: the line's end, which held nothing, heard the request and stored it
 stores-now :
@@ -209,11 +210,62 @@ run-over (then run e once) g known j n r sim h =
     let s = step-world (here .0) (here .1) e once j (i .0) (i .1 .0) (i .1 .1 .0) in
     (s .0, (follows-reach (s .1 .0) (i .1 .0), (s .1 .1, follows-over (s .1 .0) (i .1 .1 .1))))
 
-pub over-for-good : OverForGood
-over-for-good w reach j t u none later run =
+-- a request that is over is held by nobody, now and later
+stays-over :
+    (w : World) (reach : Reached w) (j : Words) → Over (known-world w reach .1 .1 j .0) →
+    (later : World) → Run w later → (clerkHolds later j ≡ P.none) × (lineHolds later j ≡ P.none)
+stays-over w reach j over later run =
     let g = known-world w reach in
     let k = g .1 .1 j in
-    let sim = k .1 .1 in
-    let o = run-over run (g .1 .0) (g .1 .1) j (k .0) (k .1 .0) sim (over-now (k .1 .0) (sym (sim .timedOut) ∙ t) (sym (sim .guarded) ∙ u)) in
+    let o = run-over run (g .1 .0) (g .1 .1) j (k .0) (k .1 .0) (k .1 .1) over in
     let there = o .1 .1 .0 in
     (there .clerk ∙ ap (clerkRead j) (o .1 .1 .1 .clerk-none), there .line ∙ ap (lineRead j (there .active)) (o .1 .1 .1 .line-none))
+
+pub over-for-good : OverForGood
+over-for-good w reach j t u none later run =
+    let k = known-world w reach .1 .1 j in
+    let sim = k .1 .1 in
+    stays-over w reach j (over-now (k .1 .0) (sym (sim .timedOut) ∙ t) (sym (sim .guarded) ∙ u)) later run
+
+-- nothing held is read as no record, and a wire without a request as one
+clerk-absent : (j : Words) (c : R.Clerk) → clerkRead j c ≡ P.none → c ≡ R.absent
+clerk-absent j R.absent e = refl
+clerk-absent j (R.waiting d ck) e = not-one (sym e)
+clerk-absent j (R.live d ck k n s) e = not-one (sym e)
+
+line-absent : (j : Words) (active : Bool) (l : R.Line) → lineRead j active l ≡ P.none → l ≡ R.none
+line-absent j active R.none e = refl
+line-absent j active (R.holds d k n s) e = not-one (sym e)
+
+plain-read : (j : Words) (m : R.Msg) → isRequest (messageRead j m .body) ≡ false → RL.NotReq m
+unfolding messageOf
+plain-read j (R.request d ck q) h = absurd (true≢false (sym (request-body (d .kind) (d .service) (askFlags ck q)) ∙ h))
+plain-read j (R.result k n) h = tt
+plain-read j (R.denied short) h = tt
+plain-read j (R.exec n) h = tt
+plain-read j R.ringout h = tt
+plain-read j R.busyAgain h = tt
+plain-read j R.noMatch h = tt
+plain-read j (R.suspend n) h = tt
+plain-read j (R.resume n) h = tt
+plain-read j (R.cancel n) h = tt
+plain-read j R.alerts h = tt
+plain-read j R.failed h = tt
+
+no-request : (j : Words) (ms : List R.Msg) → NoRequest (map (messageRead j) ms) → RL.NoReq ms
+no-request j [] h = tt
+no-request j (m ∷ ms) h = (plain-read j m (h .0), no-request j ms (h .1))
+
+pub gone-for-good : GoneForGood
+gone-for-good w reach j t c l none later run =
+    let k = known-world w reach .1 .1 j in
+    let n = k .0 in
+    let sim = k .1 .1 in
+    stays-over w reach j
+    (record {
+      was-used = sym (sim .used) ∙ t;
+      clerk-none = clerk-absent j (n .clerk) (sym (sim .clerk) ∙ c);
+      line-none = line-absent j (sim .active) (n .line) (sym (sim .line) ∙ l);
+      no-request = no-request j (n .up) (subst NoRequest (sim .up) none);
+    })
+    later run

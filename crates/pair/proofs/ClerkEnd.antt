@@ -59,6 +59,7 @@ use Rattle.clerk.specs.Steps.{made, step}
 use Rattle.clerk.specs.declared.Desk.{Desk}
 use Rattle.clerk.specs.declared.steps.Stepped.{Stepped}
 use Rattle.clerk_sound.specs.Sound.{clerkView, Reached}
+use Rattle.pair_request.specs.Wires.{callDied, rejected}
 use Rattle.pair_request.specs.Reading as R
 use Rattle.pair.specs.World.{sentBy, done, counts}
 use Rattle.pair.proofs.Ends.{clerkRecord, clerkStateRead, keepRead, connRead, clerkRead, letterRead, messageRead, dataOf, askRead, ClerkStep}
@@ -230,6 +231,8 @@ live-takes j i d ck k n R.suspended R.failed busy = (refl, refl)
 abbrev rowRead : R.CAct → Row
 rowRead (R.act x) = rowOfAct x
 rowRead (R.timer x) = rowOfTimer x
+rowRead (R.signal callDied) = Row.CallFails
+rowRead (R.signal rejected) = Row.DeniedShort
 
 abbrev ownPlan : ℕ → Record → Row → ℕ → Plan
 ownPlan i r row refusal = pick (holdsFor row r) (rowTaken i r row) (refusedPlan refusal Sending.Nothing)
@@ -237,7 +240,7 @@ ownPlan i r row refusal = pick (holdsFor row r) (rowTaken i r row) (refusedPlan 
 waiting-acts :
     (j : Words) (i : ℕ) (d : R.Data) (ck : Bool) (x : R.CAct) (refusal : ℕ) →
     Says j (ownPlan i (waitingRecord j d ck) (rowRead x) refusal) (one (waitingRecord j d ck)) (R.clerkActs (R.waiting d ck) x)
-unfolding rowTaken R.clerkActs R.waitingActs
+unfolding rowTaken R.clerkActs R.waitingActs R.clerkTakes R.inRinging
 waiting-acts j i d ck (R.act Act.Accept) refusal = (refl, refl)
 waiting-acts j i d ck (R.act Act.Resume) refusal = (refl, refl)
 waiting-acts j i d ck (R.act Act.GoOn) refusal = (refl, refl)
@@ -245,6 +248,8 @@ waiting-acts j i d ck (R.act Act.Cancel) refusal = (refl, refl)
 waiting-acts j i d ck (R.timer T1) refusal = (refl, refl)
 waiting-acts j i d ck (R.timer T2) refusal = (refl, refl)
 waiting-acts j i d ck (R.timer T3) refusal = (refl, refl)
+waiting-acts j i d ck (R.signal callDied) refusal = (refl, refl)
+waiting-acts j i d ck (R.signal rejected) refusal = (refl, refl)
 
 -- a row that ends the record with a ccCancel, in a state where it is taken; and one that is always taken
 live-cancels :
@@ -264,7 +269,7 @@ always R.suspended = refl
 live-acts :
     (j : Words) (i : ℕ) (d : R.Data) (ck k : Bool) (n : R.Conn) (s : R.CState) (x : R.CAct) (refusal : ℕ) →
     Says j (ownPlan i (liveRecord j d ck k n s) (rowRead x) refusal) (one (liveRecord j d ck k n s)) (R.clerkActs (R.live d ck k n s) x)
-unfolding rowTaken R.clerkActs R.liveActs
+unfolding rowTaken R.clerkActs R.liveActs R.clerkTakes R.inRinging
 live-acts j i d ck k n R.invoked (R.act Act.Accept) refusal = (refl, refl)
 live-acts j i d ck k n R.waitAnswer (R.act Act.Accept) refusal = (refl, refl)
 live-acts j i d ck k n R.ringing (R.act Act.Accept) refusal = (refl, refl)
@@ -291,6 +296,14 @@ live-acts j i d ck k n R.invoked (R.timer T3) refusal = (refl, refl)
 live-acts j i d ck k n R.waitAnswer (R.timer T3) refusal = live-cancels j i d ck k n R.waitAnswer (rowOfTimer T3) refusal refl refl refl
 live-acts j i d ck k n R.ringing (R.timer T3) refusal = (refl, refl)
 live-acts j i d ck k n R.suspended (R.timer T3) refusal = (refl, refl)
+live-acts j i d ck k n R.invoked (R.signal callDied) refusal = (refl, refl)
+live-acts j i d ck k n R.waitAnswer (R.signal callDied) refusal = (refl, refl)
+live-acts j i d ck k n R.ringing (R.signal callDied) refusal = live-cancels j i d ck k n R.ringing Row.CallFails refusal refl refl refl
+live-acts j i d ck k n R.suspended (R.signal callDied) refusal = (refl, refl)
+live-acts j i d ck k n R.invoked (R.signal rejected) refusal = (refl, refl)
+live-acts j i d ck k n R.waitAnswer (R.signal rejected) refusal = (refl, refl)
+live-acts j i d ck k n R.ringing (R.signal rejected) refusal = (refl, refl)
+live-acts j i d ck k n R.suspended (R.signal rejected) refusal = (refl, refl)
 
 -- ---- the record that is found is the one that is read
 module _ (j : Words) (rs : List Record) where

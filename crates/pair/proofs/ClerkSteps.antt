@@ -11,6 +11,7 @@ use Rattle.desk.specs.declared.outcome.Sending.the-variants as Sending
 use Rattle.terms.specs.Request.{canKeepSent}
 use Rattle.terms.specs.declared.request.Names.{Names}
 use Rattle.terms.specs.declared.request.Request.{Request}
+use Rattle.clerk_table.specs.Inputs.{namesOf}
 use Rattle.clerk_table.specs.declared.inputs.Act.{Act}
 use Rattle.clerk_table.specs.declared.inputs.Input.{Input}
 use Rattle.clerk_table.specs.declared.inputs.Input.the-variants as Input
@@ -23,11 +24,12 @@ use Rattle.clerk.specs.declared.steps.Stepped.{Stepped}
 use Rattle.clerk_sound.specs.Sound as Clerk
 use Rattle.clerk_sound.proofs.Reaching.{others-held}
 use Rattle.places.specs.Places as P
+use Rattle.pair_request.specs.Wires.{Signal, callDied, rejected}
 use Rattle.pair_request.specs.Reading as R
-use Rattle.pair_request.proofs.Effects.{clerk-act-effect, act-plain, clerk-take-effect, take-plain}
+use Rattle.pair_request.proofs.Effects.{clerk-act-effect, signal-takes, act-plain, clerk-take-effect, take-plain}
 use Rattle.pair_request.proofs.Agree.{agreed, untaken}
-use Rattle.pair.specs.World.{World, History, Event, clerkDoes, clerkHears, clerkHolds, messagesOf, sentBy, done, counts, clerkStepped, clerkHeard, clerkNotes, withTakenUp, withRunOut, ClerkAllowed}
-use Rattle.pair.specs.Claims.{Heads, About, same}
+use Rattle.pair.specs.World.{World, History, Event, clerkDoes, clerkIsTold, clerkHears, clerkHolds, messagesOf, sentBy, done, counts, clerkStepped, clerkHeard, clerkNotes, withTakenUp, withRunOut, signalLetter, ClerkAllowed}
+use Rattle.pair.specs.Meaning.{Heads, About, same}
 use Rattle.pair.proofs.Ends.{clerkRead, letterRead, messageRead, Clear, dataOf, askRead, ClerkStep}
 use Rattle.pair.proofs.Letters.{letter-name, clear-kept, sent-name, clear-ask}
 use Rattle.pair.proofs.ClerkEnd.{clerk-hears, clerk-acts, clerk-reports, clerk-runs-out, AskStep, refused, stored, clerk-asks}
@@ -105,21 +107,21 @@ module _ {p : R.Policy} {w : World} (g : Good p w) (known : Known p w) where
 
   -- ---- an act, a timer's report
   acting :
-      (k : Words) (x : R.CAct) (input : Input) (history : History) → About w (clerkDoes input) k → Clerk.Fair input →
+      {e : Event} (k : Words) (x : R.CAct) (input : Input) (history : History) → About w e k → namesOf input .identifier ≡ k → Clerk.Fair input →
       ((c : R.Clerk) → clerkHolds w k ≡ clerkRead k c → ClerkStep (step (w .clerk) input) k (R.clerkActs c x)) →
       ((n : R.Net) → Sim k w n → Noted history (w .history) k false (R.runsOut (n .clerk) x) false false) →
-      ((j : Words) → (k ≡ j → ⊥) → Unnoted history (w .history) j) → Turned p w (clerkDoes input) (clerkStepped w (w .down) (step (w .clerk) input) history)
+      ((j : Words) → (k ≡ j → ⊥) → Unnoted history (w .history) j) → Turned p w e (clerkStepped w (w .down) (step (w .clerk) input) history)
   unfolding R.next
-  acting k x input history named fair steps noted unnoted =
+  acting k x input history named name fair steps noted unnoted =
       let its = known k .1 .1 in
       clerk-turn named (Clerk.steps fair (g .clerk)) (steps (known k .0 .clerk) (its .clerk)) (act-clear its (known k .1 .0) x)
-      (λ j d. others-held (w .clerk) (g .clerk) input fair j (λ q. d (sym named ∙ q))) (g .down) (λ j d. refl) unnoted
+      (λ j d. others-held (w .clerk) (g .clerk) input fair j (λ q. d (sym name ∙ q))) (g .down) (λ j d. refl) unnoted
       (λ n r sim.
       (R.clerkDoes x, (tt, clerk-own sim (sim .down) (sim .downClear) (steps (n .clerk) (sim .clerk)) (act-clear sim r x) (noted n sim) (sim .kept))))
 
   clerk-act : (k : Words) (act : Act) → Turned p w (clerkDoes (Input.Act k act)) (clerkStepped w (w .down) (step (w .clerk) (Input.Act k act)) (w .history))
   clerk-act k act =
-      acting k (R.act act) (Input.Act k act) (w .history) refl (Clerk.acts k act) (clerk-acts (w .clerk) (g .clerk) k act)
+      acting k (R.act act) (Input.Act k act) (w .history) refl refl (Clerk.acts k act) (clerk-acts (w .clerk) (g .clerk) k act)
       (λ n sim. unnoted (w .history) k)
       (λ j d. unnoted (w .history) j)
 
@@ -131,11 +133,32 @@ module _ {p : R.Policy} {w : World} (g : Good p w) (known : Known p w) where
   clerk-timer k timer =
       let h = w .history in
       let so = both (counts timer) (done (step (w .clerk) (Input.Timer k timer) .outcome)) in
-      acting k (R.timer timer) (Input.Timer k timer) (withRunOut h so k) refl (Clerk.times k timer)
+      acting k (R.timer timer) (Input.Timer k timer) (withRunOut h so k) refl refl (Clerk.times k timer)
       (clerk-reports (w .clerk) (g .clerk) k timer)
       (λ n sim.
       subst (λ t. Noted (withRunOut h so k) h k false t false false) (clerk-runs-out (w .clerk) (g .clerk) k timer (n .clerk) (sim .clerk)) (noted-timer h k so))
       (λ j d. unnoted-timer h k j so d)
+
+  -- ---- what the call's signalling tells
+  told-step :
+      (k : Words) (x : Signal) (busy : Bool) (c : R.Clerk) → clerkHolds w k ≡ clerkRead k c →
+      ClerkStep (step (w .clerk) (Input.Message (signalLetter x k) busy)) k (R.clerkActs c (R.signal x))
+  told-step k callDied busy c h =
+      subst (ClerkStep (step (w .clerk) (Input.Message (signalLetter callDied k) busy)) k) (signal-takes c callDied busy) (clerk-hears (w .clerk) (g .clerk) k R.failed busy c h)
+  told-step k rejected busy c h =
+      subst (ClerkStep (step (w .clerk) (Input.Message (signalLetter rejected k) busy)) k) (signal-takes c rejected busy) (clerk-hears (w .clerk) (g .clerk) k (R.denied true) busy c h)
+
+  signal-name : (x : Signal) (k : Words) → signalLetter x k .identifier ≡ k
+  signal-name callDied k = refl
+  signal-name rejected k = refl
+
+  pub clerk-told :
+      (x : Signal) (k : Words) (busy : Bool) →
+      Turned p w (clerkIsTold x k busy) (clerkStepped w (w .down) (step (w .clerk) (Input.Message (signalLetter x k) busy)) (w .history))
+  clerk-told x k busy =
+      acting k (R.signal x) (Input.Message (signalLetter x k) busy) (w .history) refl (signal-name x k) (Clerk.hears (signalLetter x k) busy) (told-step k x busy)
+      (λ n sim. unnoted (w .history) k)
+      (λ j d. unnoted (w .history) j)
 
   -- ---- an ask
   module _ (names : Names) (q : Request) (allowed : ClerkAllowed w (Input.Ask names q)) where

@@ -15,3 +15,4 @@ pub mod Runs
 pub mod Claims
 pub mod Others
 pub mod AsBytes
+pub mod Demand3

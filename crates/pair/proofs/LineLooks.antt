@@ -42,7 +42,7 @@ use Rattle.line_sound.specs.Sound.{lineView, Reached}
 use Rattle.line_sound.proofs.Changes.{marking-used, marking-name}
 use Rattle.pair_request.specs.Reading as R
 use Rattle.pair.specs.World.{lineDoes}
-use Rattle.pair.specs.Claims.{Turns, Unaltered, same, marked}
+use Rattle.pair.specs.Meaning.{Sends, Unaltered, same, marked}
 use Rattle.pair.proofs.Ends.{lineRead, LineStep}
 use Rattle.pair.proofs.Grounds.{line-placed, line-full}
 use Rattle.pair.proofs.LineRows.{offer-found}
@@ -91,7 +91,7 @@ fits-invoked number r e =
 pub data Looked (d : Desk) (number : Words) (after : Stepped) : Type 0 where
   nothing : after .desk ≡ d → after .outcome .sending ≡ Sending.Nothing → Looked d number after
   offers :
-      (j : Words) → Turns (d .words) (planFor (d .words) (Input.Look number) .change) j →
+      (j : Words) → Sends (after .outcome .sending) j →
       ((l : R.Line) (b : Bool) → P.held lineView j (records (d .words)) ≡ lineRead j b l → LineStep after j (R.lineActs l R.offers)) →
       ((other : Words) → (j ≡ other → ⊥) →
       P.held lineView other (records (after .desk .words)) ≡ P.held lineView other (records (d .words))) → Looked d number after

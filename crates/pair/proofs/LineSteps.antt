@@ -1,4 +1,5 @@
 -- Each step at the line's end, and each drop, is about one request or none: it moves that request's net by the end's reading, and leaves every other.
+use Prim.Native.Nat.{ℕ}
 use mathlib.Core.Path.{_≡_, refl, sym, _∙_, ap, subst}
 use mathlib.Core.Bool.{Bool, true, false}
 use mathlib.Core.List.{List, [], _∷_, _++_}
@@ -21,17 +22,18 @@ use Rattle.line.specs.declared.Desk.{Desk}
 use Rattle.line.specs.declared.steps.Stepped.{Stepped}
 use Rattle.line_sound.specs.Sound as Line
 use Rattle.line_sound.proofs.Reaching.{others-held}
+use Rattle.pair_request.specs.Wires.{leftOut}
 use Rattle.pair_request.specs.Reading as R
 use Rattle.pair_request.proofs.Effects.{line-act-effect, line-act-plain, line-take-effect, line-take-plain}
 use Rattle.pair_request.proofs.Agree.{agreed, untaken}
-use Rattle.pair.specs.World.{World, History, Event, lineDoes, lineHears, dropsUp, dropsDown, lineHolds, messagesOf, nameOf, sentBy, done, lineStepped, lineHeard, lineNotes, upDropped, downDropped, withGuarded, LineAllowed}
-use Rattle.pair.specs.Claims.{Heads, About, Drops, Unaltered, same}
+use Rattle.pair.specs.World.{World, History, Event, lineDoes, lineHears, dropsUp, dropsDown, lineHolds, messagesOf, sentBy, done, lineStepped, lineHeard, lineNotes, next, withGuarded, LineAllowed}
+use Rattle.pair.specs.Meaning.{Heads, About, Drops, Unaltered, same}
 use Rattle.pair.proofs.Ends.{lineRead, letterRead, messageRead, Clear, lineActRead, policyOf, LineStep}
 use Rattle.pair.proofs.Letters.{letter-name, clear-kept, sent-name}
 use Rattle.pair.proofs.LineChanges.{policy-kept}
 use Rattle.pair.proofs.LineEnd.{line-hears, line-acts, line-guards, guard-ends}
 use Rattle.pair.proofs.LineLooks.{Looked, nothing, offers, line-looks, Reported, line-reports}
-use Rattle.pair.proofs.Wires.{head-own, head-other, AllClear, no-message, plain-clear, Worded, quiet, word, worded-append, worded-sent, has-own, has-other}
+use Rattle.pair.proofs.Wires.{head-own, head-other, AllClear, no-message, plain-clear, Worded, quiet, word, worded-append, worded-sent, LeftOut, nothing-lost, one-lost, left-out, has-own, has-other}
 use Rattle.pair.proofs.Grounds.{line-full}
 use Rattle.pair.proofs.Sim.{Sim, Known, Good, Noted, Unnoted, unnoted, Moves, about, loses, nobody, somebody, Turned, unmoved, append-none, wire-other, line-own, lossy, lost-own}
 
@@ -235,7 +237,7 @@ module _ {p : R.Policy} {w : World} (g : Good p w) (known : Known p w) where
         ),
       ))
 
-  -- ---- a drop: it is about the request whose message was the head of a wire
+  -- ---- a drop: it is about the request whose message is left out
   drop-turn :
       {e : Event} (k : Words) (up down : List Message) → Worded up → Worded down → Drops w e k →
       ((j : Words) → (k ≡ j → ⊥) → (messagesOf j up ≡ messagesOf j (w .up)) × (messagesOf j down ≡ messagesOf j (w .down))) →
@@ -253,22 +255,28 @@ module _ {p : R.Policy} {w : World} (g : Good p w) (known : Known p w) where
         }),
   )
 
-  pub drop-up : (ms : List Message) → w .up ≡ ms → Worded ms → Turned p w dropsUp (upDropped w ms)
-  unfolding upDropped R.next R.loseUpStep
-  drop-up [] e quiet = unmoved g
-  drop-up (m ∷ rest) e (word i c clear others) =
-      let k = nameOf (messageRead i c) in
-      drop-turn k rest (w .down) others (g .down) (subst (λ (ms : List Message). Heads ms k) (sym e) refl) (λ j d. (head-other e refl d, refl))
-      (λ n r sim.
-      let h = head-own e refl (sim .upClear) (sim .up) in
-      (R.losesUp, (tt, subst (λ y. Sim k (lossy w rest (w .down) k) (R.loseUpStep n y)) (sym (h .whole)) (lost-own sim (h .tail) (h .others) (sim .down) (sim .downClear)))))
+  pub drop-up : (i : ℕ) → Turned p w (dropsUp i) (next w (dropsUp i))
+  unfolding next R.next
+  drop-up i = by (left-out i (w .up) (g .up))
+    where
+      by : LeftOut i (w .up) → Turned p w (dropsUp i) (next w (dropsUp i))
+      by (nothing-lost e n) = rw (e, n) (unmoved g)
+      by (one-lost k n h worded others own) =
+          rw n
+          (drop-turn k (leftOut i (w .up)) (w .down) worded (g .down) h (λ j d. (others j d, refl))
+          (λ m r sim.
+          let l = own (m .up) (sim .upClear) (sim .up) in
+          (R.losesUp (l .0), (tt, lost-own sim (l .1 .0) (l .1 .1) (sim .down) (sim .downClear)))))
 
-  pub drop-down : (ms : List Message) → w .down ≡ ms → Worded ms → Turned p w dropsDown (downDropped w ms)
-  unfolding downDropped R.next R.loseDownStep
-  drop-down [] e quiet = unmoved g
-  drop-down (m ∷ rest) e (word i c clear others) =
-      let k = nameOf (messageRead i c) in
-      drop-turn k (w .up) rest (g .up) others (subst (λ (ms : List Message). Heads ms k) (sym e) refl) (λ j d. (refl, head-other e refl d))
-      (λ n r sim.
-      let h = head-own e refl (sim .downClear) (sim .down) in
-      (R.losesDown, (tt, subst (λ y. Sim k (lossy w (w .up) rest k) (R.loseDownStep n y)) (sym (h .whole)) (lost-own sim (sim .up) (sim .upClear) (h .tail) (h .others)))))
+  pub drop-down : (i : ℕ) → Turned p w (dropsDown i) (next w (dropsDown i))
+  unfolding next R.next
+  drop-down i = by (left-out i (w .down) (g .down))
+    where
+      by : LeftOut i (w .down) → Turned p w (dropsDown i) (next w (dropsDown i))
+      by (nothing-lost e n) = rw (e, n) (unmoved g)
+      by (one-lost k n h worded others own) =
+          rw n
+          (drop-turn k (w .up) (leftOut i (w .down)) (g .up) worded h (λ j d. (refl, others j d))
+          (λ m r sim.
+          let l = own (m .down) (sim .downClear) (sim .down) in
+          (R.losesDown (l .0), (tt, lost-own sim (sim .up) (sim .upClear) (l .1 .0) (l .1 .1)))))

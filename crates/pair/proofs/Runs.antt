@@ -10,12 +10,12 @@ use Rattle.clerk_sound.specs.Sound as ClerkSound
 use Rattle.line.specs.Start.{started}
 use Rattle.line_sound.specs.Sound as LineSound
 use Rattle.pair_request.specs.Reading as R
-use Rattle.pair.specs.World.{World, Event, clerkDoes, lineDoes, clerkHears, lineHears, dropsUp, dropsDown, messagesOf, has, next, Allowed, Run, stop, then, startWorld}
+use Rattle.pair.specs.World.{World, Event, clerkDoes, lineDoes, clerkIsTold, clerkHears, lineHears, dropsUp, dropsDown, messagesOf, has, next, Allowed, Run, stop, then, startWorld}
 use Rattle.pair.proofs.Ends.{policyOf}
 use Rattle.pair.proofs.Wires.{words?, no-message, quiet}
 use Rattle.pair.proofs.Grounds.{clerk-started, line-started}
 use Rattle.pair.proofs.Sim.{Sim, Known, Good, Hearing, Moves, Turn, nobody, somebody, Turned, left-sim}
-use Rattle.pair.proofs.ClerkSteps.{clerk-does, clerk-hear}
+use Rattle.pair.proofs.ClerkSteps.{clerk-does, clerk-told, clerk-hear}
 use Rattle.pair.proofs.LineSteps.{line-does, line-hear, drop-up, drop-down}
 
 -- ---- every step, once
@@ -23,10 +23,11 @@ pub turned : {p : R.Policy} {w : World} → Good p w → Known p w → (e : Even
 unfolding next
 turned g known (clerkDoes input) once = clerk-does g known input once
 turned g known (lineDoes input) once = line-does g known input once
+turned g known (clerkIsTold x k busy) once = clerk-told g known x k busy
 turned {w = w} g known (clerkHears busy) once = clerk-hear g known busy (w .down) refl (g .down)
 turned {w = w} g known lineHears once = line-hear g known (w .up) refl (g .up)
-turned {w = w} g known dropsUp once = drop-up g known (w .up) refl (g .up)
-turned {w = w} g known dropsDown once = drop-down g known (w .down) refl (g .down)
+turned g known (dropsUp i) once = drop-up g known i
+turned g known (dropsDown i) once = drop-down g known i
 
 -- what a step makes of one request's net: it leaves it, or is a step of it
 pub data Follows (p : R.Policy) (w : World) (e : Event) (j : Words) (n : R.Net) : R.Net → Type 0 where

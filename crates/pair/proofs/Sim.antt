@@ -13,7 +13,7 @@ use Rattle.line.specs.declared.steps.Stepped as LineStepped
 use Rattle.line_sound.specs.Sound as LineSound
 use Rattle.pair_request.specs.Reading as R
 use Rattle.pair.specs.World.{World, History, Event, lineHears, clerkHolds, lineHolds, messagesOf, has, sentBy, withDropped, clerkStepped, lineStepped, next}
-use Rattle.pair.specs.Claims.{Heads, About, Drops, Unaltered, same, marked}
+use Rattle.pair.specs.Meaning.{Heads, About, Drops, Unaltered, same, marked}
 use Rattle.pair.proofs.Ends.{clerkRead, lineRecord, lineRead, messageRead, Kept, policyOf, ClerkStep, LineStep}
 use Rattle.pair.proofs.Changes.{not-one, the-one}
 use Rattle.pair.proofs.Wires.{messages-append, AllClear, clear-append, messages-own, messages-other, Worded, has-own}
@@ -73,8 +73,8 @@ Hearing w e j (R.clerkDoes x) = Unit
 Hearing w e j (R.lineDoes x) = Unit
 Hearing w e j (R.clerkGets busy) = Unit
 Hearing w e j (R.lineGets x) = (e ≡ lineHears) × Heads (w .up) j
-Hearing w e j R.losesUp = Unit
-Hearing w e j R.losesDown = Unit
+Hearing w e j (R.losesUp i) = Unit
+Hearing w e j (R.losesDown i) = Unit
 
 -- the one that it is about is named, or loses a message and keeps its records
 pub data Named (w : World) (e : Event) (after : World) (j : Words) : Type 0 where
@@ -211,7 +211,7 @@ line-own {j} {w} {n} sim e c {step} {answer = answer} s clear {g} h =
 
 -- after a drop, by what is left of the wires
 abbrev pub lossy : World → List Message → List Message → Words → World
-lossy w up down k = record { clerk = w .clerk; up = up; line = w .line; down = down; history = withDropped (w .history) k }
+lossy w up down k = record { clerk = w .clerk; up = up; line = w .line; down = down; history = withDropped (w .history) (k ∷ []) }
 
 pub lost-own :
     {j : Words} {w : World} {n : R.Net} → Sim j w n → {up down : List Message} {u d : List R.Msg} → messagesOf j up ≡ map (messageRead j) u → AllClear j u →

@@ -1,9 +1,10 @@
 -- Wires and histories for one identifier: the messages of a request among those of all, and what a note adds.
-use Prim.Native.Nat.{ℕ}
-use mathlib.Core.Path.{_≡_, refl, sym, _∙_, ap}
+use Prim.Native.Nat.{ℕ, zero, suc}
+use mathlib.Core.Path.{_≡_, refl, sym, _∙_, ap, subst}
 use mathlib.Core.Bool.{Bool, true, false}
 use mathlib.Core.Logic.{_⊎_, inl, inr}
 use mathlib.Core.List.{List, [], _∷_, _++_, map}
+use lib.ListN.{drop}
 use native.Mathlib.Omega.{arith}
 use Rattle.lists.specs.Words.{sameWords}
 use Rattle.lists.specs.declared.words.Words.{Words}
@@ -11,7 +12,9 @@ use Rattle.lists.proofs.WordsLaws.{same-words-true, same-words-false, words-sam
 use Rattle.message.specs.declared.Message.{Message}
 use Rattle.pair_request.specs.Reading.{Msg, or}
 use Rattle.pair_request.specs.Listed.{NoReq}
-use Rattle.pair.specs.World.{nameOf, messagesOf, has, note}
+use Rattle.pair_request.specs.Wires.{leftOut}
+use Rattle.pair.specs.World.{nameOf, messagesOf, has, note, lostAt}
+use Rattle.pair.specs.Meaning.{Heads}
 use Rattle.pair.proofs.Ends.{messageRead, Clear, Kept}
 use Rattle.pair.proofs.Letters.{clear-kept, clear-plain, sent-name}
 
@@ -112,6 +115,56 @@ worded-append (word j m c h) k = word j m c (worded-append h k)
 pub worded-sent : {j : Words} {ms : List Msg} → AllClear j ms → Worded (map (messageRead j) ms)
 worded-sent no-message = quiet
 worded-sent {j} (one-more {m} c h) = word j m c (worded-sent h)
+
+-- ---- a message left out of a wire: of its request's messages one is, of every other's none; or there was no message at that place
+pub data LeftOut (i : ℕ) (ms : List Message) : Type 0 where
+  nothing-lost : leftOut i ms ≡ ms → lostAt i ms ≡ [] → LeftOut i ms
+  one-lost :
+      (k : Words) → lostAt i ms ≡ k ∷ [] → Heads (drop i ms) k → Worded (leftOut i ms) →
+      ((j : Words) → (k ≡ j → ⊥) → messagesOf j (leftOut i ms) ≡ messagesOf j ms) →
+      ((cs : List Msg) → AllClear k cs → messagesOf k ms ≡ map (messageRead k) cs →
+      (n : ℕ) × ((messagesOf k (leftOut i ms) ≡ map (messageRead k) (leftOut n cs)) × AllClear k (leftOut n cs))) →
+      LeftOut i ms
+
+abbrev Lost : Words → List Message → List Msg → Type 0
+Lost k ms cs = (n : ℕ) × ((messagesOf k ms ≡ map (messageRead k) (leftOut n cs)) × AllClear k (leftOut n cs))
+
+first-lost : {k : Words} {m : Message} {rest : List Message} {cs : List Msg} → Headed k m rest cs → Lost k rest cs
+unfolding leftOut
+first-lost {k} {rest = rest} h = subst (Lost k rest) (sym (h .whole)) (0, (h .tail, h .others))
+
+later-lost : {k : Words} {m : Message} {rest : List Message} {cs : List Msg} (left : List Message) (h : Headed k m rest cs) → nameOf m ≡ k → Lost k left (h .left) → Lost k (m ∷ left) cs
+unfolding leftOut
+later-lost {k} {m} left h name lost =
+    subst (Lost k (m ∷ left)) (sym (h .whole))
+    (suc (lost .0), (messages-hit k m left name ∙ ap (λ x. x ∷ messagesOf k left) (h .same) ∙ ap (λ x. messageRead k (h .code) ∷ x) (lost .1 .0), one-more (h .clear) (lost .1 .1)))
+
+-- a message in front, whose request it is or is not
+under : (j : Words) (m : Message) (left ms : List Message) → messagesOf j left ≡ messagesOf j ms → messagesOf j (m ∷ left) ≡ messagesOf j (m ∷ ms)
+under j m left ms e = go (words? (nameOf m) j)
+  where
+    go : (nameOf m ≡ j) ⊎ (nameOf m ≡ j → ⊥) → messagesOf j (m ∷ left) ≡ messagesOf j (m ∷ ms)
+    go (inl h) = messages-hit j m left h ∙ ap (λ x. m ∷ x) e ∙ sym (messages-hit j m ms h)
+    go (inr h) = messages-miss j m left h ∙ e ∙ sym (messages-miss j m ms h)
+
+pub left-out : (i : ℕ) (ms : List Message) → Worded ms → LeftOut i ms
+unfolding leftOut
+left-out zero [] quiet = nothing-lost refl refl
+left-out (suc i) [] quiet = nothing-lost refl refl
+left-out zero (m ∷ ms) (word x c clear others) =
+    one-lost (nameOf m) refl refl others (λ j d. sym (messages-miss j m ms d)) (λ cs own e. first-lost (head-own refl refl own e))
+left-out (suc i) (m ∷ ms) (word x c clear others) = go (left-out i ms others)
+  where
+    go : LeftOut i ms → LeftOut (suc i) (m ∷ ms)
+    go (nothing-lost e n) = nothing-lost (ap (λ x. m ∷ x) e) n
+    go (one-lost k n h worded other own) = one-lost k n h (word x c clear worded) (λ j d. under j m (leftOut i ms) ms (other j d)) (λ cs all e. by cs all e (words? (nameOf m) k))
+      where
+        by :
+            (cs : List Msg) → AllClear k cs → messagesOf k (m ∷ ms) ≡ map (messageRead k) cs → (nameOf m ≡ k) ⊎ (nameOf m ≡ k → ⊥) → Lost k (m ∷ leftOut i ms) cs
+        by cs all e (inl name) = let h = head-own refl name all e in later-lost (leftOut i ms) h name (own (h .left) (h .others) (h .tail))
+        by cs all e (inr d) =
+            let l = own cs all (sym (messages-miss k m ms d) ∙ e) in
+            (l .0, (messages-miss k m (leftOut i ms) d ∙ l .1 .0, l .1 .1))
 
 -- ---- histories
 pub has-own : (so : Bool) (x : Words) (xs : List Words) → has (note so x xs) x ≡ or so (has xs x)

@@ -1,2 +1,3 @@
 pub mod World
-pub mod Claims
+pub mod Meaning
+pub mod Demand3

@@ -1,15 +1,20 @@
--- Two desks, two wires that deliver in order or drop, and the history of the run. Each step is an input at a desk's door, by the definition that its contract cites, or the drop of a wire's head.
+-- Two desks, two wires that deliver in order or drop, and the history of the run. A step is an input at a desk, as the desk's contract has it, or the drop of a message.
 use Prim.Native.Nat.{ℕ}
 use mathlib.Core.Path.{_≡_}
 use mathlib.Core.Bool.{Bool, true, false}
-use mathlib.Core.List.{List, [], _∷_, _++_}
+use mathlib.Core.List.{List, [], _∷_, _++_, map}
 use lib.Dec.{eqb}
+use lib.ListN.{take, drop}
 use Rattle.lists.specs.Choice.{pick}
 use Rattle.lists.specs.Lists.{both}
 use Rattle.lists.specs.Words.{Bytes, wordsOf, sameWords}
 use Rattle.lists.specs.declared.words.Words.{Words}
 use Rattle.message.specs.declared.Message.{Message}
+use Rattle.message.specs.declared.Body.the-variants.{RequestError, CallFailed}
+use Rattle.message.specs.declared.Carrier.the-variants.{ReleaseComplete}
 use Rattle.desk.specs.Letter.{messageOf}
+use Rattle.desk.specs.Sends.{plainLetter}
+use Rattle.desk.specs.declared.letter.Letter.{Letter}
 use Rattle.desk.specs.declared.outcome.Outcome.{Outcome}
 use Rattle.desk.specs.declared.outcome.Sending.{Sending}
 use Rattle.desk.specs.declared.outcome.Sending.the-variants as Sending
@@ -33,10 +38,10 @@ use Rattle.line.specs.Steps as Line
 use Rattle.line.specs.declared.Desk as LineDesk
 use Rattle.line.specs.declared.steps.Stepped as LineStepped
 use Rattle.line_sound.specs.Sound as LineSound
+use Rattle.pair_request.specs.Wires.{leftOut, Signal, callDied, rejected}
 
 -- ---- the world
--- the identifiers that were taken up by an ask; of which a message was dropped; of which a T1 or T2 report was taken at the clerk's end; of which a
--- guard report was taken at the line's
+-- four lists of identifiers: taken up by an ask; a message of it was dropped; a T1 or T2 report of it was taken at the clerk's end; a guard report at the line's
 pub record History : Type 0 where
   pub takenUp : List Words
   pub dropped : List Words
@@ -100,8 +105,9 @@ abbrev pub withTakenUp : History → Bool → Words → History
 withTakenUp h so identifier =
     record { takenUp = note so identifier (h .takenUp); dropped = h .dropped; runOut = h .runOut; guarded = h .guarded }
 
-abbrev pub withDropped : History → Words → History
-withDropped h identifier = record { takenUp = h .takenUp; dropped = identifier ∷ h .dropped; runOut = h .runOut; guarded = h .guarded }
+abbrev pub withDropped : History → List Words → History
+withDropped h identifiers =
+    record { takenUp = h .takenUp; dropped = identifiers ++ h .dropped; runOut = h .runOut; guarded = h .guarded }
 
 abbrev pub withRunOut : History → Bool → Words → History
 withRunOut h so identifier = record { takenUp = h .takenUp; dropped = h .dropped; runOut = note so identifier (h .runOut); guarded = h .guarded }
@@ -114,12 +120,14 @@ pub data Event : Type 0 where
   -- what a host puts in at an end: at the clerk's an ask, User A's act, a timer's report; at the line's a line report, a Look, an act, the guard's report
   clerkDoes : ClerkInput.Input → Event
   lineDoes : LineInput.Input → Event
+  -- what the signalling of a request's call tells the clerk's host, with its word on User A
+  clerkIsTold : Signal → Words → Bool → Event
   -- the head of a wire is delivered: of `down`, with the host's word on User A; of `up`
   clerkHears : Bool → Event
   lineHears : Event
-  -- the head of a wire is dropped
-  dropsUp : Event
-  dropsDown : Event
+  -- any message of a wire is dropped, by its place
+  dropsUp : ℕ → Event
+  dropsDown : ℕ → Event
 
 -- T3 is no timer of the demand
 abbrev pub counts : Timer → Bool
@@ -127,7 +135,7 @@ counts T1 = true
 counts T2 = true
 counts T3 = false
 
--- what is noted of an input that is done, or is not: an ask that takes up an identifier; a timer of the demand, or a guard, that has run out
+-- what is noted of an input, if it is done (`so`): an ask takes up an identifier; a timer of the demand, or a guard, has run out
 abbrev pub clerkNotes : History → ClerkInput.Input → Bool → History
 clerkNotes h (AtClerk.Ask names q) so = withTakenUp h so (names .identifier)
 clerkNotes h (AtClerk.Message l busy) so = h
@@ -149,13 +157,15 @@ unfoldable pub lineHeard : World → List Message → World
 lineHeard w [] = w
 lineHeard w (m ∷ rest) = lineStepped w rest (Line.received (w .line) m) (w .history)
 
-unfoldable pub upDropped : World → List Message → World
-upDropped w [] = w
-upDropped w (m ∷ rest) = record { clerk = w .clerk; up = rest; line = w .line; down = w .down; history = withDropped (w .history) (nameOf m) }
+-- a message that nobody sent (docs/HOST.md, 12): type 12, or type 4 short, in Release Complete. The types 11 and 7 that it names are no steps of a run: claim 3 would
+-- not hold of them (`LeftOut` in crate pair_runs)
+abbrev pub signalLetter : Signal → Words → Letter
+signalLetter callDied identifier = plainLetter identifier ReleaseComplete CallFailed
+signalLetter rejected identifier = plainLetter identifier ReleaseComplete (RequestError 1)
 
-unfoldable pub downDropped : World → List Message → World
-downDropped w [] = w
-downDropped w (m ∷ rest) = record { clerk = w .clerk; up = w .up; line = w .line; down = rest; history = withDropped (w .history) (nameOf m) }
+-- the identifier of the message at a place of a wire; behind its end there is none
+abbrev pub lostAt : ℕ → List Message → List Words
+lostAt i wire = map nameOf (take 1 (drop i wire))
 
 unfoldable pub next : World → Event → World
 next w (clerkDoes input) =
@@ -164,13 +174,18 @@ next w (clerkDoes input) =
 next w (lineDoes input) =
     let step = Line.step (w .line) input in
     lineStepped w (w .up) step (lineNotes (w .history) input (done (step .outcome)))
+next w (clerkIsTold signal identifier busy) =
+    clerkStepped w (w .down) (Clerk.step (w .clerk) (AtClerk.Message (signalLetter signal identifier) busy)) (w .history)
 next w (clerkHears busy) = clerkHeard w busy (w .down)
 next w lineHears = lineHeard w (w .up)
-next w dropsUp = upDropped w (w .up)
-next w dropsDown = downDropped w (w .down)
+next w (dropsUp i) =
+    record { clerk = w .clerk; up = leftOut i (w .up); line = w .line; down = w .down; history = withDropped (w .history) (lostAt i (w .up)) }
+next w (dropsDown i) =
+    record { clerk = w .clerk; up = w .up; line = w .line; down = leftOut i (w .down); history = withDropped (w .history) (lostAt i (w .down)) }
 
 -- ---- runs
--- a message comes by the wire alone; an ask is one that the entry makes of what a host gives, and every identifier is taken up by at most one ask that is not refused
+-- every other message comes by the wire alone. An ask is any that the entry makes of values of the code's types (`Fair`), and every identifier is taken up by at most
+-- one ask that is not refused
 abbrev pub ClerkAllowed : World → ClerkInput.Input → Type 0
 ClerkAllowed w (AtClerk.Ask names q) =
     ClerkSound.Fair (AtClerk.Ask names q)
@@ -189,10 +204,11 @@ LineAllowed (AtLine.Look number) = Unit
 abbrev pub Allowed : World → Event → Type 0
 Allowed w (clerkDoes input) = ClerkAllowed w input
 Allowed w (lineDoes input) = LineAllowed input
+Allowed w (clerkIsTold signal identifier busy) = Unit
 Allowed w (clerkHears busy) = Unit
 Allowed w lineHears = Unit
-Allowed w dropsUp = Unit
-Allowed w dropsDown = Unit
+Allowed w (dropsUp i) = Unit
+Allowed w (dropsDown i) = Unit
 
 pub data Run (first : World) : World → Type 0 where
   stop : Run first first
@@ -201,7 +217,7 @@ pub data Run (first : World) : World → Type 0 where
 abbrev pub noHistory : History
 noHistory = record { takenUp = []; dropped = []; runOut = []; guarded = [] }
 
--- two desks started empty, the line desk with any lines and settings
+-- two desks started empty, the line desk with any lines and settings; where these are refused, a desk without lines
 abbrev pub startWorld : List ℕ → Bool → Bool → World
 startWorld given keep retain =
     record { clerk = Clerk.startedDesk; up = []; line = LineStart.started given keep retain .desk; down = []; history = noHistory }

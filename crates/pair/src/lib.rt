@@ -1,1 +1,1 @@
-// Two desks and two wires: demand 3. There is no code here: specs/World.antt has the run, specs/Claims.antt the claims, proofs/ proves them.
+// Two desks and two wires: demand 3. There is no code here: specs/Demand3.antt has the claims, specs/Meaning.antt what their words mean, specs/World.antt the run; proofs/ proves them.

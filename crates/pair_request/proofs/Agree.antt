@@ -1,11 +1,12 @@
 -- What the ends store and the wires carry of a request is what was asked, whatever is dropped: an invariant of a run, by the forms of a step.
-use Prim.Native.Nat.{ℕ}
+use Prim.Native.Nat.{ℕ, zero, suc}
 use mathlib.Core.Path.{_≡_, refl, sym}
 use mathlib.Core.Bool.{Bool, true, false, false≢true}
 use mathlib.Core.List.{List, [], _∷_, _++_}
 use Rattle.pair_request.specs.Reading.{Conn, ret, Data, Msg, request, result, CState, Clerk, absent, waiting, live, LState, Line, none, holds, Policy, keepOf, connOf, Net, or, present, held, Reach, begin, more}
+use Rattle.pair_request.specs.Wires.{leftOut}
 use Rattle.pair_request.specs.Listed.{NotReq, NoReq}
-use Rattle.pair_request.proofs.Effects.{noReq++, just-cancel, NotRes, NoRes, ClerkActEffect, stays, quit-waiting, quit-live, accepts, resuming, recalling, act-plain, ClerkTakeEffect, take-stays, take-replies, take-ends-waiting, take-ends, take-ends-cancel, take-moves, take-suspends, take-acks, clerk-take-effect, take-plain, LineActEffect, line-stays, line-quits, line-offers, line-alerts, line-fails, line-act-silent, silent, LineTakeEffect, line-take-stays, line-take-ends, line-take-moves, line-take-accepts, line-take-effect, and-again, Move, still, asked, clerk-act, line-act, clerk-get, line-get, up-lost, down-lost, moves}
+use Rattle.pair_request.proofs.Effects.{noReq++, noReq-left, just-cancel, NotRes, NoRes, ClerkActEffect, stays, quit-waiting, drops-waiting, quit-live, accepts, resuming, recalling, act-plain, ClerkTakeEffect, take-stays, take-replies, take-ends-waiting, take-ends, take-ends-cancel, take-moves, take-suspends, take-acks, clerk-take-effect, take-plain, LineActEffect, line-stays, line-quits, line-offers, line-alerts, line-fails, line-act-silent, silent, LineTakeEffect, line-take-stays, line-take-ends, line-take-moves, line-take-accepts, line-take-effect, and-again, Move, still, asked, clerk-act, line-act, clerk-get, line-get, up-lost, down-lost, moves}
 
 -- what was asked: data d, can-keep ck, preference q; t tells whether it was accepted
 pub data ClerkOk (p : Policy) (d : Data) (ck : Bool) (q : ℕ) : Bool → Clerk → Type 0 where
@@ -35,6 +36,14 @@ down++ (m ∷ o) down-nil h = down-other (h .0) (down++ o down-nil (h .1))
 down++ o (down-result j) h = down-result (down++ o j h)
 down++ o (down-other n j) h = down-other n (down++ o j h)
 
+down-left : {p : Policy} {ck : Bool} {q : ℕ} {t : Bool} {v : List Msg} (i : ℕ) → DownOk p ck q t v → DownOk p ck q t (leftOut i v)
+unfolding leftOut
+down-left i down-nil = down-nil
+down-left zero (down-result j) = j
+down-left (suc i) (down-result j) = down-result (down-left i j)
+down-left zero (down-other n j) = j
+down-left (suc i) (down-other n j) = down-other n (down-left i j)
+
 down-tail : {p : Policy} {ck : Bool} {q : ℕ} {t : Bool} {m : Msg} {v : List Msg} → DownOk p ck q t (m ∷ v) → DownOk p ck q t v
 down-tail (down-result j) = j
 down-tail (down-other n j) = j
@@ -46,6 +55,7 @@ agrees-asks d ck q before = early-waiting tt
 ok-acts : {p : Policy} {d : Data} {ck : Bool} {q : ℕ} {t : Bool} {c c′ : Clerk} {o : List Msg} → ClerkOk p d ck q t c → ClerkActEffect c c′ o → ClerkOk p d ck q t c′
 ok-acts k stays = k
 ok-acts ok-waiting quit-waiting = ok-absent
+ok-acts ok-waiting drops-waiting = ok-absent
 ok-acts ok-live quit-live = ok-absent
 ok-acts ok-live accepts = ok-live
 ok-acts ok-live resuming = ok-live
@@ -55,6 +65,7 @@ agrees-acts : {p : Policy} {y : Bool} {c c′ : Clerk} {u o : List Msg} {l : Lin
 agrees-acts before stays = before
 agrees-acts (early-waiting {u} h) stays = early-waiting (noReq++ u _ h tt)
 agrees-acts (early-waiting {u} h) quit-waiting = early-absent (noReq++ u _ h (just-cancel ret))
+agrees-acts (early-waiting {u} h) drops-waiting = early-absent (noReq++ u _ h tt)
 agrees-acts (early-absent {u} h) stays = early-absent (noReq++ u _ h tt)
 agrees-acts {u} {o} (after d ck q h k l v) e = after d ck q (noReq++ u o h (act-plain e)) (ok-acts k e) l v
 
@@ -110,13 +121,21 @@ agrees-line-gets (early-absent h) e = early-gets h (λ t. ok-absent) e
 agrees-line-gets (after d ck q h k l v) e = let g = line-gets-plain (h .0) l v e in rw (flag-same (g .0)) (after d ck q (h .1) k (g .0) (g .1))
 
 -- ---- drops
-agrees-loses-up : {p : Policy} {y : Bool} {c : Clerk} {m : Msg} {u v : List Msg} {l : Line} {t : Bool} → Agrees p y c (m ∷ u) l v t → Agrees p y c u l v t
-agrees-loses-up (early-waiting {d} {ck} {q} h) = after d ck q h ok-waiting ok-none down-nil
-agrees-loses-up (early-absent {d} {ck} {q} h) = after d ck q h ok-absent ok-none down-nil
-agrees-loses-up (after d ck q h k l v) = after d ck q (h .1) k l v
+agrees-loses-up : {p : Policy} {y : Bool} {c : Clerk} {u v : List Msg} {l : Line} {t : Bool} (i : ℕ) → Agrees p y c u l v t → Agrees p y c (leftOut i u) l v t
+unfolding leftOut
+agrees-loses-up i before = before
+agrees-loses-up zero (early-waiting {d} {ck} {q} h) = after d ck q h ok-waiting ok-none down-nil
+agrees-loses-up (suc i) (early-waiting {u} h) = early-waiting (noReq-left i u h)
+agrees-loses-up zero (early-absent {d} {ck} {q} h) = after d ck q h ok-absent ok-none down-nil
+agrees-loses-up (suc i) (early-absent {u} h) = early-absent (noReq-left i u h)
+agrees-loses-up {u} i (after d ck q h k l v) = after d ck q (noReq-left i u h) k l v
 
-agrees-loses-down : {p : Policy} {y : Bool} {c : Clerk} {m : Msg} {u v : List Msg} {l : Line} {t : Bool} → Agrees p y c u l (m ∷ v) t → Agrees p y c u l v t
-agrees-loses-down (after d ck q h k l v) = after d ck q h k l (down-tail v)
+agrees-loses-down : {p : Policy} {y : Bool} {c : Clerk} {u v : List Msg} {l : Line} {t : Bool} (i : ℕ) → Agrees p y c u l v t → Agrees p y c u l (leftOut i v) t
+unfolding leftOut
+agrees-loses-down i before = before
+agrees-loses-down i (early-waiting h) = early-waiting h
+agrees-loses-down i (early-absent h) = early-absent h
+agrees-loses-down i (after d ck q h k l v) = after d ck q h k l (down-left i v)
 
 -- ---- over a run
 abbrev pub NetAgrees : Policy → Net → Type 0
@@ -129,8 +148,8 @@ agrees-move (clerk-act e t) i = agrees-acts i e
 agrees-move (line-act e t) i = agrees-line-acts i e
 agrees-move {s} (clerk-get {m} b e) i = agrees-clerk-gets (rw e at i) (clerk-take-effect (s .clerk) m b)
 agrees-move {p} {s} (line-get {m} w e) i = agrees-line-gets (rw e at i) (line-take-effect p (s .line) m w)
-agrees-move (up-lost e) i = agrees-loses-up (rw e at i)
-agrees-move (down-lost e) i = agrees-loses-down (rw e at i)
+agrees-move (up-lost k) i = agrees-loses-up k i
+agrees-move (down-lost k) i = agrees-loses-down k i
 
 pub agreed : {p : Policy} {s : Net} → Reach p s → NetAgrees p s
 agreed begin = before

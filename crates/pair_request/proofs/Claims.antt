@@ -4,7 +4,7 @@ use mathlib.Core.Path.{_≡_, refl, sym, _∙_}
 use mathlib.Core.Bool.{Bool, true, false, true≢false, false≢true}
 use mathlib.Core.Logic.{_⊎_, inl, inr}
 use mathlib.Core.List.{List, [], _∷_}
-use Rattle.pair_request.specs.Reading.{Conn, Data, Msg, request, CState, waiting, live, LState, idle, Line, none, holds, Policy, keepOf, connOf, Word, lineTakes, lineActs, Net, held, Event, asks, clerkDoes, lineDoes, clerkGets, lineGets, losesUp, losesDown, askStep, clerkGetStep, lineGetStep, loseUpStep, loseDownStep, next, Reach}
+use Rattle.pair_request.specs.Reading.{Conn, Data, Msg, request, CState, waiting, live, LState, idle, Line, none, holds, Policy, keepOf, connOf, Word, lineTakes, lineActs, Net, held, Event, asks, clerkDoes, lineDoes, clerkGets, lineGets, losesUp, losesDown, askStep, clerkGetStep, lineGetStep, next, Reach}
 use Rattle.pair_request.specs.Listed.{Listed}
 use Rattle.pair_request.proofs.Effects.{LineActEffect, line-stays, line-quits, line-offers, line-alerts, line-fails, line-act-effect, LineTakeEffect, line-take-stays, line-take-ends, line-take-moves, line-take-accepts, line-take-effect, or-elim, Move, still, asked, clerk-act, line-act, clerk-get, line-get, up-lost, down-lost, moves}
 use Rattle.pair_request.proofs.Agree.{agreed, live-accepted, held-accepted, accepted-plain, waiting-agrees, live-agrees}
@@ -22,8 +22,8 @@ newly (clerk-act e t) h = inl h
 newly (line-act {l} e t) h = or-elim (held l) _ h inr inl
 newly (clerk-get b e) h = inl h
 newly {p} {s} (line-get {m} w e) h = or-elim (held (lineTakes p (s .line) m w .0)) _ h inr inl
-newly (up-lost e) h = inl h
-newly (down-lost e) h = inl h
+newly (up-lost i) h = inl h
+newly (down-lost i) h = inl h
 
 -- accepted after a step: it was before, or the line holds it now
 pub newly-next : (p : Policy) (s : Net) (e : Event) → (next p s e) .accepted ≡ true → (s .accepted ≡ true) ⊎ (held ((next p s e) .line) ≡ true)
@@ -69,16 +69,6 @@ unfolding clerkGetStep
 clerk-accepts-none s b [] = refl
 clerk-accepts-none s b (m ∷ v) = refl
 
-up-lost-accepts-none : (s : Net) (u : List Msg) → (loseUpStep s u) .accepted ≡ s .accepted
-unfolding loseUpStep
-up-lost-accepts-none s [] = refl
-up-lost-accepts-none s (m ∷ u) = refl
-
-down-lost-accepts-none : (s : Net) (v : List Msg) → (loseDownStep s v) .accepted ≡ s .accepted
-unfolding loseDownStep
-down-lost-accepts-none s [] = refl
-down-lost-accepts-none s (m ∷ v) = refl
-
 both-ways : {b : Bool} → b ≡ false → b ≡ true → ⊥
 both-ways f h = true≢false (sym h ∙ f)
 
@@ -96,8 +86,8 @@ accepts-by-request (clerkDoes x) r f h = absurd (both-ways f h)
 accepts-by-request {s} (lineDoes x) r f h = absurd (both-ways f (or-elim (held (lineActs (s .line) x .0)) _ h (λ g. held-accepted (agreed r) (held-before (line-act-effect (s .line) x) g)) (λ g. g)))
 accepts-by-request {s} (clerkGets b) r f h = absurd (both-ways f (sym (clerk-accepts-none s b (s .down)) ∙ h))
 accepts-by-request {s} (lineGets w) r f h = (w, refl, line-accepts s w (s .up) refl (not-held (s .line) (λ g. both-ways f (held-accepted (agreed r) g))) f h)
-accepts-by-request {s} losesUp r f h = absurd (both-ways f (sym (up-lost-accepts-none s (s .up)) ∙ h))
-accepts-by-request {s} losesDown r f h = absurd (both-ways f (sym (down-lost-accepts-none s (s .down)) ∙ h))
+accepts-by-request (losesUp i) r f h = absurd (both-ways f h)
+accepts-by-request (losesDown i) r f h = absurd (both-ways f h)
 
 -- ---- the data agree while both hold it
 pub both-hold-waiting : {p : Policy} {s : Net} (d d′ : Data) (ck k : Bool) (n : Conn) (y : LState) → Reach p s → s .clerk ≡ waiting d ck → s .line ≡ holds d′ k n y → d ≡ d′

@@ -1,17 +1,24 @@
 -- What an input can do to an end's record and its wire, in few forms, and the forms of a step of the net: by the rows of the tables.
-use Prim.Native.Nat.{ℕ}
+use Prim.Native.Nat.{ℕ, zero, suc}
 use mathlib.Core.Path.{_≡_, refl, ap}
 use mathlib.Core.Bool.{Bool, true, false, false≢true}
 use mathlib.Core.List.{List, [], _∷_, _++_}
 use Rattle.clerk_table.specs.declared.inputs.Act.the-variants as Act
 use Rattle.clerk_table.specs.declared.table.Timer.the-variants.{T1, T2, T3}
-use Rattle.pair_request.specs.Reading.{Conn, ret, rls, Data, Msg, request, result, denied, exec, ringout, busyAgain, noMatch, suspend, resume, cancel, alerts, failed, CState, invoked, waitAnswer, ringing, suspended, Clerk, absent, waiting, live, LState, idle, await, alert, Line, none, holds, and, not, sameConn, CAnswer, inRinging, onBusyAgain, unfit, onExec, clerkTakes, CAct, act, timer, liveActs, waitingActs, clerkActs, Policy, keepOf, connOf, Verdict, takes, denies, Word, onRequest, onRingout, resumeFits, onResume, onSuspend, lineTakes, LAct, offers, alerted, callFailed, cancels, guard, lineActs, Net, or, present, isT1orT2, guardEnds, held, Event, asks, clerkDoes, lineDoes, clerkGets, lineGets, losesUp, losesDown, afterClerk, afterLine, lost, afterAsk, askStep, clerkGetStep, lineGetStep, loseUpStep, loseDownStep, next}
+use Rattle.pair_request.specs.Reading.{Conn, ret, rls, Data, Msg, request, result, denied, exec, ringout, busyAgain, noMatch, suspend, resume, cancel, alerts, failed, CState, invoked, waitAnswer, ringing, suspended, Clerk, absent, waiting, live, LState, idle, await, alert, Line, none, holds, and, not, sameConn, CAnswer, inRinging, onBusyAgain, unfit, onExec, clerkTakes, signalMsg, CAct, act, timer, signal, liveActs, waitingActs, clerkActs, Policy, keepOf, connOf, Verdict, takes, denies, Word, onRequest, onRingout, resumeFits, onResume, onSuspend, lineTakes, LAct, offers, alerted, callFailed, cancels, guard, lineActs, Net, or, present, isT1orT2, guardEnds, held, Event, asks, clerkDoes, lineDoes, clerkGets, lineGets, losesUp, losesDown, afterClerk, afterLine, lost, afterAsk, askStep, clerkGetStep, lineGetStep, next}
+use Rattle.pair_request.specs.Wires.{leftOut, Signal, callDied, rejected}
 use Rattle.pair_request.specs.Listed.{NotReq, NoReq}
 
 -- ---- lists of messages
 pub noReq++ : (u v : List Msg) → NoReq u → NoReq v → NoReq (u ++ v)
 noReq++ [] v h k = k
 noReq++ (m ∷ u) v h k = (h .0, noReq++ u v (h .1) k)
+
+pub noReq-left : (i : ℕ) (u : List Msg) → NoReq u → NoReq (leftOut i u)
+unfolding leftOut
+noReq-left i [] h = tt
+noReq-left zero (m ∷ u) h = h .1
+noReq-left (suc i) (m ∷ u) h = (h .0, noReq-left i u (h .1))
 
 pub just-cancel : (n : Conn) → NoReq (cancel n ∷ [])
 just-cancel n = (tt, tt)
@@ -56,13 +63,14 @@ NoRes (m ∷ ms) = NotRes m × NoRes ms
 pub data ClerkActEffect : Clerk → Clerk → List Msg → Type 0 where
   stays : {c : Clerk} → ClerkActEffect c c []
   quit-waiting : {d : Data} {ck : Bool} → ClerkActEffect (waiting d ck) absent (cancel ret ∷ [])
+  drops-waiting : {d : Data} {ck : Bool} → ClerkActEffect (waiting d ck) absent []
   quit-live : {d : Data} {ck k : Bool} {n : Conn} {s : CState} → ClerkActEffect (live d ck k n s) absent (cancel n ∷ [])
   accepts : {d : Data} {ck k : Bool} {n : Conn} → ClerkActEffect (live d ck k n waitAnswer) (live d ck k n ringing) (ringout ∷ [])
   resuming : {d : Data} {ck k : Bool} {n : Conn} → ClerkActEffect (live d ck k n suspended) (live d ck k n invoked) (resume n ∷ [])
   recalling : {d : Data} {ck k : Bool} {n : Conn} → ClerkActEffect (live d ck k n suspended) (live d ck k n waitAnswer) []
 
 live-act-effect : (d : Data) (ck k : Bool) (n : Conn) (s : CState) (x : CAct) → ClerkActEffect (live d ck k n s) (liveActs d ck k n s x .0) (liveActs d ck k n s x .1)
-unfolding liveActs
+unfolding liveActs clerkTakes inRinging
 live-act-effect d ck k n waitAnswer (act Act.Accept) = accepts
 live-act-effect d ck k n invoked (act Act.Accept) = stays
 live-act-effect d ck k n ringing (act Act.Accept) = stays
@@ -85,9 +93,14 @@ live-act-effect d ck k n invoked (timer T3) = stays
 live-act-effect d ck k n waitAnswer (timer T3) = quit-live
 live-act-effect d ck k n ringing (timer T3) = stays
 live-act-effect d ck k n suspended (timer T3) = stays
+live-act-effect d ck k n invoked (signal callDied) = stays
+live-act-effect d ck k n waitAnswer (signal callDied) = stays
+live-act-effect d ck k n ringing (signal callDied) = quit-live
+live-act-effect d ck k n suspended (signal callDied) = stays
+live-act-effect d ck k n s (signal rejected) = stays
 
 waiting-act-effect : (d : Data) (ck : Bool) (x : CAct) → ClerkActEffect (waiting d ck) (waitingActs d ck x .0) (waitingActs d ck x .1)
-unfolding waitingActs
+unfolding waitingActs clerkTakes inRinging
 waiting-act-effect d ck (act Act.Accept) = stays
 waiting-act-effect d ck (act Act.Resume) = stays
 waiting-act-effect d ck (act Act.GoOn) = stays
@@ -95,6 +108,8 @@ waiting-act-effect d ck (act Act.Cancel) = quit-waiting
 waiting-act-effect d ck (timer T1) = quit-waiting
 waiting-act-effect d ck (timer T2) = stays
 waiting-act-effect d ck (timer T3) = stays
+waiting-act-effect d ck (signal callDied) = stays
+waiting-act-effect d ck (signal rejected) = drops-waiting
 
 pub clerk-act-effect : (c : Clerk) (x : CAct) → ClerkActEffect c (clerkActs c x .0) (clerkActs c x .1)
 unfolding clerkActs
@@ -102,10 +117,21 @@ clerk-act-effect absent x = stays
 clerk-act-effect (waiting d ck) x = waiting-act-effect d ck x
 clerk-act-effect (live d ck k n s) x = live-act-effect d ck k n s x
 
+-- a signal is taken as the message that it stands for, whatever User A does
+pub signal-takes : (c : Clerk) (x : Signal) (b : Bool) → clerkTakes c (signalMsg x) b ≡ clerkActs c (signal x)
+unfolding clerkActs liveActs waitingActs clerkTakes inRinging
+signal-takes absent callDied b = refl
+signal-takes absent rejected b = refl
+signal-takes (waiting d ck) callDied b = refl
+signal-takes (waiting d ck) rejected b = refl
+signal-takes (live d ck k n s) callDied b = refl
+signal-takes (live d ck k n s) rejected b = refl
+
 -- what it sends holds no request
 pub act-plain : {c c′ : Clerk} {o : List Msg} → ClerkActEffect c c′ o → NoReq o
 act-plain stays = tt
 act-plain quit-waiting = (tt, tt)
+act-plain drops-waiting = tt
 act-plain quit-live = (tt, tt)
 act-plain accepts = (tt, tt)
 act-plain resuming = (tt, tt)
@@ -349,8 +375,8 @@ pub data Move (p : Policy) : Net → Net → Type 0 where
   line-act : {s : Net} {l : Line} {o : List Msg} {t : Bool} → LineActEffect (s .line) l o → (t ≡ true → (l ≡ none) × (held (s .line) ≡ true)) → Move p s (afterLine s (s .up) t (l, o))
   clerk-get : {s : Net} {m : Msg} {v : List Msg} (b : Bool) → s .down ≡ m ∷ v → Move p s (afterClerk s v false (clerkTakes (s .clerk) m b))
   line-get : {s : Net} {m : Msg} {u : List Msg} (w : Word) → s .up ≡ m ∷ u → Move p s (afterLine s u false (lineTakes p (s .line) m w))
-  up-lost : {s : Net} {m : Msg} {u : List Msg} → s .up ≡ m ∷ u → Move p s (lost s u (s .down))
-  down-lost : {s : Net} {m : Msg} {v : List Msg} → s .down ≡ m ∷ v → Move p s (lost s (s .up) v)
+  up-lost : {s : Net} (i : ℕ) → Move p s (lost s (leftOut i (s .up)) (s .down))
+  down-lost : {s : Net} (i : ℕ) → Move p s (lost s (s .up) (leftOut i (s .down)))
 
 guard-ends : (l : Line) (x : LAct) → guardEnds l x ≡ true → (lineActs l x .0 ≡ none) × (held l ≡ true)
 unfolding lineActs
@@ -388,16 +414,6 @@ unfolding lineGetStep
 line-get-moves p s w [] e = still
 line-get-moves p s w (m ∷ u) e = line-get w e
 
-up-lost-moves : (p : Policy) (s : Net) (u : List Msg) → s .up ≡ u → Move p s (loseUpStep s u)
-unfolding loseUpStep
-up-lost-moves p s [] e = still
-up-lost-moves p s (m ∷ u) e = up-lost e
-
-down-lost-moves : (p : Policy) (s : Net) (v : List Msg) → s .down ≡ v → Move p s (loseDownStep s v)
-unfolding loseDownStep
-down-lost-moves p s [] e = still
-down-lost-moves p s (m ∷ v) e = down-lost e
-
 pub moves : (p : Policy) (s : Net) (e : Event) → Move p s (next p s e)
 unfolding next
 moves p s (asks d ck q) = ask-moves p s d ck q (s .used) refl
@@ -405,5 +421,5 @@ moves p s (clerkDoes x) = clerk-act (clerk-act-effect (s .clerk) x) (clerk-ends 
 moves p s (lineDoes x) = line-act (line-act-effect (s .line) x) (guard-ends (s .line) x)
 moves p s (clerkGets b) = clerk-get-moves p s b (s .down) refl
 moves p s (lineGets w) = line-get-moves p s w (s .up) refl
-moves p s losesUp = up-lost-moves p s (s .up) refl
-moves p s losesDown = down-lost-moves p s (s .down) refl
+moves p s (losesUp i) = up-lost i
+moves p s (losesDown i) = down-lost i

@@ -4,13 +4,14 @@ use mathlib.Core.Bool.{Bool, true, false, true≢false, false≢true}
 use mathlib.Core.List.{List}
 use Rattle.pair_request.specs.Reading.{Msg, Clerk, absent, Line, none, Policy, lineTakes, Net, or, held, Reach, begin, more}
 use Rattle.pair_request.specs.Listed.{NotReq, NoReq}
-use Rattle.pair_request.proofs.Effects.{noReq++, ClerkActEffect, stays, quit-waiting, quit-live, accepts, resuming, recalling, act-plain, ClerkTakeEffect, take-stays, take-replies, take-ends-waiting, take-ends, take-ends-cancel, take-moves, take-suspends, take-acks, clerk-take-effect, take-plain, LineActEffect, line-stays, line-quits, line-offers, line-alerts, line-fails, LineTakeEffect, line-take-stays, line-take-ends, line-take-moves, line-take-accepts, line-take-effect, or-elim, Move, still, asked, clerk-act, line-act, clerk-get, line-get, up-lost, down-lost, moves}
+use Rattle.pair_request.proofs.Effects.{noReq++, noReq-left, ClerkActEffect, stays, quit-waiting, drops-waiting, quit-live, accepts, resuming, recalling, act-plain, ClerkTakeEffect, take-stays, take-replies, take-ends-waiting, take-ends, take-ends-cancel, take-moves, take-suspends, take-acks, clerk-take-effect, take-plain, LineActEffect, line-stays, line-quits, line-offers, line-alerts, line-fails, LineTakeEffect, line-take-stays, line-take-ends, line-take-moves, line-take-accepts, line-take-effect, or-elim, Move, still, asked, clerk-act, line-act, clerk-get, line-get, up-lost, down-lost, moves}
 use Rattle.pair_request.proofs.Agree.{NetAgrees, agreed, held-accepted, accepted-plain, present-used}
 
 -- ---- over stays over
 gone-acts : {c c′ : Clerk} {o : List Msg} → ClerkActEffect c c′ o → c ≡ absent → c′ ≡ absent
 gone-acts stays h = h
 gone-acts quit-waiting h = refl
+gone-acts drops-waiting h = refl
 gone-acts quit-live h = refl
 gone-acts accepts h = cc
 gone-acts resuming h = cc
@@ -74,10 +75,9 @@ over-move {p} {s} (line-get {m} w e) h =
       line-none = none-gets (line-take-effect p (s .line) m w) (n .0) (h .line-none);
       no-request = n .1;
     }
-over-move (up-lost e) h =
-    let n = rw e at (h .no-request) in
-    record { was-used = h .was-used; clerk-none = h .clerk-none; line-none = h .line-none; no-request = n .1 }
-over-move (down-lost e) h =
+over-move {s} (up-lost i) h =
+    record { was-used = h .was-used; clerk-none = h .clerk-none; line-none = h .line-none; no-request = noReq-left i (s .up) (h .no-request) }
+over-move (down-lost i) h =
     record { was-used = h .was-used; clerk-none = h .clerk-none; line-none = h .line-none; no-request = h .no-request }
 
 -- ---- what the histories of the timers tell
@@ -112,8 +112,8 @@ ran-move {p} {s} (line-get {m} w e) g h =
         none-gets (line-take-effect p (s .line) m w) (accepted-plain (rw (e, h .guard-ran j .0) at g) .0) (h .guard-ran j .1),
       );
     }
-ran-move (up-lost e) g h = record { timer-ran = h .timer-ran; guard-ran = h .guard-ran }
-ran-move (down-lost e) g h = record { timer-ran = h .timer-ran; guard-ran = h .guard-ran }
+ran-move (up-lost i) g h = record { timer-ran = h .timer-ran; guard-ran = h .guard-ran }
+ran-move (down-lost i) g h = record { timer-ran = h .timer-ran; guard-ran = h .guard-ran }
 
 pub ran : {p : Policy} {s : Net} → Reach p s → Ran s
 ran begin = record { timer-ran = λ h. absurd (false≢true h); guard-ran = λ h. absurd (false≢true h) }

@@ -5,7 +5,7 @@ use mathlib.Core.Bool.{Bool, true, false, true≢false}
 use mathlib.Core.List.{List, [], _∷_, _++_}
 use Rattle.pair_request.specs.Reading.{Conn, ret, Data, Msg, request, result, denied, exec, ringout, busyAgain, suspend, resume, cancel, alerts, failed, CState, invoked, waitAnswer, ringing, suspended, Clerk, absent, waiting, live, LState, idle, await, alert, Line, none, holds, and, inRinging, onBusyAgain, onExec, clerkTakes, Policy, Verdict, takes, denies, Word, onRequest, onRingout, onResume, onSuspend, lineTakes, Net, Reach, begin, more}
 use Rattle.pair_request.specs.Listed.{Listed, no-record, invoked-invoked, answer-await, suspended-await, ringout-alert, NoReq}
-use Rattle.pair_request.proofs.Effects.{noReq++, just-cancel, Has, here, there, has++, has-sent, ++[], ClerkActEffect, stays, quit-waiting, quit-live, accepts, resuming, recalling, act-plain, ClerkTakeEffect, take-stays, take-replies, clerk-take-effect, take-plain, LineActEffect, line-stays, line-quits, line-offers, line-alerts, line-fails, none-stays, same-fits, resume-fits, and-again, Move, still, asked, clerk-act, line-act, clerk-get, line-get, up-lost, down-lost, moves}
+use Rattle.pair_request.proofs.Effects.{noReq++, just-cancel, Has, here, there, has++, has-sent, ++[], ClerkActEffect, stays, quit-waiting, drops-waiting, quit-live, accepts, resuming, recalling, act-plain, ClerkTakeEffect, take-stays, take-replies, clerk-take-effect, take-plain, LineActEffect, line-stays, line-quits, line-offers, line-alerts, line-fails, none-stays, same-fits, resume-fits, and-again, Move, still, asked, clerk-act, line-act, clerk-get, line-get, up-lost, down-lost, moves}
 
 -- a constructor with a pair as premise tells what the head of a wire will make of its receiver
 pub data Pair : Clerk → List Msg → Line → List Msg → Type 0 where
@@ -28,6 +28,15 @@ pub data Pair : Clerk → List Msg → Line → List Msg → Type 0 where
   alerting : {d : Data} {ck k : Bool} {n : Conn} → Pair (live d ck k n ringing) [] none (alerts ∷ [])
   failing : {d : Data} {ck k : Bool} {n : Conn} → Pair (live d ck k n ringing) [] none (failed ∷ [])
 
+-- a message is under way that a clerk's end without the record answers with a ccCancel
+pub data Owed : List Msg → Type 0 where
+  owed-result : {k : Bool} {n : Conn} {ms : List Msg} → Owed (result k n ∷ ms)
+  owed-later : {m : Msg} {ms : List Msg} → Owed ms → Owed (m ∷ ms)
+
+owed++ : {u : List Msg} (v : List Msg) → Owed u → Owed (u ++ v)
+owed++ v owed-result = owed-result
+owed++ v (owed-later h) = owed-later (owed++ v h)
+
 -- the invariant of a run without drops, once the request is asked
 pub data Inv : Clerk → List Msg → Line → List Msg → Type 0 where
   pair : {c : Clerk} {u : List Msg} {l : Line} {v : List Msg} → Pair c u l v → Inv c u l v
@@ -35,6 +44,9 @@ pub data Inv : Clerk → List Msg → Line → List Msg → Type 0 where
   clerk-out : {u : List Msg} {l : Line} {v : List Msg} → NoReq u → Has u → Inv absent u l v
   early-out : {d : Data} {ck : Bool} {q : ℕ} {u : List Msg} → NoReq u → Has u → Inv absent (request d ck q ∷ u) none []
   both-out : {u : List Msg} {v : List Msg} → NoReq u → Inv absent u none v
+  -- the request was rejected by what carries it, and yet it is under way, or its result is
+  unheard : {d : Data} {ck : Bool} {q : ℕ} → Inv absent (request d ck q ∷ []) none []
+  deserted : {u : List Msg} {l : Line} {v : List Msg} → NoReq u → Owed v → Inv absent u l v
 
 -- ---- an act at the clerk's end
 pair-accept : {d : Data} {ck k : Bool} {n : Conn} {u : List Msg} {l : Line} {v : List Msg} → Pair (live d ck k n waitAnswer) u l v → Pair (live d ck k n ringing) (u ++ (ringout ∷ [])) l v
@@ -72,9 +84,15 @@ quit-from-waiting requested = early-out (just-cancel ret) here
 quit-from-waiting (unacked e p) = clerk-out (just-cancel ret) here
 quit-from-waiting refused = clerk-out (just-cancel ret) here
 
+reject-waiting : {d : Data} {ck : Bool} {u : List Msg} {l : Line} {v : List Msg} → Pair (waiting d ck) u l v → Inv absent (u ++ []) l v
+reject-waiting requested = unheard
+reject-waiting (unacked e p) = deserted tt owed-result
+reject-waiting refused = both-out tt
+
 pair-acts : {c c′ : Clerk} {o u : List Msg} {l : Line} {v : List Msg} → Pair c u l v → ClerkActEffect c c′ o → Inv c′ (u ++ o) l v
 pair-acts {u} p stays = rw (++[] u) (pair p)
 pair-acts p quit-waiting = quit-from-waiting p
+pair-acts p drops-waiting = reject-waiting p
 pair-acts p quit-live = quit-from-live p
 pair-acts p accepts = pair (pair-accept p)
 pair-acts p resuming = pair (pair-resume p)
@@ -86,6 +104,8 @@ inv-clerk-acts {o} {u} (line-out h k) e = line-out (noReq++ u o h (act-plain e))
 inv-clerk-acts {u} (clerk-out h k) stays = rw (++[] u) (clerk-out h k)
 inv-clerk-acts {u} (early-out h k) stays = rw (++[] u) (early-out h k)
 inv-clerk-acts {u} (both-out h) stays = rw (++[] u) (both-out h)
+inv-clerk-acts unheard stays = unheard
+inv-clerk-acts {u} (deserted h k) stays = rw (++[] u) (deserted h k)
 
 -- ---- a message at the clerk's end
 pair-clerk-gets : {c : Clerk} {m : Msg} {u v : List Msg} {l : Line} → Pair c u l (m ∷ v) → (b : Bool) → Inv (clerkTakes c m b .0) (u ++ clerkTakes c m b .1) l v
@@ -115,12 +135,18 @@ gone-both : {m : Msg} {c′ : Clerk} {o : List Msg} {v : List Msg} (u : List Msg
 gone-both u take-stays h = both-out (noReq++ u [] h tt)
 gone-both u take-replies h = both-out (noReq++ u _ h (just-cancel ret))
 
+deserted-gets : {m : Msg} {c′ : Clerk} {o : List Msg} {l : Line} {v : List Msg} (u : List Msg) → ClerkTakeEffect absent m c′ o → NoReq u → Owed v → Inv c′ (u ++ o) l v
+deserted-gets u take-stays h k = deserted (noReq++ u [] h tt) k
+deserted-gets u take-replies h k = deserted (noReq++ u _ h (just-cancel ret)) k
+
 inv-clerk-gets : {c : Clerk} {m : Msg} {u v : List Msg} {l : Line} → Inv c u l (m ∷ v) → (b : Bool) → Inv (clerkTakes c m b .0) (u ++ clerkTakes c m b .1) l v
 inv-clerk-gets (pair p) b = pair-clerk-gets p b
 inv-clerk-gets {c} {u} {v} (line-out h (here {n})) b = cancelled c n b u v h
 inv-clerk-gets {c} {m} {u} (line-out h (there k)) b = line-out (noReq++ u _ h (take-plain (clerk-take-effect c m b))) k
 inv-clerk-gets {m} {u} (clerk-out h k) b = gone-out u (clerk-take-effect _ m b) h k
 inv-clerk-gets {m} {u} (both-out h) b = gone-both u (clerk-take-effect _ m b) h
+inv-clerk-gets {u} (deserted h owed-result) b = unfold clerkTakes in clerk-out (noReq++ u _ h (just-cancel ret)) (has-sent ret u)
+inv-clerk-gets {m} {u} (deserted h (owed-later k)) b = deserted-gets u (clerk-take-effect _ m b) h k
 
 -- ---- an act at the line's end
 held-plain : {c : Clerk} {d : Data} {k : Bool} {n : Conn} {s : LState} {u : List Msg} {v : List Msg} → Pair c u (holds d k n s) v → NoReq u
@@ -160,6 +186,8 @@ inv-line-acts (line-out h k) line-stays = line-out h (has++ _ k)
 inv-line-acts (clerk-out h k) e = clerk-out h k
 inv-line-acts (early-out h k) line-stays = early-out h k
 inv-line-acts (both-out h) line-stays = both-out h
+inv-line-acts unheard line-stays = unheard
+inv-line-acts (deserted h k) e = deserted h (owed++ _ k)
 
 -- ---- a message at the line's end
 request-taken : (p : Policy) (d : Data) (ck : Bool) (q : ℕ) (a : Verdict) → Inv (waiting d ck) [] (onRequest p none d ck q a .0) (onRequest p none d ck q a .1)
@@ -180,12 +208,19 @@ pair-line-gets p w (resumed {n}) = rw (resume-fits n, onResume) (pair both-invok
 pair-line-gets p w (called {d} {ck} {k} {n} m) = ringout-taken d ck k n (w .free)
 pair-line-gets p w (late {n} i) = rw (same-fits n, onSuspend) (pair i)
 
+unheard-taken : (p : Policy) (d : Data) (ck : Bool) (q : ℕ) (a : Verdict) → Inv absent [] (onRequest p none d ck q a .0) (onRequest p none d ck q a .1)
+unfolding onRequest
+unheard-taken p d ck q takes = deserted tt owed-result
+unheard-taken p d ck q (denies w) = both-out tt
+
 inv-line-gets : {c : Clerk} {m : Msg} {u v : List Msg} {l : Line} (p : Policy) (w : Word) → Inv c (m ∷ u) l v → Inv c u (lineTakes p l m w .0) (v ++ lineTakes p l m w .1)
 inv-line-gets p w (pair i) = pair-line-gets p w i
 inv-line-gets {m} p w (line-out h k) = rw (none-stays p m w (h .0)) (line-out (h .1) (has++ _ k))
 inv-line-gets p w (clerk-out h here) = unfold lineTakes in both-out (h .1)
 inv-line-gets p w (clerk-out h (there k)) = clerk-out (h .1) k
 inv-line-gets p w (early-out h k) = clerk-out h k
+inv-line-gets p w (unheard {d} {ck} {q}) = unfold lineTakes in unheard-taken p d ck q (w .verdict)
+inv-line-gets p w (deserted h k) = deserted (h .1) (owed++ _ k)
 inv-line-gets {m} p w (both-out h) = rw (none-stays p m w (h .0)) (both-out (h .1))
 
 -- ---- over a run
@@ -222,8 +257,8 @@ move-undropped (clerk-act e t) i h = stage-acts (i h) e
 move-undropped (line-act e t) i h = stage-line-acts (i h) e
 move-undropped (clerk-get b e) i h = stage-gets b (rw e at (i h))
 move-undropped {p} (line-get w e) i h = stage-line-gets p w (rw e at (i h))
-move-undropped (up-lost e) i h = absurd (true≢false h)
-move-undropped (down-lost e) i h = absurd (true≢false h)
+move-undropped (up-lost k) i h = absurd (true≢false h)
+move-undropped (down-lost k) i h = absurd (true≢false h)
 
 pub undropped : {p : Policy} {s : Net} → Reach p s → Undropped s
 undropped begin = λ h. new

@@ -8,6 +8,7 @@ use lib.Dec.{eqb}
 use Rattle.lists.specs.Choice.{pick}
 use Rattle.lists.specs.declared.words.Words.{Words}
 use Rattle.message.specs.declared.Kind.{Kind}
+use Rattle.pair_request.specs.Wires.{leftOut, Signal, callDied, rejected}
 use Rattle.clerk_table.specs.declared.inputs.Act.{Act}
 use Rattle.clerk_table.specs.declared.inputs.Act.the-variants as Act
 use Rattle.clerk_table.specs.declared.table.Timer.{Timer}
@@ -126,10 +127,16 @@ clerkTakes c noMatch b = inRinging c (λ d ck k n. (absent, []))
 clerkTakes c alerts b = inRinging c (λ d ck k n. (absent, []))
 clerkTakes c failed b = inRinging c (λ d ck k n. (absent, cancel n ∷ []))
 
--- an act of User A, or a timer's report
+-- a signal is handed in as the message that it stands for
+abbrev pub signalMsg : Signal → Msg
+signalMsg callDied = failed
+signalMsg rejected = denied true
+
+-- an act of User A, a timer's report, a signal
 pub data CAct : Type 0 where
   act : Act → CAct
   timer : Timer → CAct
+  signal : Signal → CAct
 
 -- user's acts and timers at the clerk's end, by the state of an acknowledged record
 unfoldable pub liveActs : Data → Bool → Bool → Conn → CState → CAct → CAnswer
@@ -155,6 +162,7 @@ liveActs d ck k n invoked (timer T3) = (live d ck k n invoked, [])
 liveActs d ck k n waitAnswer (timer T3) = (absent, cancel n ∷ [])
 liveActs d ck k n ringing (timer T3) = (live d ck k n ringing, [])
 liveActs d ck k n suspended (timer T3) = (live d ck k n suspended, [])
+liveActs d ck k n s (signal x) = clerkTakes (live d ck k n s) (signalMsg x) false
 
 unfoldable pub waitingActs : Data → Bool → CAct → CAnswer
 waitingActs d ck (act Act.Accept) = (waiting d ck, [])
@@ -164,6 +172,7 @@ waitingActs d ck (act Act.Cancel) = (absent, cancel ret ∷ [])
 waitingActs d ck (timer T1) = (absent, cancel ret ∷ [])
 waitingActs d ck (timer T2) = (waiting d ck, [])
 waitingActs d ck (timer T3) = (waiting d ck, [])
+waitingActs d ck (signal x) = clerkTakes (waiting d ck) (signalMsg x) false
 
 unfoldable pub clerkActs : Clerk → CAct → CAnswer
 clerkActs absent x = (absent, [])
@@ -289,6 +298,7 @@ isT1orT2 (act x) = false
 isT1orT2 (timer T1) = true
 isT1orT2 (timer T2) = true
 isT1orT2 (timer T3) = false
+isT1orT2 (signal x) = false
 
 -- did T1 or T2 run out and end the record, which was there
 abbrev pub runsOut : Clerk → CAct → Bool
@@ -312,7 +322,7 @@ pub data Event : Type 0 where
   lineDoes : LAct → Event
   clerkGets : Bool → Event
   lineGets : Word → Event
-  losesUp losesDown : Event
+  losesUp losesDown : ℕ → Event
 
 -- the clerk's end answered r
 abbrev pub afterClerk : Net → List Msg → Bool → CAnswer → Net
@@ -385,22 +395,14 @@ unfoldable pub lineGetStep : Policy → Net → Word → List Msg → Net
 lineGetStep p s w [] = s
 lineGetStep p s w (m ∷ u) = afterLine s u false (lineTakes p (s .line) m w)
 
-unfoldable pub loseUpStep : Net → List Msg → Net
-loseUpStep s [] = s
-loseUpStep s (m ∷ u) = lost s u (s .down)
-
-unfoldable pub loseDownStep : Net → List Msg → Net
-loseDownStep s [] = s
-loseDownStep s (m ∷ d) = lost s (s .up) d
-
 unfoldable pub next : Policy → Net → Event → Net
 next p s (asks d ck q) = askStep s d ck q (s .used)
 next p s (clerkDoes x) = afterClerk s (s .down) (runsOut (s .clerk) x) (clerkActs (s .clerk) x)
 next p s (lineDoes x) = afterLine s (s .up) (guardEnds (s .line) x) (lineActs (s .line) x)
 next p s (clerkGets b) = clerkGetStep s b (s .down)
 next p s (lineGets w) = lineGetStep p s w (s .up)
-next p s losesUp = loseUpStep s (s .up)
-next p s losesDown = loseDownStep s (s .down)
+next p s (losesUp i) = lost s (leftOut i (s .up)) (s .down)
+next p s (losesDown i) = lost s (s .up) (leftOut i (s .down))
 
 -- the nets that some run leads to
 pub data Reach (p : Policy) : Net → Type 0 where

@@ -21,7 +21,7 @@ use Rattle.clerk.specs.declared.entry.Asking.{Asking}
 use Rattle.clerk.specs.declared.entry.Entry.the-variants.{Given}
 use Rattle.clerk_sound.specs.Sound as ClerkSound
 use Rattle.line_table.specs.declared.inputs.Input.the-variants as AtLine
-use Rattle.pair.specs.World.{World, Event, clerkDoes, lineDoes, clerkHears, lineHears, dropsUp, dropsDown, has, done, next, Allowed, Run, stop, then, reached}
+use Rattle.pair.specs.World.{World, Event, clerkDoes, lineDoes, clerkIsTold, clerkHears, lineHears, dropsUp, dropsDown, has, done, next, Allowed, Run, stop, then, reached}
 use Rattle.pair.proofs.Letters.{flags-sent}
 use Rattle.pair_runs.specs.Runs.{play, Row, oneLine, start, EachReached}
 
@@ -102,10 +102,11 @@ allowed w (lineDoes (AtLine.Act identifier act)) = true
 allowed w (lineDoes (AtLine.Guard identifier)) = true
 allowed w (lineDoes (AtLine.Report number busy)) = true
 allowed w (lineDoes (AtLine.Look number)) = true
+allowed w (clerkIsTold signal identifier busy) = true
 allowed w (clerkHears busy) = true
 allowed w lineHears = true
-allowed w dropsUp = true
-allowed w dropsDown = true
+allowed w (dropsUp i) = true
+allowed w (dropsDown i) = true
 
 pub allowed-told : (w : World) (e : Event) → allowed w e ≡ true → Allowed w e
 allowed-told w (clerkDoes (AtClerk.Ask names q)) so =
@@ -121,10 +122,11 @@ allowed-told w (lineDoes (AtLine.Act identifier act)) so = tt
 allowed-told w (lineDoes (AtLine.Guard identifier)) so = tt
 allowed-told w (lineDoes (AtLine.Report number busy)) so = tt
 allowed-told w (lineDoes (AtLine.Look number)) so = tt
+allowed-told w (clerkIsTold signal identifier busy) so = tt
 allowed-told w (clerkHears busy) so = tt
 allowed-told w lineHears so = tt
-allowed-told w dropsUp so = tt
-allowed-told w dropsDown so = tt
+allowed-told w (dropsUp i) so = tt
+allowed-told w (dropsDown i) so = tt
 
 -- ---- a run
 unfoldable pub runs : World → List Event → Bool

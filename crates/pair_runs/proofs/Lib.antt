@@ -1,2 +1,3 @@
 pub mod Allowed
+pub mod Refuted
 pub mod Runs

@@ -1,8 +1,9 @@
 -- The table holds: each row computes to what it says, and ends in a world of a run.
 use mathlib.Core.Path.{_≡_, refl, sym, _∙_, ap}
 use mathlib.Core.Bool.{Bool, true, false, true≢false, false≢true}
-use mathlib.Core.List.{List}
+use mathlib.Core.List.{List, []}
 use Rattle.lists.specs.Lists.{firstFrom, count}
+use Rattle.lists.specs.declared.words.Words.{Words}
 use Rattle.lists.specs.Words.{word, octets, wordsOf, bytesOf, sameWords}
 use Rattle.message.specs.Number.{numberAt, fieldAt, scanAt, digitsAt, digitsInRange}
 use Rattle.message.specs.Format.{inRange}
@@ -15,12 +16,14 @@ use Rattle.desk.specs.declared.Connection.{Connection}
 use Rattle.desk.specs.declared.Connection.the-variants.{Empty, Ret, Rls}
 use Rattle.places.specs.Places.{Held, none, one, held}
 use Rattle.clerk_table.specs.Step as ClerkStep
+use Rattle.clerk_table.specs.declared.record.Record as ClerkRecord
 use Rattle.clerk_records.specs.Codes as ClerkCodes
 use Rattle.clerk_records.specs.Records as ClerkRecords
 use Rattle.clerk_plan.specs.Plan as ClerkPlan
 use Rattle.clerk.specs.Entry as ClerkEntry
 use Rattle.clerk.specs.Steps as Clerk
 use Rattle.line_table.specs.Step as LineStep
+use Rattle.line_table.specs.declared.record.Record as LineRecord
 use Rattle.line_records.specs.Codes as LineCodes
 use Rattle.line_records.specs.Records as LineRecords
 use Rattle.line_records.specs.Lines as Lines
@@ -30,22 +33,42 @@ use Rattle.line_plan.specs.Plan as LinePlan
 use Rattle.line.specs.Start as Start
 use Rattle.line.specs.Entry as LineEntry
 use Rattle.line.specs.Steps as Line
-use Rattle.pair.specs.World.{World, Event, clerkHolds, lineHolds, Reached, reached, stop, messagesOf, has, clerkHeard, lineHeard, upDropped, downDropped, next}
-use Rattle.pair_runs.specs.Runs.{Shown, TableReached, Premises, play, seen, table, first, oneLine, start, stored, acknowledged, over}
+use Rattle.pair.specs.World.{World, Event, clerkHolds, lineHolds, Reached, reached, stop, messagesOf, has, clerkHeard, lineHeard, next}
+use Rattle.pair.specs.Meaning.{Listed, no-record, invoked, wait-answer, suspended, ringout}
+use Rattle.pair_request.specs.Wires.{leftOut}
+use Rattle.pair_runs.specs.Runs.{RowsShown, Shown, TableReached, Premises, Unlisted, LeftOut, play, seen, pairs, answers, losses, signals, table, first, oneLine, start, stored, acknowledged, ringing, over}
 use Rattle.pair_runs.proofs.Allowed.{bytes-told, runs, run-told, allRun, each-reached}
 
 -- all that a run computes with: who names this unfolds every definition on its line
-unfoldable all : Bool
-unfolding firstFrom count word octets wordsOf bytesOf sameWords numberAt fieldAt scanAt digitsAt digitsInRange inRange rows putRow turnRow dropRow rowsFit removedRow numberWords letterOf messageOf carrierFits kindOf keepOf connectionOf termsOf held ClerkStep.rowTaken ClerkCodes.stateOf ClerkRecords.recordOf ClerkRecords.records ClerkRecords.meant ClerkRecords.place ClerkRecords.applied ClerkPlan.decided ClerkPlan.planOf ClerkPlan.planFor ClerkEntry.messageEntry Clerk.step Clerk.entered LineStep.rowTaken LineCodes.stateOf LineRecords.recordOf LineRecords.records LineRecords.meant LineRecords.place LineRecords.putRecord LineRecords.turnRecord LineRecords.removed Lines.lineOf Lines.lines Lines.lineAt Lines.overLine Lines.putLine Lines.keeps Lines.retains Lines.withSettings Change.markPlace Change.marked Change.statusStored Change.withReport Change.applied Decide.takesCall Decide.recordDecision Decide.countedDecision Decide.admittedDecision Decide.requestDecision Decide.messageDecision Decide.ownDecision Decide.offerAt Decide.lookDecision Decide.reportDecision Decide.decided LinePlan.planOf LinePlan.planFor Start.goodLine Start.lineTaken Start.takeLines Start.started LineEntry.messageEntry Line.step Line.entered messagesOf has clerkHeard lineHeard upDropped downDropped next
+unfoldable pub all : Bool
+unfolding firstFrom count word octets wordsOf bytesOf sameWords numberAt fieldAt scanAt digitsAt digitsInRange inRange rows putRow turnRow dropRow rowsFit removedRow numberWords letterOf messageOf carrierFits kindOf keepOf connectionOf termsOf held ClerkStep.rowTaken ClerkCodes.stateOf ClerkRecords.recordOf ClerkRecords.records ClerkRecords.meant ClerkRecords.place ClerkRecords.applied ClerkPlan.decided ClerkPlan.planOf ClerkPlan.planFor ClerkEntry.messageEntry Clerk.step Clerk.entered LineStep.rowTaken LineCodes.stateOf LineRecords.recordOf LineRecords.records LineRecords.meant LineRecords.place LineRecords.putRecord LineRecords.turnRecord LineRecords.removed Lines.lineOf Lines.lines Lines.lineAt Lines.overLine Lines.putLine Lines.keeps Lines.retains Lines.withSettings Change.markPlace Change.marked Change.statusStored Change.withReport Change.applied Decide.takesCall Decide.recordDecision Decide.countedDecision Decide.admittedDecision Decide.requestDecision Decide.messageDecision Decide.ownDecision Decide.offerAt Decide.lookDecision Decide.reportDecision Decide.decided LinePlan.planOf LinePlan.planFor Start.goodLine Start.lineTaken Start.takeLines Start.started LineEntry.messageEntry Line.step Line.entered messagesOf has clerkHeard lineHeard leftOut next
 all = true
 
+pub pairs-shown : RowsShown pairs
+unfolding pairs play seen all
+pairs-shown true = refl
+pairs-shown false = refl
+
+pub answers-shown : RowsShown answers
+unfolding answers play seen all
+answers-shown true = refl
+answers-shown false = refl
+
+pub losses-shown : RowsShown losses
+unfolding losses play seen all
+losses-shown true = refl
+losses-shown false = refl
+
+pub signals-shown : RowsShown signals
+unfolding signals play seen all
+signals-shown true = refl
+signals-shown false = refl
+
 pub shown : Shown
-unfolding table play seen all
-shown true = refl
-shown false = refl
+shown = record { pairs = pairs-shown; answers = answers-shown; losses = losses-shown; signals = signals-shown }
 
 pub table-reached : TableReached
-unfolding table runs allRun all
+unfolding pairs answers losses signals runs allRun all
 table-reached true = each-reached true table refl
 table-reached false = each-reached false table refl
 
@@ -60,11 +83,11 @@ pub not-empty : (c : Connection) → chosen c ≡ true → c ≡ Empty → ⊥
 not-empty c so e = true≢false (sym so ∙ ap chosen e)
 
 -- what is held, where something is
-abbrev heldOr : {A : Type 0} → A → Held A → A
+abbrev pub heldOr : {A : Type 0} → A → Held A → A
 heldOr other none = other
 heldOr other (one r) = r
 
-abbrev someone : {A : Type 0} → Held A → Bool
+abbrev pub someone : {A : Type 0} → Held A → Bool
 someone none = false
 someone (one r) = true
 
@@ -72,8 +95,8 @@ pub held-one : {A : Type 0} (other : A) (h : Held A) → someone h ≡ true → 
 held-one other none so = absurd (false≢true so)
 held-one other (one r) so = refl
 
-pub reach : (es : List Event) → runs (start false) es ≡ true → Reached (play (start false) es)
-reach es so = reached oneLine true false (bytes-told oneLine refl) (run-told (start false) es stop so)
+pub reach : (retain : Bool) (es : List Event) → runs (start retain) es ≡ true → Reached (play (start retain) es)
+reach retain es so = reached oneLine true retain (bytes-told oneLine refl) (run-told (start retain) es stop so)
 
 abbrev settled : World
 settled = play (start false) acknowledged
@@ -90,7 +113,7 @@ premises =
     record {
       acknowledged = record {
         world = settled;
-        reached = reach acknowledged refl;
+        reached = reach false acknowledged refl;
         identifier = wordsOf first;
         c = heldOr ClerkRecords.blank (clerkHolds settled (wordsOf first));
         l = heldOr LineRecords.blank (lineHolds settled (wordsOf first));
@@ -100,7 +123,7 @@ premises =
       };
       before = record {
         world = unsettled;
-        reached = reach stored refl;
+        reached = reach false stored refl;
         identifier = wordsOf first;
         c = heldOr ClerkRecords.blank (clerkHolds unsettled (wordsOf first));
         l = heldOr LineRecords.blank (lineHolds unsettled (wordsOf first));
@@ -110,7 +133,7 @@ premises =
       };
       over = record {
         world = left;
-        reached = reach over refl;
+        reached = reach false over refl;
         identifier = wordsOf first;
         dropped = refl;
         runOut = refl;
@@ -118,3 +141,32 @@ premises =
         request = tt;
       };
     }
+
+-- ---- what is no event of a run
+-- both ends hold it, or neither does
+abbrev pub together : Held ClerkRecord.Record → Held LineRecord.Record → Bool
+together none none = true
+together none (one l) = false
+together (one c) none = false
+together (one c) (one l) = true
+
+pub listed-together : (c : Held ClerkRecord.Record) (l : Held LineRecord.Record) → Listed c l → together c l ≡ true
+listed-together none none no-record = refl
+listed-together (one c) (one l) (invoked a b) = refl
+listed-together (one c) (one l) (wait-answer a b) = refl
+listed-together (one c) (one l) (suspended a b m) = refl
+listed-together (one c) (one l) (ringout a b) = refl
+
+pub not-listed : (c : Held ClerkRecord.Record) (l : Held LineRecord.Record) → together c l ≡ false → Listed c l → ⊥
+not-listed c l apart so = true≢false (sym (listed-together c l so) ∙ apart)
+
+pub unlisted-told :
+    (w : World) (identifier : Words) → has (w .history .dropped) identifier ≡ false → messagesOf identifier (w .up) ≡ [] → messagesOf identifier (w .down) ≡ [] →
+    together (clerkHolds w identifier) (lineHolds w identifier) ≡ false → Unlisted w identifier
+unlisted-told w identifier dropped up down apart =
+    record { dropped = dropped; up = up; down = down; unlisted = not-listed (clerkHolds w identifier) (lineHolds w identifier) apart }
+
+pub left-out : (retain : Bool) → LeftOut retain
+unfolding play runs all
+left-out true = record { reached = reach true ringing refl; alerts = unlisted-told _ _ refl refl refl refl; notMatched = unlisted-told _ _ refl refl refl refl }
+left-out false = record { reached = reach false ringing refl; alerts = unlisted-told _ _ refl refl refl refl; notMatched = unlisted-told _ _ refl refl refl refl }

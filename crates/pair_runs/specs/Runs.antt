@@ -1,4 +1,4 @@
--- What demand 3 speaks of does happen: runs of two desks and two wires, as a single table under one claim. Each row is computed on the definitions that the contracts cite.
+-- What demand 3 speaks of does happen: runs of two desks and two wires, in tables under one claim. Each row is computed on the definitions that the contracts cite. Refuted.antt has what some of them refute.
 use Prim.Native.Nat.{ℕ}
 use mathlib.Core.Path.{_≡_}
 use mathlib.Core.Bool.{Bool, true, false}
@@ -6,9 +6,14 @@ use mathlib.Core.List.{List, [], _∷_, _++_, map}
 use lib.ListN.{length}
 use Rattle.lists.specs.Words.{wordsOf}
 use Rattle.lists.specs.declared.words.Words.{Words}
-use Rattle.message.specs.declared.Kind.the-variants.{Ccbs}
+use Rattle.message.specs.declared.Kind.{Kind}
+use Rattle.message.specs.declared.Kind.the-variants.{Ccbs, Ccnr}
+use Rattle.message.specs.declared.Carrier.the-variants.{Alerting, ReleaseComplete}
+use Rattle.message.specs.declared.Body.the-variants.{RingoutError, CallAlerts}
 use Rattle.terms.specs.Codes.{keepCode, flagCode}
 use Rattle.desk.specs.Letter.{numberWords}
+use Rattle.desk.specs.Sends.{plainLetter}
+use Rattle.desk.specs.declared.letter.Letter.{Letter}
 use Rattle.desk.specs.declared.Connection.the-variants.{Empty}
 use Rattle.places.specs.Places.{Held, none, one}
 use Rattle.clerk_table.specs.declared.inputs.Act as ClerkAct
@@ -16,7 +21,7 @@ use Rattle.clerk_table.specs.declared.inputs.Act.the-variants as User
 use Rattle.clerk_table.specs.declared.inputs.Input.the-variants as AtClerk
 use Rattle.clerk_table.specs.declared.record.Record as ClerkRecord
 use Rattle.clerk_table.specs.declared.table.Timer.{Timer}
-use Rattle.clerk_table.specs.declared.table.Timer.the-variants.{T2}
+use Rattle.clerk_table.specs.declared.table.Timer.the-variants.{T1, T2, T3}
 use Rattle.clerk_records.specs.Codes as ClerkCodes
 use Rattle.clerk.specs.Entry.{askNames, askRequest}
 use Rattle.clerk.specs.declared.entry.Asking.{Asking}
@@ -25,8 +30,9 @@ use Rattle.line_table.specs.declared.inputs.Act.the-variants as Far
 use Rattle.line_table.specs.declared.inputs.Input.the-variants as AtLine
 use Rattle.line_table.specs.declared.record.Record as LineRecord
 use Rattle.line_records.specs.Codes as LineCodes
-use Rattle.pair.specs.World.{World, Event, clerkDoes, lineDoes, clerkHears, lineHears, dropsUp, dropsDown, clerkHolds, lineHolds, messagesOf, has, next, startWorld, Reached}
-use Rattle.pair.specs.Claims.{Acknowledged, NoRequest}
+use Rattle.pair.specs.World.{World, Event, clerkDoes, lineDoes, clerkIsTold, clerkHears, lineHears, dropsUp, dropsDown, clerkHolds, lineHolds, messagesOf, has, next, startWorld, Reached}
+use Rattle.pair.specs.Meaning.{Acknowledged, Listed, NoRequest}
+use Rattle.pair_request.specs.Wires.{callDied, rejected}
 
 -- events one after the other
 unfoldable pub play : World → List Event → World
@@ -39,7 +45,8 @@ pub record Seen : Type 0 where
   pub clerk : ℕ
   -- 0 no record, 1 Invoked, 2 Await, 3 Alert
   pub line : ℕ
-  -- the suspended mark: 1 if set
+  -- the activity mark and the suspended mark: 1 if set
+  pub active : ℕ
   pub suspended : ℕ
   -- the keep choice at each end: 0 empty or no record, 1 ends, 2 keeps
   pub clerkKeep : ℕ
@@ -52,11 +59,12 @@ pub record Seen : Type 0 where
   pub runOut : ℕ
   pub guarded : ℕ
 
-abbrev sees : ℕ → ℕ → ℕ → ℕ → ℕ → ℕ → ℕ → ℕ → ℕ → ℕ → Seen
-sees clerk line suspended clerkKeep lineKeep up down dropped runOut guarded =
+abbrev sees : ℕ → ℕ → ℕ → ℕ → ℕ → ℕ → ℕ → ℕ → ℕ → ℕ → ℕ → Seen
+sees clerk line active suspended clerkKeep lineKeep up down dropped runOut guarded =
     record {
       clerk = clerk;
       line = line;
+      active = active;
       suspended = suspended;
       clerkKeep = clerkKeep;
       lineKeep = lineKeep;
@@ -77,6 +85,7 @@ seen w identifier =
     sees
     (told (λ (c : ClerkRecord.Record). ClerkCodes.stateCode (c .state)) (clerkHolds w identifier))
     (told (λ (l : LineRecord.Record). LineCodes.stateCode (l .state)) (lineHolds w identifier))
+    (told (λ (l : LineRecord.Record). flagCode (l .active)) (lineHolds w identifier))
     (told (λ (l : LineRecord.Record). flagCode (l .suspended)) (lineHolds w identifier))
     (told (λ (c : ClerkRecord.Record). keepCode (c .terms .keep)) (clerkHolds w identifier))
     (told (λ (l : LineRecord.Record). keepCode (l .terms .keep)) (lineHolds w identifier))
@@ -98,13 +107,13 @@ second = 0x5A ∷ 0 ∷ 0 ∷ 0 ∷ 0 ∷ 0 ∷ 0 ∷ 0 ∷ 0 ∷ 0 ∷ 0 ∷ 0 
 abbrev numberA : List ℕ
 numberA = 4 ∷ 2 ∷ 0 ∷ 1 ∷ 7 ∷ 0 ∷ 0 ∷ 0 ∷ 0 ∷ 0 ∷ 0 ∷ 0 ∷ 0 ∷ 0 ∷ 0 ∷ 0 ∷ []
 
-abbrev numberB : List ℕ
+abbrev pub numberB : List ℕ
 numberB = 4 ∷ 3 ∷ 0 ∷ 0 ∷ 5 ∷ 0 ∷ 0 ∷ 0 ∷ 0 ∷ 0 ∷ 0 ∷ 0 ∷ 0 ∷ 0 ∷ 0 ∷ 0 ∷ []
 
--- a CCBS ask: can-keep is sent, no preference
-abbrev askFor : List ℕ → Asking
-askFor identifier =
-    record { identifier = identifier; kind = Ccbs; numberA = numberA; numberB = numberB; service = 300; canKeep = true; preference = 0 }
+-- an ask of a kind, with can-keep or without; no preference
+abbrev asking : Kind → Bool → List ℕ → Asking
+asking kind canKeep identifier =
+    record { identifier = identifier; kind = kind; numberA = numberA; numberB = numberB; service = 300; canKeep = canKeep; preference = 0 }
 
 -- one line, both kinds allowed
 abbrev pub oneLine : List ℕ
@@ -115,8 +124,8 @@ abbrev pub start : Bool → World
 start retain = startWorld oneLine true retain
 
 -- what a host puts in at each end, as the entry makes it of these bytes; the line is always the one
-abbrev asks : Asking → Event
-asks a = clerkDoes (AtClerk.Ask (askNames a) (askRequest a))
+abbrev pub asks : Kind → Bool → List ℕ → Event
+asks kind canKeep identifier = let a = asking kind canKeep identifier in clerkDoes (AtClerk.Ask (askNames a) (askRequest a))
 
 abbrev clerkActs : List ℕ → ClerkAct.Act → Event
 clerkActs identifier act = clerkDoes (AtClerk.Act (wordsOf identifier) act)
@@ -130,7 +139,7 @@ lineActs identifier act = lineDoes (AtLine.Act (wordsOf identifier) act)
 abbrev guardReports : List ℕ → Event
 guardReports identifier = lineDoes (AtLine.Guard (wordsOf identifier))
 
-abbrev lineReports : Bool → Event
+abbrev pub lineReports : Bool → Event
 lineReports busy = lineDoes (AtLine.Report (numberWords numberB) busy)
 
 abbrev lineLooks : Event
@@ -139,7 +148,7 @@ lineLooks = lineDoes (AtLine.Look (numberWords numberB))
 -- ---- the runs, each from the start
 -- the request is heard and stored; its result is still under way
 abbrev pub stored : List Event
-stored = asks (askFor first) ∷ lineHears ∷ []
+stored = asks Ccbs true first ∷ lineHears ∷ []
 
 -- the result is heard
 abbrev pub acknowledged : List Event
@@ -152,42 +161,76 @@ recalled = lineLooks ∷ clerkHears false ∷ []
 abbrev suspends : List Event
 suspends = lineLooks ∷ clerkHears true ∷ lineHears ∷ []
 
+-- the clerk went on from Suspended without a resume
+abbrev pub wentOn : List Event
+wentOn = acknowledged ++ (suspends ++ (clerkActs first User.GoOn ∷ []))
+
 -- accept, and ccRingout is heard
 abbrev ringsOut : List Event
 ringsOut = clerkActs first User.Accept ∷ lineHears ∷ []
+
+abbrev pub ringing : List Event
+ringing = acknowledged ++ (recalled ++ ringsOut)
 
 -- alerted, and type 11 is heard
 abbrev completes : List Event
 completes = lineActs first Far.Alerted ∷ clerkHears false ∷ []
 
 abbrev completed : List Event
-completed = acknowledged ++ (recalled ++ (ringsOut ++ completes))
+completed = ringing ++ completes
 
 -- another ask with the same numbers, its request heard, the error heard
 abbrev denied : List Event
-denied = acknowledged ++ (asks (askFor second) ∷ lineHears ∷ clerkHears false ∷ [])
+denied = acknowledged ++ (asks Ccbs true second ∷ lineHears ∷ clerkHears false ∷ [])
 
 -- a cancel while ccExecPossible is under way
 abbrev crossed : List Event
 crossed = acknowledged ++ (lineLooks ∷ clerkActs first User.Cancel ∷ [])
 
--- accept, but the line is busy again when ccRingout is heard
+-- recall and accept, but the line is busy again when ccRingout is heard
+abbrev meetsBusy : List Event
+meetsBusy = recalled ++ (clerkActs first User.Accept ∷ lineReports true ∷ lineHears ∷ [])
+
 abbrev busyAgain : List Event
-busyAgain = acknowledged ++ (recalled ++ (clerkActs first User.Accept ∷ lineReports true ∷ lineHears ∷ []))
+busyAgain = acknowledged ++ meetsBusy
 
 -- its error is heard
 abbrev kept : List Event
 kept = busyAgain ++ (clerkHears false ∷ [])
 
+-- the same, of an ask without can-keep
+abbrev unkept : List Event
+unkept = asks Ccbs false first ∷ lineHears ∷ clerkHears false ∷ meetsBusy
+
+-- a CCNR request is acknowledged, its line free all the while
+abbrev pub noReply : List Event
+noReply = asks Ccnr true first ∷ lineHears ∷ clerkHears false ∷ []
+
 -- T2 is reported, and its ccCancel is dropped
-abbrev runOut : List Event
-runOut = acknowledged ++ (clerkReports first T2 ∷ dropsUp ∷ [])
+abbrev pub runOut : List Event
+runOut = acknowledged ++ (clerkReports first T2 ∷ dropsUp 0 ∷ [])
 
 -- a guard is reported, and its ccCancel is dropped
 abbrev pub over : List Event
-over = runOut ++ (guardReports first ∷ dropsDown ∷ [])
+over = runOut ++ (guardReports first ∷ dropsDown 0 ∷ [])
 
--- ---- the table: a run, an identifier, and what is seen of that request at its end
+-- of two requests under way the second is dropped, and the first heard
+abbrev secondLost : List Event
+secondLost = asks Ccbs true first ∷ asks Ccbs true second ∷ dropsUp 1 ∷ lineHears ∷ []
+
+-- alerted, but type 11 is dropped; T2 is reported in Ringout, and refused
+abbrev unheard : List Event
+unheard = ringing ++ (lineActs first Far.Alerted ∷ dropsDown 0 ∷ clerkReports first T2 ∷ [])
+
+-- the guard is reported while the call rings, and its ccCancel is dropped
+abbrev pub deserted : List Event
+deserted = ringing ++ (guardReports first ∷ dropsDown 0 ∷ [])
+
+-- the clerk's host is told that the request was rejected, while it is under way
+abbrev pub rejection : List Event
+rejection = asks Ccbs true first ∷ clerkIsTold rejected (wordsOf first) false ∷ []
+
+-- ---- the tables: a run, an identifier, and what is seen of that request at its end
 pub record Row : Type 0 where
   pub events : List Event
   pub identifier : List ℕ
@@ -199,49 +242,111 @@ row events identifier said = record { events = events; identifier = identifier; 
 abbrev pub ends : Bool → Row → World
 ends retain r = play (start retain) (r .events)
 
--- clerk, line, suspended mark; keep at the clerk's end and at the line's; under way up and down; dropped, run out, guarded
-unfoldable pub table : List Row
-table =
-    -- the listed pairs: Invoked and Invoked
-    row acknowledged first (sees 2 1 0 2 2 0 0 0 0 0) ∷
+-- clerk, line; activity mark, suspended mark; keep at the clerk's end and at the line's; under way up and down; dropped, run out, guarded
+
+-- the listed pairs, on quiet wires
+unfoldable pub pairs : List Row
+pairs =
+    -- Invoked and Invoked
+    row acknowledged first (sees 2 1 0 0 2 2 0 0 0 0 0) ∷
     -- Wait-Answer and Await, suspended mark not set
-    row (acknowledged ++ recalled) first (sees 3 2 0 2 2 0 0 0 0 0) ∷
+    row (acknowledged ++ recalled) first (sees 3 2 0 0 2 2 0 0 0 0 0) ∷
     -- Suspended and Await, suspended mark set
-    row (acknowledged ++ suspends) first (sees 5 2 1 2 2 0 0 0 0 0) ∷
+    row (acknowledged ++ suspends) first (sees 5 2 0 1 2 2 0 0 0 0 0) ∷
     -- Wait-Answer and Await, suspended mark set: the clerk went on from Suspended without a resume
-    row (acknowledged ++ (suspends ++ (clerkActs first User.GoOn ∷ []))) first (sees 3 2 1 2 2 0 0 0 0 0) ∷
+    row wentOn first (sees 3 2 0 1 2 2 0 0 0 0 0) ∷
+    -- User A is free and resumes, ccResume is heard: back to Invoked and Invoked, the mark cleared
+    row (acknowledged ++ (suspends ++ (clerkActs first User.Resume ∷ lineHears ∷ []))) first (sees 2 1 0 0 2 2 0 0 0 0 0) ∷
     -- Ringout and Alert
-    row (acknowledged ++ (recalled ++ ringsOut)) first (sees 4 3 0 2 2 0 0 0 0 0) ∷
-    -- no record and no record: the request is completed, nothing was dropped, nothing is under way
-    row completed first (sees 0 0 0 0 0 0 0 0 0 0) ∷
-    -- after it another ask, with an identifier that was not taken up before
-    row (completed ++ (asks (askFor second) ∷ [])) second (sees 1 0 0 0 0 1 0 0 0 0) ∷
-    -- before the acknowledgment: the line's end holds the request, the clerk's is in Wait-Ack
-    row stored first (sees 1 1 0 0 2 0 1 0 0 0) ∷
-    -- another ask for the same two numbers is denied short, and its error heard: it is gone at both ends, and the first is as it was
-    row denied second (sees 0 0 0 0 0 0 0 0 0 0) ∷
-    row denied first (sees 2 1 0 2 2 0 0 0 0 0) ∷
-    -- a cancel meets a ring-back: ccCancel and ccExecPossible are under way at once
-    row crossed first (sees 0 2 0 0 2 1 1 0 0 0) ∷
-    -- both are heard: nobody holds it; the answer to a ccExecPossible without a record is a ccCancel, under way
-    row (crossed ++ (lineHears ∷ clerkHears false ∷ [])) first (sees 0 0 0 0 0 1 0 0 0 0) ∷
-    -- the other order, and that ccCancel is heard too
-    row (crossed ++ (clerkHears false ∷ lineHears ∷ lineHears ∷ [])) first (sees 0 0 0 0 0 0 0 0 0 0) ∷
-    -- busy again: the line's end kept the request, the clerk's has not heard yet
-    row busyAgain first (sees 4 1 0 2 2 0 1 0 0 0) ∷
-    -- kept at both ends
-    row kept first (sees 2 1 0 2 2 0 0 0 0 0) ∷
-    -- then the line is free, a Look offers it again, and it is completed
-    row (kept ++ (lineReports false ∷ (recalled ++ (ringsOut ++ completes)))) first (sees 0 0 0 0 0 0 0 0 0 0) ∷
-    -- a T2 report is taken, its ccCancel is dropped: the line's end still holds the request
-    row runOut first (sees 0 1 0 0 2 0 0 1 1 0) ∷
-    -- a guard report is taken and its ccCancel dropped: nobody holds it
-    row over first (sees 0 0 0 0 0 0 0 1 1 1) ∷
+    row ringing first (sees 4 3 0 0 2 2 0 0 0 0 0) ∷
+    -- no record and no record: the request is completed
+    row completed first (sees 0 0 0 0 0 0 0 0 0 0 0) ∷
     []
 
--- the one claim
-abbrev pub Shown : Type 0
-Shown = (retain : Bool) → map (λ (r : Row). seen (ends retain r) (wordsOf (r .identifier))) table ≡ map (λ (r : Row). r .said) table
+-- a request is asked for, answered, offered, kept or ended
+unfoldable pub answers : List Row
+answers =
+    -- after a completed request another ask, with an identifier that was not taken up before
+    row (completed ++ (asks Ccbs true second ∷ [])) second (sees 1 0 0 0 0 0 1 0 0 0 0) ∷
+    -- before the acknowledgment: the line's end holds the request, the clerk's is in Wait-Ack
+    row stored first (sees 1 1 0 0 0 2 0 1 0 0 0) ∷
+    -- another ask for the same two numbers is denied short, and its error heard: it is gone at both ends, and the first is as it was
+    row denied second (sees 0 0 0 0 0 0 0 0 0 0 0) ∷
+    row denied first (sees 2 1 0 0 2 2 0 0 0 0 0) ∷
+    -- a cancel meets a ring-back: ccCancel and ccExecPossible are under way at once
+    row crossed first (sees 0 2 0 0 0 2 1 1 0 0 0) ∷
+    -- both are heard: nobody holds it; the answer to a ccExecPossible without a record is a ccCancel, under way
+    row (crossed ++ (lineHears ∷ clerkHears false ∷ [])) first (sees 0 0 0 0 0 0 1 0 0 0 0) ∷
+    -- the other order, and that ccCancel is heard too
+    row (crossed ++ (clerkHears false ∷ lineHears ∷ lineHears ∷ [])) first (sees 0 0 0 0 0 0 0 0 0 0 0) ∷
+    -- the line's end cancels, and its ccCancel is heard
+    row (acknowledged ++ (lineActs first Far.Cancel ∷ clerkHears false ∷ [])) first (sees 0 0 0 0 0 0 0 0 0 0 0) ∷
+    -- busy again: the line's end kept the request, its activity marked; the clerk's has not heard yet
+    row busyAgain first (sees 4 1 1 0 2 2 0 1 0 0 0) ∷
+    -- kept at both ends
+    row kept first (sees 2 1 1 0 2 2 0 0 0 0 0) ∷
+    -- then the line is free, a Look offers it again, and it is completed
+    row (kept ++ (lineReports false ∷ (recalled ++ (ringsOut ++ completes)))) first (sees 0 0 0 0 0 0 0 0 0 0 0) ∷
+    -- keep not chosen: busy again ends the request at the line's end, and at the clerk's when the error is heard
+    row unkept first (sees 4 0 0 0 1 0 0 1 0 0 0) ∷
+    row (unkept ++ (clerkHears false ∷ [])) first (sees 0 0 0 0 0 0 0 0 0 0 0) ∷
+    -- CCNR on a line that has been free since acceptance: a Look offers nothing
+    row (noReply ++ (lineLooks ∷ [])) first (sees 2 1 0 0 2 2 0 0 0 0 0) ∷
+    -- a busy report, which names no request, marks its activity
+    row (noReply ++ (lineReports true ∷ [])) first (sees 2 1 1 0 2 2 0 0 0 0 0) ∷
+    -- only then a Look at the free line offers it
+    row (noReply ++ (lineReports true ∷ lineReports false ∷ lineLooks ∷ [])) first (sees 2 2 1 0 2 2 0 1 0 0 0) ∷
+    []
+
+-- a timer runs out, or a message is dropped
+unfoldable pub losses : List Row
+losses =
+    -- T1 is reported in Wait-Ack and its ccCancel heard: nobody holds it; the result is still under way
+    row (stored ++ (clerkReports first T1 ∷ lineHears ∷ [])) first (sees 0 0 0 0 0 0 0 1 0 1 0) ∷
+    -- T3 is reported and its ccCancel heard; T3 is no timer of the demand
+    row (acknowledged ++ (recalled ++ (clerkReports first T3 ∷ lineHears ∷ []))) first (sees 0 0 0 0 0 0 0 0 0 0 0) ∷
+    -- the guard first, and its ccCancel heard at the clerk's end
+    row (acknowledged ++ (guardReports first ∷ clerkHears false ∷ [])) first (sees 0 0 0 0 0 0 0 0 0 0 1) ∷
+    -- a T2 report is taken, its ccCancel is dropped: the line's end still holds the request
+    row runOut first (sees 0 1 0 0 0 2 0 0 1 1 0) ∷
+    -- a guard report is taken and its ccCancel dropped: nobody holds it
+    row over first (sees 0 0 0 0 0 0 0 0 1 1 1) ∷
+    -- a drop behind the head of a wire: the second request is lost, the first stored
+    row secondLost second (sees 1 0 0 0 0 0 0 0 1 0 0) ∷
+    row secondLost first (sees 1 1 0 0 0 2 0 1 0 0 0) ∷
+    -- type 11 is dropped: no timer ends Ringout (mend M1), so the clerk's end waits for its host
+    row unheard first (sees 4 0 0 0 2 0 0 0 1 0 0) ∷
+    -- so too where the guard's ccCancel is dropped in Ringout: a T2 report is refused there, and has not run out
+    row (deserted ++ (clerkReports first T2 ∷ [])) first (sees 4 0 0 0 2 0 0 0 1 0 1) ∷
+    []
+
+-- the signalling of the call tells of a failure
+unfoldable pub signals : List Row
+signals =
+    -- the call fails at the line's end: type 12 is heard, and the ccCancel that it brings (mend M2)
+    row (ringing ++ (lineActs first Far.CallFailed ∷ clerkHears false ∷ lineHears ∷ [])) first (sees 0 0 0 0 0 0 0 0 0 0 0) ∷
+    -- type 11 was dropped and the host is told that the call died: that ends Ringout, and its ccCancel is heard
+    row (unheard ++ (clerkIsTold callDied (wordsOf first) false ∷ lineHears ∷ [])) first (sees 0 0 0 0 0 0 0 0 1 0 0) ∷
+    -- the call died, and the line's end has not noticed: its ccCancel is under way
+    row (ringing ++ (clerkIsTold callDied (wordsOf first) false ∷ [])) first (sees 0 3 0 0 0 2 1 0 0 0 0) ∷
+    -- the request is rejected while it is under way, and then stored all the same
+    row (rejection ++ (lineHears ∷ [])) first (sees 0 1 0 0 0 2 0 1 0 0 0) ∷
+    -- its result is answered with ccCancel, which is heard: nobody holds it
+    row (rejection ++ (lineHears ∷ clerkHears false ∷ lineHears ∷ [])) first (sees 0 0 0 0 0 0 0 0 0 0 0) ∷
+    []
+
+abbrev pub table : List Row
+table = pairs ++ (answers ++ (losses ++ signals))
+
+-- the one claim: each row is what is seen at its run's end
+abbrev pub RowsShown : List Row → Type 0
+RowsShown rows = (retain : Bool) → map (λ (r : Row). seen (ends retain r) (wordsOf (r .identifier))) rows ≡ map (λ (r : Row). r .said) rows
+
+pub record Shown : Type 0 where
+  pub pairs : RowsShown pairs
+  pub answers : RowsShown answers
+  pub losses : RowsShown losses
+  pub signals : RowsShown signals
 
 -- every row ends in a world of a run: each ask is one that the entry makes, and no identifier is taken up twice
 abbrev pub EachReached : Bool → List Row → Type 0
@@ -277,3 +382,22 @@ pub record Premises : Type 0 where
   pub acknowledged : BothHold Acknowledged
   pub before : BothHold (λ (c : ClerkRecord.Record). c .terms .connection ≡ Empty)
   pub over : RunOut
+
+-- ---- what is no event of a run
+-- nothing of a request was dropped or is under way, and yet its pair is not listed
+pub record Unlisted (w : World) (identifier : Words) : Type 0 where
+  pub dropped : has (w .history .dropped) identifier ≡ false
+  pub up : messagesOf identifier (w .up) ≡ []
+  pub down : messagesOf identifier (w .down) ≡ []
+  pub unlisted : Listed (clerkHolds w identifier) (lineHolds w identifier) → ⊥
+
+-- Two inputs of docs/HOST.md, 12, handed in though nobody sent them, would break the claim of quiet wires in Ringout and Alert: they end the clerk's record, send
+-- nothing, and the line's stays in Alert. So neither is a signal of `clerkIsTold`. Type 11 is the Alerting or Connect that the line's act sends: a host hands it
+-- in only when it arrives. After a reject of the ringout, type 7 failureToMatch, the line's record waits for its guard.
+abbrev pub handedIn : World → Letter → World
+handedIn w l = next w (clerkDoes (AtClerk.Message l false))
+
+pub record LeftOut (retain : Bool) : Type 0 where
+  pub reached : Reached (play (start retain) ringing)
+  pub alerts : Unlisted (handedIn (play (start retain) ringing) (plainLetter (wordsOf first) Alerting CallAlerts)) (wordsOf first)
+  pub notMatched : Unlisted (handedIn (play (start retain) ringing) (plainLetter (wordsOf first) ReleaseComplete (RingoutError 2))) (wordsOf first)

@@ -1,0 +1,113 @@
+-- The run of demand 3 is what a host makes by its calls. Each claim is a type; its proof has its name.
+use Prim.Native.Nat.{ℕ, _≤_}
+use mathlib.Core.Path.{_≡_}
+use mathlib.Core.Bool.{true, false}
+use mathlib.Core.Logic.{_⊎_}
+use mathlib.Core.List.{List, [], _∷_, _++_}
+use lib.ListN.{length}
+use Rattle.lists.specs.Parts.{over}
+use Rattle.lists.specs.Words.{wordsOf}
+use Rattle.lists.specs.declared.words.Words.{Words}
+use Rattle.message.specs.Format.{inRange, messageBytes}
+use Rattle.message.specs.Reading as Reading
+use Rattle.message.specs.Wire.{messageAt}
+use Rattle.message.specs.declared.Message.{Message}
+use Rattle.desk.specs.Letter.{messageOf, numberWords}
+use Rattle.desk.specs.declared.outcome.Outcome.{Outcome}
+use Rattle.told.specs.Told.{toldOf}
+use Rattle.clerk_table.specs.declared.inputs.Act as ClerkAct
+use Rattle.clerk_table.specs.declared.inputs.Input.the-variants as AtClerk
+use Rattle.clerk_table.specs.declared.table.Timer.{Timer}
+use Rattle.clerk.specs.Entry.{askNames, askRequest, askEntry}
+use Rattle.clerk.specs.declared.entry.Asking.{Asking}
+use Rattle.clerk.specs.declared.entry.Entry.the-variants.{Given}
+use Rattle.clerk_sound.specs.Sound.{Typed}
+use Rattle.line_table.specs.declared.inputs.Act as LineAct
+use Rattle.line_table.specs.declared.inputs.Input.the-variants as AtLine
+use Rattle.host_numbers.specs.Given.{askingOf, yes}
+use Rattle.tollherring.specs.Face.{Face, face, refusedFace, faced}
+use Rattle.tollherring.specs.Clerk.{clerkAsked, clerkReceived, clerkActed, clerkReported}
+use Rattle.tollherring.specs.Line.{lineStartedWords, lineStartedAnswer, lineReceived, lineStatusReported, lineLooked, lineActed, lineGuarded}
+use Rattle.pair_request.specs.Wires.{Signal}
+use Rattle.pair.specs.World.{World, Event, clerkDoes, lineDoes, clerkIsTold, clerkHears, lineHears, nameOf, has, sentBy, signalLetter, next, Allowed, startWorld, Reached}
+use Rattle.exported.specs.Calls.{clerkEnd, lineEnd, Puts, IsStep}
+
+-- ---- what a step puts on a wire, the call writes as its bytes
+pub record AsBytes (m : Message) : Type 0 where
+  -- so the writer never answers 2, and 53 bytes are always enough
+  pub ranged : inRange m ≡ true
+  pub most : length (messageBytes m) ≤ 53
+  -- where there is room, a call whose outcome sends it is done: the front of the buffer is the bytes of the message, and nothing behind them changes
+  pub roomy :
+      (words after out : List ℕ) (outcome : Outcome) (unread : ℕ) → sentBy (outcome .sending) ≡ m ∷ [] → length (messageBytes m) ≤ length out →
+      faced words after out outcome unread ≡ face after (over (messageBytes m) out) (toldOf outcome (length (messageBytes m)) unread) (outcome .refusal)
+
+abbrev pub SentAsBytes : Type 0
+SentAsBytes =
+    (w : World) → Reached w → (e : Event) → Allowed w e → (m : Message) →
+    Puts (clerkEnd w) (clerkEnd (next w e)) m ⊎ Puts (lineEnd w) (lineEnd (next w e)) m → AsBytes m
+
+-- ---- a call is a step of `next`, or leaves the desk and the buffer as they were
+-- a call at an end is the step of an event
+abbrev pub ClerkCall : World → Event → List ℕ → ℕ → Face → Type 0
+ClerkCall w e = IsStep (clerkEnd w) (clerkEnd (next w e))
+
+abbrev pub LineCall : World → Event → List ℕ → ℕ → Face → Type 0
+LineCall w e = IsStep (lineEnd w) (lineEnd (next w e))
+
+abbrev pub askEvent : Asking → Event
+askEvent a = clerkDoes (AtClerk.Ask (askNames a) (askRequest a))
+
+-- the calls at the desks of a world, whatever numbers and arrays are passed with the buffer `out`
+pub record Calls (w : World) (out : List ℕ) : Type 0 where
+  -- an ask; a run may have it if it is of values of the code's types and its identifier was not taken up before
+  pub clerkAsk :
+      (identifier : List ℕ) (kind : ℕ) (numberA numberB : List ℕ) (service canKeep preference : ℕ) →
+      ClerkCall w (askEvent (askingOf identifier kind numberA numberB service canKeep preference)) out 0
+      (clerkAsked (w .clerk .words) out identifier kind numberA numberB service canKeep preference)
+  pub askAllowed :
+      (a : Asking) → Typed a → askEntry a ≡ Given (AtClerk.Ask (askNames a) (askRequest a)) → has (w .history .takenUp) (wordsOf (a .identifier)) ≡ false →
+      Allowed w (askEvent a)
+  -- User A's act, and a timer's report
+  pub clerkAct :
+      (identifier : List ℕ) (number : ℕ) →
+      (act : ClerkAct.Act) × ClerkCall w (clerkDoes (AtClerk.Act (wordsOf identifier) act)) out 0 (clerkActed (w .clerk .words) out identifier number)
+  pub clerkReport :
+      (identifier : List ℕ) (number : ℕ) →
+      (timer : Timer) × ClerkCall w (clerkDoes (AtClerk.Timer (wordsOf identifier) timer)) out 0 (clerkReported (w .clerk .words) out identifier number)
+  -- a line report, a Look, an act, the guard's report
+  pub lineReport :
+      (digits : List ℕ) (busy : ℕ) → LineCall w (lineDoes (AtLine.Report (numberWords digits) (yes busy))) out 0 (lineStatusReported (w .line .words) out digits busy)
+  pub lineLook : (digits : List ℕ) → LineCall w (lineDoes (AtLine.Look (numberWords digits))) out 0 (lineLooked (w .line .words) out digits)
+  pub lineAct :
+      (identifier : List ℕ) (number : ℕ) →
+      (act : LineAct.Act) × LineCall w (lineDoes (AtLine.Act (wordsOf identifier) act)) out 0 (lineActed (w .line .words) out identifier number)
+  pub lineGuard : (identifier : List ℕ) → LineCall w (lineDoes (AtLine.Guard (wordsOf identifier))) out 0 (lineGuarded (w .line .words) out identifier)
+  -- bytes that begin with those of the head of the wire
+  pub clerkReceive :
+      (m : Message) (rest : List Message) → w .down ≡ m ∷ rest → (behind : List ℕ) (busy : ℕ) →
+      ClerkCall w (clerkHears (yes busy)) out (length (messageBytes m)) (clerkReceived (w .clerk .words) out (messageBytes m ++ behind) busy)
+  pub lineReceive :
+      (m : Message) (rest : List Message) → w .up ≡ m ∷ rest → (behind : List ℕ) →
+      LineCall w lineHears out (length (messageBytes m)) (lineReceived (w .line .words) out (messageBytes m ++ behind))
+  -- the bytes that the clerk's host makes of what the signalling of a call tells it
+  pub clerkTold :
+      (signal : Signal) (identifier : Words) (behind : List ℕ) (busy : ℕ) →
+      let m = messageOf (signalLetter signal identifier) in
+      ClerkCall w (clerkIsTold signal (nameOf m) (yes busy)) out (length (messageBytes m)) (clerkReceived (w .clerk .words) out (messageBytes m ++ behind) busy)
+  -- bytes that the reader refuses. Of other bytes nothing is said: they are a message that is neither the head of the wire nor a signal, so nobody of the pair sent it
+  pub clerkUnread :
+      (bytes : List ℕ) (number busy : ℕ) → messageAt bytes ≡ Reading.refused number →
+      (answer : ℕ) × (clerkReceived (w .clerk .words) out bytes busy ≡ refusedFace (w .clerk .words) out answer)
+  pub lineUnread :
+      (bytes : List ℕ) (number : ℕ) → messageAt bytes ≡ Reading.refused number →
+      lineReceived (w .line .words) out bytes ≡ refusedFace (w .line .words) out number
+
+abbrev pub FaceIsStep : Type 0
+FaceIsStep = (w : World) → Reached w → (out : List ℕ) → Calls w out
+
+-- ---- a desk that a host starts is the one that a run starts from
+abbrev pub StartsAsRun : Type 0
+StartsAsRun =
+    (words given : List ℕ) (keep retain : ℕ) → lineStartedAnswer given keep retain ≡ 0 →
+    lineStartedWords words given keep retain ≡ startWorld given (yes keep) (yes retain) .line .words
