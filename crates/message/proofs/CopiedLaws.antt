@@ -29,13 +29,6 @@ unfolding copied
 copied-count s from to =
     rw (apart-min to (length s) from, ← length-drop from s) (ap sixteen (take-counted 16 (to - from) (drop from s)))
 
--- between a place and one that is not behind it nothing stands
-pub copied-none : (s : List ℕ) (from to : ℕ) → to ≤ from → copied s from to ≡ sixteen []
-unfolding copied
-copied-none s from to h =
-    let e : to - from ≡ 0 = omega (arith, h) in
-    ap (λ (n : ℕ). sixteen (take 16 (take n (drop from s)))) e
-
 pub copied-between : (s : List ℕ) (from to : ℕ) → to ≤ from + 16 → copied s from to ≡ between s from to
 unfolding copied
 copied-between s from to h =

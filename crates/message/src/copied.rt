@@ -46,10 +46,6 @@ fn copy_in(s: &[u8], from: usize, count: usize) -> [u8; 16]
 pub fn copy_between(s: &[u8], from: usize, to: usize) -> [u8; 16]
     ensures { λ r. ⌜ r ≡ copied (now (s .entry)) from to ⌝ }
 {
-    // most messages have no numbers of digits: then nothing stands between the places
-    if to <= from {
-        return [0u8; 16];
-    }
     let count = count_copied(s.len(), from, to);
     copy_in(s, from, count)
 }
