@@ -58,27 +58,27 @@ sent-formed j m =
       numberB = length-bytesOf (letterRead j m .numberB);
     }
 
-request-normal : (j : Words) (d : R.Data) (ck : Bool) (q : ℕ) → Clear j (R.request d ck q) → normal (messageRead j (R.request d ck q)) ≡ messageRead j (R.request d ck q)
+request-normal : (j : Words) (d : R.Data) (kind : Kind) (q : ℕ) → Clear j (R.request d kind q) → normal (messageRead j (R.request d kind q)) ≡ messageRead j (R.request d kind q)
 unfolding normal messageOf letterOf inRange
-request-normal j d ck q clear =
-    let flags = askFlags ck q in
+request-normal j d kind q clear =
+    let flags = askFlags (d .canKeep) q in
     let a = bytesOf (d .numberA) in
     let b = bytesOf (d .numberB) in
-    let r : RequestRanged a b (d .service) flags = request-ranged a b (d .service) flags (sym (request-fields (d .kind) a b (d .service) flags) ∙ clear .ranged) in
-    let sameA = request-number (d .kind) (d .service) flags a (number-normal 0 (d .numberA) (r .rangeA) (ap (λ (l : Letter). l .numberA) (clear .back))) in
-    let sameB = request-number (d .kind) (d .service) flags b (number-normal 1 (d .numberB) (r .rangeB) (ap (λ (l : Letter). l .numberB) (clear .back))) in
+    let r : RequestRanged a b (d .service) flags = request-ranged a b (d .service) flags (sym (request-fields kind a b (d .service) flags) ∙ clear .ranged) in
+    let sameA = request-number kind (d .service) flags a (number-normal 0 (d .numberA) (r .rangeA) (ap (λ (l : Letter). l .numberA) (clear .back))) in
+    let sameB = request-number kind (d .service) flags b (number-normal 1 (d .numberB) (r .rangeB) (ap (λ (l : Letter). l .numberB) (clear .back))) in
     λ i.
     record {
-      carrier = messageRead j (R.request d ck q) .carrier;
-      identifier = messageRead j (R.request d ck q) .identifier;
+      carrier = messageRead j (R.request d kind q) .carrier;
+      identifier = messageRead j (R.request d kind q) .identifier;
       numberA = sameA i;
       numberB = sameB i;
-      body = messageRead j (R.request d ck q) .body;
+      body = messageRead j (R.request d kind q) .body;
     }
 
 sent-normal : (j : Words) (m : R.Msg) → Clear j m → normal (messageRead j m) ≡ messageRead j m
 unfolding normal messageOf bytesOf octets
-sent-normal j (R.request d ck q) clear = request-normal j d ck q clear
+sent-normal j (R.request d kind q) clear = request-normal j d kind q clear
 sent-normal j (R.result k n) clear = refl
 sent-normal j (R.denied short) clear = refl
 sent-normal j (R.exec n) clear = refl

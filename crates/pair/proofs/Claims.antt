@@ -12,13 +12,9 @@ use Rattle.message.specs.declared.Kind.{Kind}
 use Rattle.message.specs.declared.Kind.the-variants.{Ccbs, Ccnr}
 use Rattle.message.specs.declared.Message.{Message}
 use Rattle.desk.specs.Letter.{messageOf}
-use Rattle.desk.specs.declared.Connection.{Connection}
-use Rattle.desk.specs.declared.Connection.the-variants as Connection
-use Rattle.desk.specs.declared.Keep.the-variants as Keep
 use Rattle.places.specs.Places as P
 use Rattle.clerk.specs.Entry.{askFlags}
 use Rattle.clerk_table.specs.declared.record.Record as ClerkRecord
-use Rattle.clerk_table.specs.declared.table.State.the-variants as ClerkState
 use Rattle.line_table.specs.declared.record.Record as LineRecord
 use Rattle.pair_request.specs.Reading as R
 use Rattle.pair_request.specs.Listed as RL
@@ -27,7 +23,7 @@ use Rattle.pair_request.proofs.Claims.{acked-was-accepted, TakesUp, accepts-by-
 use Rattle.pair.specs.World.{World, Event, lineHears, clerkHolds, lineHolds, messagesOf, next, Allowed, Run, stop, then, startWorld, Reached, reached}
 use Rattle.pair.specs.Meaning.{Acknowledged, isRequest, Requests, Heads, Stores, Accepted, Agree, Listed, no-record, invoked, wait-answer, suspended, ringout, NoRequest}
 use Rattle.pair.specs.Demand3.{AcknowledgedWasAccepted, DataAgree, KindAgrees, QuietListed, OverForGood, GoneForGood}
-use Rattle.pair.proofs.Ends.{clerkRead, clerkRecord, lineRead, lineRecord, messageRead, keepRead, connRead, clerkStateRead}
+use Rattle.pair.proofs.Ends.{waitingRecord, liveRecord, clerkRead, lineRead, lineRecord, messageRead, keepRead, connRead}
 use Rattle.pair.proofs.Wires.{messages-hit}
 use Rattle.pair.proofs.Changes.{not-one, the-one}
 use Rattle.pair.proofs.Sim.{Sim, Known, Good, Hearing}
@@ -48,13 +44,13 @@ first m [] = m
 first m (x ∷ xs) = x
 
 requests-head :
-    (j : Words) (d : R.Data) (ck : Bool) (q : ℕ) (left : List R.Msg) (ms : List Message) → Heads ms j →
-    messagesOf j ms ≡ map (messageRead j) (R.request d ck q ∷ left) → Requests ms j
+    (j : Words) (d : R.Data) (kind : Kind) (q : ℕ) (left : List R.Msg) (ms : List Message) → Heads ms j →
+    messagesOf j ms ≡ map (messageRead j) (R.request d kind q ∷ left) → Requests ms j
 unfolding messageOf
-requests-head j d ck q left [] h e = h
-requests-head j d ck q left (m ∷ ms) h e =
-    let same : m ≡ messageRead j (R.request d ck q) = ap (first m) (sym (messages-hit j m ms h) ∙ e) in
-    (h, subst (λ (x : Message). isRequest (x .body) ≡ true) (sym same) (request-body (d .kind) (d .service) (askFlags ck q)))
+requests-head j d kind q left [] h e = h
+requests-head j d kind q left (m ∷ ms) h e =
+    let same : m ≡ messageRead j (R.request d kind q) = ap (first m) (sym (messages-hit j m ms h) ∙ e) in
+    (h, subst (λ (x : Message). isRequest (x .body) ≡ true) (sym same) (request-body kind (d .service) (askFlags (d .canKeep) q)))
 
 -- a step by which the net was accepted: the line's end, which held nothing, heard the request and stored it
 stores-now :
@@ -64,10 +60,10 @@ stores-now {p} {w} {e} {j} {n} {m} sim after t h =
     record {
       heard = h .0;
       request =
-          requests-head j (t .asked-data) (t .can-keep) (t .preference) (t .rest) (w .up) (h .1)
+          requests-head j (t .asked-data) (t .asked-kind) (t .preference) (t .rest) (w .up) (h .1)
           (sim .up ∙ ap (map (messageRead j)) (t .under-way));
       absent = sim .line ∙ ap (lineRead j (sim .active)) (t .held-none);
-      stored = lineRecord j (after .active) (t .asked-data) (R.keepOf p (t .can-keep)) (R.connOf p (t .preference)) R.idle;
+      stored = lineRecord j (after .active) (R.termsOf p (t .asked-data) (t .preference)) (t .asked-kind) R.idle;
       present = after .line ∙ ap (lineRead j (after .active)) (t .holds-now);
     }
 
@@ -102,10 +98,9 @@ run-told given keep retain b (then run e once) j =
 acknowledged-accepted :
     {p : R.Policy} (n : R.Net) (j : Words) (c : ClerkRecord.Record) (k : R.Clerk) → R.Reach p n → n .clerk ≡ k → P.one c ≡ clerkRead j k → Acknowledged c → n .accepted ≡ true
 acknowledged-accepted n j c R.absent r q e a = not-one (sym e)
-acknowledged-accepted n j c (R.waiting d ck) r q e a =
-    absurd
-    (a (ap (λ (x : ClerkRecord.Record). x .terms .connection) (the-one c (clerkRecord j d ck ClerkState.WaitAck Keep.Empty Connection.Empty) e)))
-acknowledged-accepted n j c (R.live d ck k m s) r q e a = acked-was-accepted d ck k m s r q
+acknowledged-accepted n j c (R.waiting d kind) r q e a =
+    absurd (a (ap (λ (x : ClerkRecord.Record). x .terms .connection) (the-one c (waitingRecord j d kind) e)))
+acknowledged-accepted n j c (R.live t kind s) r q e a = acked-was-accepted t kind s r q
 
 pub acknowledged-was-accepted : AcknowledgedWasAccepted
 acknowledged-was-accepted given keep retain b w run j c e a =
@@ -117,9 +112,9 @@ abbrev Agreed : ClerkRecord.Record → LineRecord.Record → Type 0
 Agreed c l = Agree c l × (c .terms .kind ≡ l .terms .kind)
 
 agree-waiting :
-    (j : Words) (active : Bool) (d d′ : R.Data) (ck k : Bool) (n : R.Conn) (s : R.LState) → d ≡ d′ →
-    Agreed (clerkRecord j d ck ClerkState.WaitAck Keep.Empty Connection.Empty) (lineRecord j active d′ k n s)
-agree-waiting j active d d′ ck k n s e = (
+    (j : Words) (active : Bool) (d : R.Data) (t : R.Terms) (kind kind′ : Kind) (s : R.LState) → d ≡ R.asked t → kind ≡ kind′ →
+    Agreed (waitingRecord j d kind) (lineRecord j active t kind′ s)
+agree-waiting j active d t kind kind′ s e f = (
   record {
     numberA = ap (λ (x : R.Data). x .numberA) e;
     numberB = ap (λ (x : R.Data). x .numberB) e;
@@ -127,40 +122,37 @@ agree-waiting j active d d′ ck k n s e = (
     keep = λ a. absurd (a refl);
     connection = λ a. absurd (a refl);
   },
-  ap (λ (x : R.Data). x .kind) e,
+  f,
 )
 
 agree-live :
-    (j : Words) (active : Bool) (d d′ : R.Data) (ck k k′ : Bool) (n n′ : R.Conn) (x : R.CState) (y : R.LState) → d ≡ d′ → k ≡ k′ → n ≡ n′ →
-    Agreed (clerkRecord j d ck (clerkStateRead x) (keepRead k) (connRead n)) (lineRecord j active d′ k′ n′ y)
-agree-live j active d d′ ck k k′ n n′ x y e f g = (
+    (j : Words) (active : Bool) (t t′ : R.Terms) (kind kind′ : Kind) (x : R.CState) (y : R.LState) → t ≡ t′ → kind ≡ kind′ →
+    Agreed (liveRecord j t kind x) (lineRecord j active t′ kind′ y)
+agree-live j active t t′ kind kind′ x y e f = (
   record {
-    numberA = ap (λ (z : R.Data). z .numberA) e;
-    numberB = ap (λ (z : R.Data). z .numberB) e;
-    service = ap (λ (z : R.Data). z .service) e;
-    keep = λ a. ap keepRead f;
-    connection = λ a. ap connRead g;
+    numberA = ap (λ (z : R.Terms). R.asked z .numberA) e;
+    numberB = ap (λ (z : R.Terms). R.asked z .numberB) e;
+    service = ap (λ (z : R.Terms). R.asked z .service) e;
+    keep = λ a. ap (λ (z : R.Terms). keepRead (R.keep z)) e;
+    connection = λ a. ap (λ (z : R.Terms). connRead (R.conn z)) e;
   },
-  ap (λ (z : R.Data). z .kind) e,
+  f,
 )
 
 agree-net :
     {p : R.Policy} (n : R.Net) → R.Reach p n → (j : Words) (active : Bool) (c : ClerkRecord.Record) (l : LineRecord.Record) (k : R.Clerk) (m : R.Line) →
     n .clerk ≡ k → n .line ≡ m → P.one c ≡ clerkRead j k → P.one l ≡ lineRead j active m → Agreed c l
 agree-net n r j active c l R.absent m q s e f = not-one (sym e)
-agree-net n r j active c l (R.waiting d ck) R.none q s e f = not-one (sym f)
-agree-net n r j active c l (R.waiting d ck) (R.holds d′ k x y) q s e f =
-    let u = clerkRecord j d ck ClerkState.WaitAck Keep.Empty Connection.Empty in
-    let v = lineRecord j active d′ k x y in
-    subst (λ a. Agreed a l) (sym (the-one c u e))
-    (subst (λ b. Agreed u b) (sym (the-one l v f)) (agree-waiting j active d d′ ck k x y (both-hold-waiting d d′ ck k x y r q s)))
-agree-net n r j active c l (R.live d ck k x t) R.none q s e f = not-one (sym f)
-agree-net n r j active c l (R.live d ck k x t) (R.holds d′ k′ x′ y) q s e f =
-    let u = clerkRecord j d ck (clerkStateRead t) (keepRead k) (connRead x) in
-    let v = lineRecord j active d′ k′ x′ y in
-    let h = both-hold-live d d′ ck k k′ x x′ t y r q s in
-    subst (λ a. Agreed a l) (sym (the-one c u e))
-    (subst (λ b. Agreed u b) (sym (the-one l v f)) (agree-live j active d d′ ck k k′ x x′ t y (h .0) (h .1) (h .2)))
+agree-net n r j active c l (R.waiting d kind) R.none q s e f = not-one (sym f)
+agree-net n r j active c l (R.waiting d kind) (R.holds t kind′ y) q s e f =
+    let h = both-hold-waiting d t kind kind′ y r q s in
+    subst (λ a. Agreed a l) (sym (the-one c (waitingRecord j d kind) e))
+    (subst (λ b. Agreed (waitingRecord j d kind) b) (sym (the-one l (lineRecord j active t kind′ y) f)) (agree-waiting j active d t kind kind′ y (h .0) (h .1)))
+agree-net n r j active c l (R.live t kind x) R.none q s e f = not-one (sym f)
+agree-net n r j active c l (R.live t kind x) (R.holds t′ kind′ y) q s e f =
+    let h = both-hold-live t t′ kind kind′ x y r q s in
+    subst (λ a. Agreed a l) (sym (the-one c (liveRecord j t kind x) e))
+    (subst (λ b. Agreed (liveRecord j t kind x) b) (sym (the-one l (lineRecord j active t′ kind′ y) f)) (agree-live j active t t′ kind kind′ x y (h .0) (h .1)))
 
 agreed : (w : World) → Reached w → (j : Words) (c : ClerkRecord.Record) (l : LineRecord.Record) → clerkHolds w j ≡ P.one c → lineHolds w j ≡ P.one l → Agreed c l
 agreed w reach j c l e f =
@@ -230,16 +222,16 @@ over-for-good w reach j t u none later run =
 -- nothing held is read as no record, and a wire without a request as one
 clerk-absent : (j : Words) (c : R.Clerk) → clerkRead j c ≡ P.none → c ≡ R.absent
 clerk-absent j R.absent e = refl
-clerk-absent j (R.waiting d ck) e = not-one (sym e)
-clerk-absent j (R.live d ck k n s) e = not-one (sym e)
+clerk-absent j (R.waiting d kind) e = not-one (sym e)
+clerk-absent j (R.live t kind s) e = not-one (sym e)
 
 line-absent : (j : Words) (active : Bool) (l : R.Line) → lineRead j active l ≡ P.none → l ≡ R.none
 line-absent j active R.none e = refl
-line-absent j active (R.holds d k n s) e = not-one (sym e)
+line-absent j active (R.holds t kind s) e = not-one (sym e)
 
 plain-read : (j : Words) (m : R.Msg) → isRequest (messageRead j m .body) ≡ false → RL.NotReq m
 unfolding messageOf
-plain-read j (R.request d ck q) h = absurd (true≢false (sym (request-body (d .kind) (d .service) (askFlags ck q)) ∙ h))
+plain-read j (R.request d kind q) h = absurd (true≢false (sym (request-body kind (d .service) (askFlags (d .canKeep) q)) ∙ h))
 plain-read j (R.result k n) h = tt
 plain-read j (R.denied short) h = tt
 plain-read j (R.exec n) h = tt

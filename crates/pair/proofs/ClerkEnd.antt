@@ -17,13 +17,10 @@ use Rattle.message.specs.declared.Kind.the-variants.{Ccbs, Ccnr}
 use Rattle.desk.specs.Carriers.{carrierFits}
 use Rattle.desk.specs.Letter.{messageOf}
 use Rattle.desk.specs.Sends.{answered}
-use Rattle.desk.specs.declared.Connection.the-variants as Connection
-use Rattle.desk.specs.declared.Keep.the-variants as Keep
 use Rattle.desk.specs.declared.letter.Letter.{Letter}
 use Rattle.desk.specs.declared.outcome.Sending.the-variants as Sending
 use Rattle.desk.specs.declared.sends.Sends.{Sends}
 use Rattle.desk.specs.declared.sends.Sends.the-variants as Sends
-use Rattle.terms.specs.Request.{canKeepSent}
 use Rattle.terms.specs.declared.request.Names.{Names}
 use Rattle.terms.specs.declared.request.Request.{Request}
 use Rattle.places.specs.Places.{Held, none, one, held}
@@ -32,7 +29,6 @@ use Rattle.clerk_table.specs.Record.{refusedPlan}
 use Rattle.clerk_table.specs.Step.{changed, rowTaken}
 use Rattle.clerk_table.specs.Table.{effectOf, holdsIn}
 use Rattle.clerk_table.specs.Inputs.{namesOf, messageFor, rowFor, rowOfAct, rowOfTimer, settledBy}
-use Rattle.clerk_table.specs.declared.table.State.the-variants.{WaitAck}
 use Rattle.clerk_table.specs.declared.table.Row.{Row}
 use Rattle.clerk_table.specs.declared.table.Home.the-variants.{Always}
 use Rattle.clerk_table.specs.declared.table.Next.{Next}
@@ -62,7 +58,7 @@ use Rattle.clerk_sound.specs.Sound.{clerkView, Reached}
 use Rattle.pair_request.specs.Wires.{callDied, rejected}
 use Rattle.pair_request.specs.Reading as R
 use Rattle.pair.specs.World.{sentBy, done, counts}
-use Rattle.pair.proofs.Ends.{clerkRecord, clerkStateRead, keepRead, connRead, clerkRead, letterRead, messageRead, dataOf, askRead, ClerkStep}
+use Rattle.pair.proofs.Ends.{clerkStateRead, waitingRecord, liveRecord, clerkRead, letterRead, messageRead, dataOf, askRead, ClerkStep}
 use Rattle.pair.proofs.Changes.{Own, stays, turns-found, stores, removes, Its, own-held, not-one, the-one, pick-ap}
 use Rattle.pair.proofs.Grounds.{clerk-placed, clerk-full}
 use Rattle.pair.proofs.Letters.{letter-name, ask-letter}
@@ -80,13 +76,6 @@ leaves (Remove i) before = none
 abbrev Says : Words → Plan → Held Record → R.CAnswer → Type 0
 Says j plan before answer =
     (leaves (plan .change) before ≡ clerkRead j (answer .0)) × (sentBy (plan .outcome .sending) ≡ map (messageRead j) (answer .1))
-
--- the record of an ask that waits for its acknowledgment, and of one that has it
-abbrev waitingRecord : Words → R.Data → Bool → Record
-waitingRecord j d ck = clerkRecord j d ck WaitAck Keep.Empty Connection.Empty
-
-abbrev liveRecord : Words → R.Data → Bool → Bool → R.Conn → R.CState → Record
-liveRecord j d ck k n s = clerkRecord j d ck (clerkStateRead s) (keepRead k) (connRead n)
 
 -- a plan by the record that it is about
 abbrev planAt : Input → Record → Decision → Plan
@@ -115,7 +104,7 @@ absent-takes :
     (j : Words) (rs : List Record) (m : R.Msg) (busy : Bool) →
     Says j (planOf rs (heard j m busy) (messageMeant rs (letterRead j m) busy Nothing (messageFor (letterRead j m .body)))) none (R.clerkTakes R.absent m busy)
 unfolding planOf R.clerkTakes R.inRinging
-absent-takes j rs (R.request d ck q) busy = rw (request-away (d .kind) (d .service) (askFlags ck q)) (refl, refl)
+absent-takes j rs (R.request d kind q) busy = rw (request-away kind (d .service) (askFlags (d .canKeep) q)) (refl, refl)
 absent-takes j rs (R.result k n) busy = (refl, refl)
 absent-takes j rs (R.denied short) busy = (refl, refl)
 absent-takes j rs (R.exec n) busy = (refl, refl)
@@ -128,104 +117,111 @@ absent-takes j rs (R.cancel n) busy = (refl, refl)
 absent-takes j rs R.alerts busy = (refl, refl)
 absent-takes j rs R.failed busy = (refl, refl)
 
+-- a result, by what the ask could keep
+waiting-result :
+    (j : Words) (i : ℕ) (d : R.Data) (kind : Kind) (ck k : Bool) (n : R.Conn) (busy : Bool) → d .canKeep ≡ ck →
+    Says j (takePlan i (waitingRecord j d kind) j (R.result k n) busy) (one (waitingRecord j d kind)) (R.clerkTakes (R.waiting d kind) (R.result k n) busy)
+unfolding rowTaken carrierFits R.clerkTakes
+waiting-result j i d kind true true R.ret busy e = rw e (refl, refl)
+waiting-result j i d kind true true R.rls busy e = rw e (refl, refl)
+waiting-result j i d kind true false R.ret busy e = rw e (refl, refl)
+waiting-result j i d kind true false R.rls busy e = rw e (refl, refl)
+waiting-result j i d kind false true R.ret busy e = rw e (refl, refl)
+waiting-result j i d kind false true R.rls busy e = rw e (refl, refl)
+waiting-result j i d kind false false R.ret busy e = rw e (refl, refl)
+waiting-result j i d kind false false R.rls busy e = rw e (refl, refl)
+
 waiting-takes :
-    (j : Words) (i : ℕ) (d : R.Data) (ck : Bool) (m : R.Msg) (busy : Bool) →
-    Says j (takePlan i (waitingRecord j d ck) j m busy) (one (waitingRecord j d ck)) (R.clerkTakes (R.waiting d ck) m busy)
+    (j : Words) (i : ℕ) (d : R.Data) (kind : Kind) (m : R.Msg) (busy : Bool) →
+    Says j (takePlan i (waitingRecord j d kind) j m busy) (one (waitingRecord j d kind)) (R.clerkTakes (R.waiting d kind) m busy)
 unfolding rowTaken carrierFits R.clerkTakes R.inRinging
-waiting-takes j i d ck (R.request e can q) busy = rw (request-away (e .kind) (e .service) (askFlags can q)) (refl, refl)
-waiting-takes j i d true (R.result true R.ret) busy = (refl, refl)
-waiting-takes j i d true (R.result true R.rls) busy = (refl, refl)
-waiting-takes j i d true (R.result false R.ret) busy = (refl, refl)
-waiting-takes j i d true (R.result false R.rls) busy = (refl, refl)
-waiting-takes j i d false (R.result true R.ret) busy = (refl, refl)
-waiting-takes j i d false (R.result true R.rls) busy = (refl, refl)
-waiting-takes j i d false (R.result false R.ret) busy = (refl, refl)
-waiting-takes j i d false (R.result false R.rls) busy = (refl, refl)
-waiting-takes j i d ck (R.denied true) busy = (refl, refl)
-waiting-takes j i d ck (R.denied false) busy = (refl, refl)
-waiting-takes j i d ck (R.exec R.ret) true = (refl, refl)
-waiting-takes j i d ck (R.exec R.ret) false = (refl, refl)
-waiting-takes j i d ck (R.exec R.rls) true = (refl, refl)
-waiting-takes j i d ck (R.exec R.rls) false = (refl, refl)
-waiting-takes j i d ck R.ringout busy = (refl, refl)
-waiting-takes j i d ck R.busyAgain busy = (refl, refl)
-waiting-takes j i d ck R.noMatch busy = (refl, refl)
-waiting-takes j i d ck (R.suspend n) busy = (refl, refl)
-waiting-takes j i d ck (R.resume n) busy = (refl, refl)
-waiting-takes j i d ck (R.cancel R.ret) busy = (refl, refl)
-waiting-takes j i d ck (R.cancel R.rls) busy = (refl, refl)
-waiting-takes j i d ck R.alerts busy = (refl, refl)
-waiting-takes j i d ck R.failed busy = (refl, refl)
+waiting-takes j i d kind (R.request e kind′ q) busy = rw (request-away kind′ (e .service) (askFlags (e .canKeep) q)) (refl, refl)
+waiting-takes j i d kind (R.result k n) busy = waiting-result j i d kind (d .canKeep) k n busy refl
+waiting-takes j i d kind (R.denied true) busy = (refl, refl)
+waiting-takes j i d kind (R.denied false) busy = (refl, refl)
+waiting-takes j i d kind (R.exec R.ret) true = (refl, refl)
+waiting-takes j i d kind (R.exec R.ret) false = (refl, refl)
+waiting-takes j i d kind (R.exec R.rls) true = (refl, refl)
+waiting-takes j i d kind (R.exec R.rls) false = (refl, refl)
+waiting-takes j i d kind R.ringout busy = (refl, refl)
+waiting-takes j i d kind R.busyAgain busy = (refl, refl)
+waiting-takes j i d kind R.noMatch busy = (refl, refl)
+waiting-takes j i d kind (R.suspend n) busy = (refl, refl)
+waiting-takes j i d kind (R.resume n) busy = (refl, refl)
+waiting-takes j i d kind (R.cancel R.ret) busy = (refl, refl)
+waiting-takes j i d kind (R.cancel R.rls) busy = (refl, refl)
+waiting-takes j i d kind R.alerts busy = (refl, refl)
+waiting-takes j i d kind R.failed busy = (refl, refl)
 
 live-takes :
-    (j : Words) (i : ℕ) (d : R.Data) (ck k : Bool) (n : R.Conn) (s : R.CState) (m : R.Msg) (busy : Bool) →
-    Says j (takePlan i (liveRecord j d ck k n s) j m busy) (one (liveRecord j d ck k n s)) (R.clerkTakes (R.live d ck k n s) m busy)
+    (j : Words) (i : ℕ) (t : R.Terms) (kind : Kind) (s : R.CState) (m : R.Msg) (busy : Bool) →
+    Says j (takePlan i (liveRecord j t kind s) j m busy) (one (liveRecord j t kind s)) (R.clerkTakes (R.live t kind s) m busy)
 unfolding rowTaken carrierFits R.clerkTakes R.inRinging R.onBusyAgain R.onExec
-live-takes j i d ck k n s (R.request e can q) busy = rw (request-away (e .kind) (e .service) (askFlags can q)) (refl, refl)
-live-takes j i d ck k n R.invoked (R.result given o) busy = (refl, refl)
-live-takes j i d ck k n R.waitAnswer (R.result given o) busy = (refl, refl)
-live-takes j i d ck k n R.ringing (R.result given o) busy = (refl, refl)
-live-takes j i d ck k n R.suspended (R.result given o) busy = (refl, refl)
-live-takes j i d ck k n R.invoked (R.denied true) busy = (refl, refl)
-live-takes j i d ck k n R.invoked (R.denied false) busy = (refl, refl)
-live-takes j i d ck k n R.waitAnswer (R.denied true) busy = (refl, refl)
-live-takes j i d ck k n R.waitAnswer (R.denied false) busy = (refl, refl)
-live-takes j i d ck k n R.ringing (R.denied true) busy = (refl, refl)
-live-takes j i d ck k n R.ringing (R.denied false) busy = (refl, refl)
-live-takes j i d ck k n R.suspended (R.denied true) busy = (refl, refl)
-live-takes j i d ck k n R.suspended (R.denied false) busy = (refl, refl)
-live-takes j i d ck k R.ret R.invoked (R.exec R.ret) true = (refl, refl)
-live-takes j i d ck k R.rls R.invoked (R.exec R.ret) true = (refl, refl)
-live-takes j i d ck k R.ret R.invoked (R.exec R.ret) false = (refl, refl)
-live-takes j i d ck k R.rls R.invoked (R.exec R.ret) false = (refl, refl)
-live-takes j i d ck k R.ret R.invoked (R.exec R.rls) true = (refl, refl)
-live-takes j i d ck k R.rls R.invoked (R.exec R.rls) true = (refl, refl)
-live-takes j i d ck k R.ret R.invoked (R.exec R.rls) false = (refl, refl)
-live-takes j i d ck k R.rls R.invoked (R.exec R.rls) false = (refl, refl)
-live-takes j i d ck k n R.waitAnswer (R.exec R.ret) true = (refl, refl)
-live-takes j i d ck k n R.waitAnswer (R.exec R.ret) false = (refl, refl)
-live-takes j i d ck k n R.waitAnswer (R.exec R.rls) true = (refl, refl)
-live-takes j i d ck k n R.waitAnswer (R.exec R.rls) false = (refl, refl)
-live-takes j i d ck k n R.ringing (R.exec R.ret) true = (refl, refl)
-live-takes j i d ck k n R.ringing (R.exec R.ret) false = (refl, refl)
-live-takes j i d ck k n R.ringing (R.exec R.rls) true = (refl, refl)
-live-takes j i d ck k n R.ringing (R.exec R.rls) false = (refl, refl)
-live-takes j i d ck k n R.suspended (R.exec R.ret) true = (refl, refl)
-live-takes j i d ck k n R.suspended (R.exec R.ret) false = (refl, refl)
-live-takes j i d ck k n R.suspended (R.exec R.rls) true = (refl, refl)
-live-takes j i d ck k n R.suspended (R.exec R.rls) false = (refl, refl)
-live-takes j i d ck k n s R.ringout busy = (refl, refl)
-live-takes j i d ck true n R.invoked R.busyAgain busy = (refl, refl)
-live-takes j i d ck false n R.invoked R.busyAgain busy = (refl, refl)
-live-takes j i d ck true n R.waitAnswer R.busyAgain busy = (refl, refl)
-live-takes j i d ck false n R.waitAnswer R.busyAgain busy = (refl, refl)
-live-takes j i d ck true n R.ringing R.busyAgain busy = (refl, refl)
-live-takes j i d ck false n R.ringing R.busyAgain busy = (refl, refl)
-live-takes j i d ck true n R.suspended R.busyAgain busy = (refl, refl)
-live-takes j i d ck false n R.suspended R.busyAgain busy = (refl, refl)
-live-takes j i d ck k n R.invoked R.noMatch busy = (refl, refl)
-live-takes j i d ck k n R.waitAnswer R.noMatch busy = (refl, refl)
-live-takes j i d ck k n R.ringing R.noMatch busy = (refl, refl)
-live-takes j i d ck k n R.suspended R.noMatch busy = (refl, refl)
-live-takes j i d ck k n s (R.suspend o) busy = (refl, refl)
-live-takes j i d ck k n s (R.resume o) busy = (refl, refl)
-live-takes j i d ck k n R.invoked (R.cancel R.ret) busy = (refl, refl)
-live-takes j i d ck k n R.invoked (R.cancel R.rls) busy = (refl, refl)
-live-takes j i d ck k n R.waitAnswer (R.cancel R.ret) busy = (refl, refl)
-live-takes j i d ck k n R.waitAnswer (R.cancel R.rls) busy = (refl, refl)
-live-takes j i d ck k n R.ringing (R.cancel R.ret) busy = (refl, refl)
-live-takes j i d ck k n R.ringing (R.cancel R.rls) busy = (refl, refl)
-live-takes j i d ck k n R.suspended (R.cancel R.ret) busy = (refl, refl)
-live-takes j i d ck k n R.suspended (R.cancel R.rls) busy = (refl, refl)
-live-takes j i d ck k n R.invoked R.alerts busy = (refl, refl)
-live-takes j i d ck k n R.waitAnswer R.alerts busy = (refl, refl)
-live-takes j i d ck k n R.ringing R.alerts busy = (refl, refl)
-live-takes j i d ck k n R.suspended R.alerts busy = (refl, refl)
-live-takes j i d ck k n R.invoked R.failed busy = (refl, refl)
-live-takes j i d ck k n R.waitAnswer R.failed busy = (refl, refl)
-live-takes j i d ck k R.ret R.ringing R.failed busy = (refl, refl)
-live-takes j i d ck k R.rls R.ringing R.failed busy = (refl, refl)
-live-takes j i d ck k n R.suspended R.failed busy = (refl, refl)
+live-takes j i t kind s (R.request e kind′ q) busy = rw (request-away kind′ (e .service) (askFlags (e .canKeep) q)) (refl, refl)
+live-takes j i t kind R.invoked (R.result given o) busy = (refl, refl)
+live-takes j i t kind R.waitAnswer (R.result given o) busy = (refl, refl)
+live-takes j i t kind R.ringing (R.result given o) busy = (refl, refl)
+live-takes j i t kind R.suspended (R.result given o) busy = (refl, refl)
+live-takes j i t kind R.invoked (R.denied true) busy = (refl, refl)
+live-takes j i t kind R.invoked (R.denied false) busy = (refl, refl)
+live-takes j i t kind R.waitAnswer (R.denied true) busy = (refl, refl)
+live-takes j i t kind R.waitAnswer (R.denied false) busy = (refl, refl)
+live-takes j i t kind R.ringing (R.denied true) busy = (refl, refl)
+live-takes j i t kind R.ringing (R.denied false) busy = (refl, refl)
+live-takes j i t kind R.suspended (R.denied true) busy = (refl, refl)
+live-takes j i t kind R.suspended (R.denied false) busy = (refl, refl)
+live-takes j i (R.chosen d k R.ret) kind R.invoked (R.exec R.ret) true = (refl, refl)
+live-takes j i (R.chosen d k R.rls) kind R.invoked (R.exec R.ret) true = (refl, refl)
+live-takes j i (R.chosen d k R.ret) kind R.invoked (R.exec R.ret) false = (refl, refl)
+live-takes j i (R.chosen d k R.rls) kind R.invoked (R.exec R.ret) false = (refl, refl)
+live-takes j i (R.chosen d k R.ret) kind R.invoked (R.exec R.rls) true = (refl, refl)
+live-takes j i (R.chosen d k R.rls) kind R.invoked (R.exec R.rls) true = (refl, refl)
+live-takes j i (R.chosen d k R.ret) kind R.invoked (R.exec R.rls) false = (refl, refl)
+live-takes j i (R.chosen d k R.rls) kind R.invoked (R.exec R.rls) false = (refl, refl)
+live-takes j i t kind R.waitAnswer (R.exec R.ret) true = (refl, refl)
+live-takes j i t kind R.waitAnswer (R.exec R.ret) false = (refl, refl)
+live-takes j i t kind R.waitAnswer (R.exec R.rls) true = (refl, refl)
+live-takes j i t kind R.waitAnswer (R.exec R.rls) false = (refl, refl)
+live-takes j i t kind R.ringing (R.exec R.ret) true = (refl, refl)
+live-takes j i t kind R.ringing (R.exec R.ret) false = (refl, refl)
+live-takes j i t kind R.ringing (R.exec R.rls) true = (refl, refl)
+live-takes j i t kind R.ringing (R.exec R.rls) false = (refl, refl)
+live-takes j i t kind R.suspended (R.exec R.ret) true = (refl, refl)
+live-takes j i t kind R.suspended (R.exec R.ret) false = (refl, refl)
+live-takes j i t kind R.suspended (R.exec R.rls) true = (refl, refl)
+live-takes j i t kind R.suspended (R.exec R.rls) false = (refl, refl)
+live-takes j i t kind s R.ringout busy = (refl, refl)
+live-takes j i (R.chosen d true n) kind R.invoked R.busyAgain busy = (refl, refl)
+live-takes j i (R.chosen d false n) kind R.invoked R.busyAgain busy = (refl, refl)
+live-takes j i (R.chosen d true n) kind R.waitAnswer R.busyAgain busy = (refl, refl)
+live-takes j i (R.chosen d false n) kind R.waitAnswer R.busyAgain busy = (refl, refl)
+live-takes j i (R.chosen d true n) kind R.ringing R.busyAgain busy = (refl, refl)
+live-takes j i (R.chosen d false n) kind R.ringing R.busyAgain busy = (refl, refl)
+live-takes j i (R.chosen d true n) kind R.suspended R.busyAgain busy = (refl, refl)
+live-takes j i (R.chosen d false n) kind R.suspended R.busyAgain busy = (refl, refl)
+live-takes j i t kind R.invoked R.noMatch busy = (refl, refl)
+live-takes j i t kind R.waitAnswer R.noMatch busy = (refl, refl)
+live-takes j i t kind R.ringing R.noMatch busy = (refl, refl)
+live-takes j i t kind R.suspended R.noMatch busy = (refl, refl)
+live-takes j i t kind s (R.suspend o) busy = (refl, refl)
+live-takes j i t kind s (R.resume o) busy = (refl, refl)
+live-takes j i t kind R.invoked (R.cancel R.ret) busy = (refl, refl)
+live-takes j i t kind R.invoked (R.cancel R.rls) busy = (refl, refl)
+live-takes j i t kind R.waitAnswer (R.cancel R.ret) busy = (refl, refl)
+live-takes j i t kind R.waitAnswer (R.cancel R.rls) busy = (refl, refl)
+live-takes j i t kind R.ringing (R.cancel R.ret) busy = (refl, refl)
+live-takes j i t kind R.ringing (R.cancel R.rls) busy = (refl, refl)
+live-takes j i t kind R.suspended (R.cancel R.ret) busy = (refl, refl)
+live-takes j i t kind R.suspended (R.cancel R.rls) busy = (refl, refl)
+live-takes j i t kind R.invoked R.alerts busy = (refl, refl)
+live-takes j i t kind R.waitAnswer R.alerts busy = (refl, refl)
+live-takes j i t kind R.ringing R.alerts busy = (refl, refl)
+live-takes j i t kind R.suspended R.alerts busy = (refl, refl)
+live-takes j i t kind R.invoked R.failed busy = (refl, refl)
+live-takes j i t kind R.waitAnswer R.failed busy = (refl, refl)
+live-takes j i (R.chosen d k R.ret) kind R.ringing R.failed busy = (refl, refl)
+live-takes j i (R.chosen d k R.rls) kind R.ringing R.failed busy = (refl, refl)
+live-takes j i t kind R.suspended R.failed busy = (refl, refl)
 
 -- ---- acts and timers, by the record
 abbrev rowRead : R.CAct → Row
@@ -238,27 +234,27 @@ abbrev ownPlan : ℕ → Record → Row → ℕ → Plan
 ownPlan i r row refusal = pick (holdsFor row r) (rowTaken i r row) (refusedPlan refusal Sending.Nothing)
 
 waiting-acts :
-    (j : Words) (i : ℕ) (d : R.Data) (ck : Bool) (x : R.CAct) (refusal : ℕ) →
-    Says j (ownPlan i (waitingRecord j d ck) (rowRead x) refusal) (one (waitingRecord j d ck)) (R.clerkActs (R.waiting d ck) x)
+    (j : Words) (i : ℕ) (d : R.Data) (kind : Kind) (x : R.CAct) (refusal : ℕ) →
+    Says j (ownPlan i (waitingRecord j d kind) (rowRead x) refusal) (one (waitingRecord j d kind)) (R.clerkActs (R.waiting d kind) x)
 unfolding rowTaken R.clerkActs R.waitingActs R.clerkTakes R.inRinging
-waiting-acts j i d ck (R.act Act.Accept) refusal = (refl, refl)
-waiting-acts j i d ck (R.act Act.Resume) refusal = (refl, refl)
-waiting-acts j i d ck (R.act Act.GoOn) refusal = (refl, refl)
-waiting-acts j i d ck (R.act Act.Cancel) refusal = (refl, refl)
-waiting-acts j i d ck (R.timer T1) refusal = (refl, refl)
-waiting-acts j i d ck (R.timer T2) refusal = (refl, refl)
-waiting-acts j i d ck (R.timer T3) refusal = (refl, refl)
-waiting-acts j i d ck (R.signal callDied) refusal = (refl, refl)
-waiting-acts j i d ck (R.signal rejected) refusal = (refl, refl)
+waiting-acts j i d kind (R.act Act.Accept) refusal = (refl, refl)
+waiting-acts j i d kind (R.act Act.Resume) refusal = (refl, refl)
+waiting-acts j i d kind (R.act Act.GoOn) refusal = (refl, refl)
+waiting-acts j i d kind (R.act Act.Cancel) refusal = (refl, refl)
+waiting-acts j i d kind (R.timer T1) refusal = (refl, refl)
+waiting-acts j i d kind (R.timer T2) refusal = (refl, refl)
+waiting-acts j i d kind (R.timer T3) refusal = (refl, refl)
+waiting-acts j i d kind (R.signal callDied) refusal = (refl, refl)
+waiting-acts j i d kind (R.signal rejected) refusal = (refl, refl)
 
 -- a row that ends the record with a ccCancel, in a state where it is taken; and one that is always taken
 live-cancels :
-    (j : Words) (i : ℕ) (d : R.Data) (ck k : Bool) (n : R.Conn) (s : R.CState) (row : Row) (refusal : ℕ) →
-    holdsFor row (liveRecord j d ck k n s) ≡ true → effectOf row .next ≡ Gone → effectOf row .sends ≡ Sends.One CcCancel →
-    Says j (ownPlan i (liveRecord j d ck k n s) row refusal) (one (liveRecord j d ck k n s)) (R.absent, R.cancel n ∷ [])
+    (j : Words) (i : ℕ) (t : R.Terms) (kind : Kind) (s : R.CState) (row : Row) (refusal : ℕ) →
+    holdsFor row (liveRecord j t kind s) ≡ true → effectOf row .next ≡ Gone → effectOf row .sends ≡ Sends.One CcCancel →
+    Says j (ownPlan i (liveRecord j t kind s) row refusal) (one (liveRecord j t kind s)) (R.absent, R.cancel (R.conn t) ∷ [])
 unfolding rowTaken
-live-cancels j i d ck k R.ret s row refusal held ends cancels = rw (held, ends, cancels) (refl, refl)
-live-cancels j i d ck k R.rls s row refusal held ends cancels = rw (held, ends, cancels) (refl, refl)
+live-cancels j i (R.chosen d k R.ret) kind s row refusal held ends cancels = rw (held, ends, cancels) (refl, refl)
+live-cancels j i (R.chosen d k R.rls) kind s row refusal held ends cancels = rw (held, ends, cancels) (refl, refl)
 
 always : (s : R.CState) → holdsIn Always (clerkStateRead s) ≡ true
 always R.invoked = refl
@@ -267,43 +263,43 @@ always R.ringing = refl
 always R.suspended = refl
 
 live-acts :
-    (j : Words) (i : ℕ) (d : R.Data) (ck k : Bool) (n : R.Conn) (s : R.CState) (x : R.CAct) (refusal : ℕ) →
-    Says j (ownPlan i (liveRecord j d ck k n s) (rowRead x) refusal) (one (liveRecord j d ck k n s)) (R.clerkActs (R.live d ck k n s) x)
+    (j : Words) (i : ℕ) (t : R.Terms) (kind : Kind) (s : R.CState) (x : R.CAct) (refusal : ℕ) →
+    Says j (ownPlan i (liveRecord j t kind s) (rowRead x) refusal) (one (liveRecord j t kind s)) (R.clerkActs (R.live t kind s) x)
 unfolding rowTaken R.clerkActs R.liveActs R.clerkTakes R.inRinging
-live-acts j i d ck k n R.invoked (R.act Act.Accept) refusal = (refl, refl)
-live-acts j i d ck k n R.waitAnswer (R.act Act.Accept) refusal = (refl, refl)
-live-acts j i d ck k n R.ringing (R.act Act.Accept) refusal = (refl, refl)
-live-acts j i d ck k n R.suspended (R.act Act.Accept) refusal = (refl, refl)
-live-acts j i d ck k n R.invoked (R.act Act.Resume) refusal = (refl, refl)
-live-acts j i d ck k n R.waitAnswer (R.act Act.Resume) refusal = (refl, refl)
-live-acts j i d ck k n R.ringing (R.act Act.Resume) refusal = (refl, refl)
-live-acts j i d ck k R.ret R.suspended (R.act Act.Resume) refusal = (refl, refl)
-live-acts j i d ck k R.rls R.suspended (R.act Act.Resume) refusal = (refl, refl)
-live-acts j i d ck k n R.invoked (R.act Act.GoOn) refusal = (refl, refl)
-live-acts j i d ck k n R.waitAnswer (R.act Act.GoOn) refusal = (refl, refl)
-live-acts j i d ck k n R.ringing (R.act Act.GoOn) refusal = (refl, refl)
-live-acts j i d ck k n R.suspended (R.act Act.GoOn) refusal = (refl, refl)
-live-acts j i d ck k n s (R.act Act.Cancel) refusal = live-cancels j i d ck k n s (rowOfAct Act.Cancel) refusal (always s) refl refl
-live-acts j i d ck k n R.invoked (R.timer T1) refusal = (refl, refl)
-live-acts j i d ck k n R.waitAnswer (R.timer T1) refusal = (refl, refl)
-live-acts j i d ck k n R.ringing (R.timer T1) refusal = (refl, refl)
-live-acts j i d ck k n R.suspended (R.timer T1) refusal = (refl, refl)
-live-acts j i d ck k n R.invoked (R.timer T2) refusal = live-cancels j i d ck k n R.invoked (rowOfTimer T2) refusal refl refl refl
-live-acts j i d ck k n R.waitAnswer (R.timer T2) refusal = live-cancels j i d ck k n R.waitAnswer (rowOfTimer T2) refusal refl refl refl
-live-acts j i d ck k n R.ringing (R.timer T2) refusal = (refl, refl)
-live-acts j i d ck k n R.suspended (R.timer T2) refusal = live-cancels j i d ck k n R.suspended (rowOfTimer T2) refusal refl refl refl
-live-acts j i d ck k n R.invoked (R.timer T3) refusal = (refl, refl)
-live-acts j i d ck k n R.waitAnswer (R.timer T3) refusal = live-cancels j i d ck k n R.waitAnswer (rowOfTimer T3) refusal refl refl refl
-live-acts j i d ck k n R.ringing (R.timer T3) refusal = (refl, refl)
-live-acts j i d ck k n R.suspended (R.timer T3) refusal = (refl, refl)
-live-acts j i d ck k n R.invoked (R.signal callDied) refusal = (refl, refl)
-live-acts j i d ck k n R.waitAnswer (R.signal callDied) refusal = (refl, refl)
-live-acts j i d ck k n R.ringing (R.signal callDied) refusal = live-cancels j i d ck k n R.ringing Row.CallFails refusal refl refl refl
-live-acts j i d ck k n R.suspended (R.signal callDied) refusal = (refl, refl)
-live-acts j i d ck k n R.invoked (R.signal rejected) refusal = (refl, refl)
-live-acts j i d ck k n R.waitAnswer (R.signal rejected) refusal = (refl, refl)
-live-acts j i d ck k n R.ringing (R.signal rejected) refusal = (refl, refl)
-live-acts j i d ck k n R.suspended (R.signal rejected) refusal = (refl, refl)
+live-acts j i t kind R.invoked (R.act Act.Accept) refusal = (refl, refl)
+live-acts j i t kind R.waitAnswer (R.act Act.Accept) refusal = (refl, refl)
+live-acts j i t kind R.ringing (R.act Act.Accept) refusal = (refl, refl)
+live-acts j i t kind R.suspended (R.act Act.Accept) refusal = (refl, refl)
+live-acts j i t kind R.invoked (R.act Act.Resume) refusal = (refl, refl)
+live-acts j i t kind R.waitAnswer (R.act Act.Resume) refusal = (refl, refl)
+live-acts j i t kind R.ringing (R.act Act.Resume) refusal = (refl, refl)
+live-acts j i (R.chosen d k R.ret) kind R.suspended (R.act Act.Resume) refusal = (refl, refl)
+live-acts j i (R.chosen d k R.rls) kind R.suspended (R.act Act.Resume) refusal = (refl, refl)
+live-acts j i t kind R.invoked (R.act Act.GoOn) refusal = (refl, refl)
+live-acts j i t kind R.waitAnswer (R.act Act.GoOn) refusal = (refl, refl)
+live-acts j i t kind R.ringing (R.act Act.GoOn) refusal = (refl, refl)
+live-acts j i t kind R.suspended (R.act Act.GoOn) refusal = (refl, refl)
+live-acts j i t kind s (R.act Act.Cancel) refusal = live-cancels j i t kind s (rowOfAct Act.Cancel) refusal (always s) refl refl
+live-acts j i t kind R.invoked (R.timer T1) refusal = (refl, refl)
+live-acts j i t kind R.waitAnswer (R.timer T1) refusal = (refl, refl)
+live-acts j i t kind R.ringing (R.timer T1) refusal = (refl, refl)
+live-acts j i t kind R.suspended (R.timer T1) refusal = (refl, refl)
+live-acts j i t kind R.invoked (R.timer T2) refusal = live-cancels j i t kind R.invoked (rowOfTimer T2) refusal refl refl refl
+live-acts j i t kind R.waitAnswer (R.timer T2) refusal = live-cancels j i t kind R.waitAnswer (rowOfTimer T2) refusal refl refl refl
+live-acts j i t kind R.ringing (R.timer T2) refusal = (refl, refl)
+live-acts j i t kind R.suspended (R.timer T2) refusal = live-cancels j i t kind R.suspended (rowOfTimer T2) refusal refl refl refl
+live-acts j i t kind R.invoked (R.timer T3) refusal = (refl, refl)
+live-acts j i t kind R.waitAnswer (R.timer T3) refusal = live-cancels j i t kind R.waitAnswer (rowOfTimer T3) refusal refl refl refl
+live-acts j i t kind R.ringing (R.timer T3) refusal = (refl, refl)
+live-acts j i t kind R.suspended (R.timer T3) refusal = (refl, refl)
+live-acts j i t kind R.invoked (R.signal callDied) refusal = (refl, refl)
+live-acts j i t kind R.waitAnswer (R.signal callDied) refusal = (refl, refl)
+live-acts j i t kind R.ringing (R.signal callDied) refusal = live-cancels j i t kind R.ringing Row.CallFails refusal refl refl refl
+live-acts j i t kind R.suspended (R.signal callDied) refusal = (refl, refl)
+live-acts j i t kind R.invoked (R.signal rejected) refusal = (refl, refl)
+live-acts j i t kind R.waitAnswer (R.signal rejected) refusal = (refl, refl)
+live-acts j i t kind R.ringing (R.signal rejected) refusal = (refl, refl)
+live-acts j i t kind R.suspended (R.signal rejected) refusal = (refl, refl)
 
 -- ---- the record that is found is the one that is read
 module _ (j : Words) (rs : List Record) where
@@ -359,10 +355,10 @@ module _ (j : Words) (rs : List Record) where
     found-takes R.absent Nothing e h =
         subst (λ (b : Held Record). Says j (takes Nothing) b (R.clerkTakes R.absent m busy)) (sym h) (absent-takes j rs m busy)
     found-takes R.absent (At i) e h = not-missed i e h
-    found-takes (R.waiting d ck) Nothing e h = not-found e h
-    found-takes (R.waiting d ck) (At i) e h = taken-says (R.waiting d ck) i (waitingRecord j d ck) e h (waiting-takes j i d ck m busy)
-    found-takes (R.live d ck k n s) Nothing e h = not-found e h
-    found-takes (R.live d ck k n s) (At i) e h = taken-says (R.live d ck k n s) i (liveRecord j d ck k n s) e h (live-takes j i d ck k n s m busy)
+    found-takes (R.waiting d kind) Nothing e h = not-found e h
+    found-takes (R.waiting d kind) (At i) e h = taken-says (R.waiting d kind) i (waitingRecord j d kind) e h (waiting-takes j i d kind m busy)
+    found-takes (R.live t kind s) Nothing e h = not-found e h
+    found-takes (R.live t kind s) (At i) e h = taken-says (R.live t kind s) i (liveRecord j t kind s) e h (live-takes j i t kind s m busy)
 
     message-says :
         (c : R.Clerk) → held clerkView j rs ≡ clerkRead j c → Says j (planFor rs (heard j m busy)) (held clerkView j rs) (R.clerkTakes c m busy)
@@ -393,39 +389,39 @@ module _ (j : Words) (rs : List Record) where
     unfolding planOf R.clerkActs
     found-acts R.absent Nothing e h = (h, refl)
     found-acts R.absent (At i) e h = not-missed i e h
-    found-acts (R.waiting d ck) Nothing e h = not-found e h
-    found-acts (R.waiting d ck) (At i) e h = done-says (R.waiting d ck) i (waitingRecord j d ck) e h (waiting-acts j i d ck x refusal)
-    found-acts (R.live d ck k n s) Nothing e h = not-found e h
-    found-acts (R.live d ck k n s) (At i) e h = done-says (R.live d ck k n s) i (liveRecord j d ck k n s) e h (live-acts j i d ck k n s x refusal)
+    found-acts (R.waiting d kind) Nothing e h = not-found e h
+    found-acts (R.waiting d kind) (At i) e h = done-says (R.waiting d kind) i (waitingRecord j d kind) e h (waiting-acts j i d kind x refusal)
+    found-acts (R.live t kind s) Nothing e h = not-found e h
+    found-acts (R.live t kind s) (At i) e h = done-says (R.live t kind s) i (liveRecord j t kind s) e h (live-acts j i t kind s x refusal)
 
 -- ---- timers that run out
 abbrev ranOut : Timer → Plan → Bool
 ranOut timer plan = both (counts timer) (done (plan .outcome))
 
 waiting-runs-out :
-    (j : Words) (i : ℕ) (d : R.Data) (ck : Bool) (timer : Timer) →
-    ranOut timer (ownPlan i (waitingRecord j d ck) (rowRead (R.timer timer)) 9) ≡ R.runsOut (R.waiting d ck) (R.timer timer)
+    (j : Words) (i : ℕ) (d : R.Data) (kind : Kind) (timer : Timer) →
+    ranOut timer (ownPlan i (waitingRecord j d kind) (rowRead (R.timer timer)) 9) ≡ R.runsOut (R.waiting d kind) (R.timer timer)
 unfolding rowTaken R.clerkActs R.waitingActs
-waiting-runs-out j i d ck T1 = refl
-waiting-runs-out j i d ck T2 = refl
-waiting-runs-out j i d ck T3 = refl
+waiting-runs-out j i d kind T1 = refl
+waiting-runs-out j i d kind T2 = refl
+waiting-runs-out j i d kind T3 = refl
 
 live-runs-out :
-    (j : Words) (i : ℕ) (d : R.Data) (ck k : Bool) (n : R.Conn) (s : R.CState) (timer : Timer) →
-    ranOut timer (ownPlan i (liveRecord j d ck k n s) (rowRead (R.timer timer)) 9) ≡ R.runsOut (R.live d ck k n s) (R.timer timer)
+    (j : Words) (i : ℕ) (t : R.Terms) (kind : Kind) (s : R.CState) (timer : Timer) →
+    ranOut timer (ownPlan i (liveRecord j t kind s) (rowRead (R.timer timer)) 9) ≡ R.runsOut (R.live t kind s) (R.timer timer)
 unfolding rowTaken R.clerkActs R.liveActs
-live-runs-out j i d ck k n R.invoked T1 = refl
-live-runs-out j i d ck k n R.waitAnswer T1 = refl
-live-runs-out j i d ck k n R.ringing T1 = refl
-live-runs-out j i d ck k n R.suspended T1 = refl
-live-runs-out j i d ck k n R.invoked T2 = refl
-live-runs-out j i d ck k n R.waitAnswer T2 = refl
-live-runs-out j i d ck k n R.ringing T2 = refl
-live-runs-out j i d ck k n R.suspended T2 = refl
-live-runs-out j i d ck k n R.invoked T3 = refl
-live-runs-out j i d ck k n R.waitAnswer T3 = refl
-live-runs-out j i d ck k n R.ringing T3 = refl
-live-runs-out j i d ck k n R.suspended T3 = refl
+live-runs-out j i t kind R.invoked T1 = refl
+live-runs-out j i t kind R.waitAnswer T1 = refl
+live-runs-out j i t kind R.ringing T1 = refl
+live-runs-out j i t kind R.suspended T1 = refl
+live-runs-out j i t kind R.invoked T2 = refl
+live-runs-out j i t kind R.waitAnswer T2 = refl
+live-runs-out j i t kind R.ringing T2 = refl
+live-runs-out j i t kind R.suspended T2 = refl
+live-runs-out j i t kind R.invoked T3 = refl
+live-runs-out j i t kind R.waitAnswer T3 = refl
+live-runs-out j i t kind R.ringing T3 = refl
+live-runs-out j i t kind R.suspended T3 = refl
 
 absent-runs-out : (timer : Timer) → both (counts timer) false ≡ R.runsOut R.absent (R.timer timer)
 absent-runs-out T1 = refl
@@ -447,10 +443,10 @@ module _ (j : Words) (rs : List Record) (timer : Timer) where
   unfolding planOf
   found-runs-out R.absent Nothing e h = absent-runs-out timer
   found-runs-out R.absent (At i) e h = not-missed j rs i e h
-  found-runs-out (R.waiting d ck) Nothing e h = not-found j rs e h
-  found-runs-out (R.waiting d ck) (At i) e h = runs-out-at (R.waiting d ck) i (waitingRecord j d ck) e h (waiting-runs-out j i d ck timer)
-  found-runs-out (R.live d ck k n s) Nothing e h = not-found j rs e h
-  found-runs-out (R.live d ck k n s) (At i) e h = runs-out-at (R.live d ck k n s) i (liveRecord j d ck k n s) e h (live-runs-out j i d ck k n s timer)
+  found-runs-out (R.waiting d kind) Nothing e h = not-found j rs e h
+  found-runs-out (R.waiting d kind) (At i) e h = runs-out-at (R.waiting d kind) i (waitingRecord j d kind) e h (waiting-runs-out j i d kind timer)
+  found-runs-out (R.live t kind s) Nothing e h = not-found j rs e h
+  found-runs-out (R.live t kind s) (At i) e h = runs-out-at (R.live t kind s) i (liveRecord j t kind s) e h (live-runs-out j i t kind s timer)
 
 -- ---- every decision is about the identifier that its input names
 module _ (rs : List Record) (input : Input) where
@@ -490,11 +486,11 @@ module _ (rs : List Record) (input : Input) where
 -- what is read is used and has the identifier
 clerk-its : (j : Words) (c : R.Clerk) → Its clerkView j (clerkRead j c)
 clerk-its j R.absent = tt
-clerk-its j (R.waiting d ck) = (refl, refl)
-clerk-its j (R.live d ck k n R.invoked) = (refl, refl)
-clerk-its j (R.live d ck k n R.waitAnswer) = (refl, refl)
-clerk-its j (R.live d ck k n R.ringing) = (refl, refl)
-clerk-its j (R.live d ck k n R.suspended) = (refl, refl)
+clerk-its j (R.waiting d kind) = (refl, refl)
+clerk-its j (R.live t kind R.invoked) = (refl, refl)
+clerk-its j (R.live t kind R.waitAnswer) = (refl, refl)
+clerk-its j (R.live t kind R.ringing) = (refl, refl)
+clerk-its j (R.live t kind R.suspended) = (refl, refl)
 
 -- ---- the desk
 -- an ask is refused, or stored and sent
@@ -502,7 +498,7 @@ pub data AskStep (d : Desk) (names : Names) (q : Request) (after : Stepped) : Ty
   refused : done (after .outcome) ≡ false → after .desk ≡ d → after .outcome .sending ≡ Sending.Nothing → AskStep d names q after
   stored :
       done (after .outcome) ≡ true →
-      ClerkStep after (names .identifier) (R.waiting (dataOf names q) (canKeepSent (q .flags)), askRead names q ∷ []) → AskStep d names q after
+      ClerkStep after (names .identifier) (R.waiting (dataOf names q) (q .kind), askRead names q ∷ []) → AskStep d names q after
 
 module _ (d : Desk) (reached : Reached d) where
   abbrev rs : List Record
@@ -571,7 +567,7 @@ module _ (d : Desk) (reached : Reached d) where
     ask-place Nothing new e = refused refl refl refl
     ask-place (At i) new e =
         stored refl
-        (plan-step (names .identifier) (Input.Ask names q) (Store i q) (R.waiting (dataOf names q) (canKeepSent (q .flags)), askRead names q ∷ []) refl
+        (plan-step (names .identifier) (Input.Ask names q) (Store i q) (R.waiting (dataOf names q) (q .kind), askRead names q ∷ []) refl
         (stores i (newRecord names q) e new) (refl, ap (λ (l : Letter). messageOf l ∷ []) (sym (ask-letter names q))))
 
     ask-found : (f : Found) → meant (names .identifier) rs ≡ f → AskStep d names q (asks (askFound rs q f))

@@ -8,7 +8,6 @@ use Rattle.lists.specs.declared.words.Words.{Words}
 use Rattle.message.specs.declared.Message.{Message}
 use Rattle.desk.specs.declared.outcome.Sending.{Sending}
 use Rattle.desk.specs.declared.outcome.Sending.the-variants as Sending
-use Rattle.terms.specs.Request.{canKeepSent}
 use Rattle.terms.specs.declared.request.Names.{Names}
 use Rattle.terms.specs.declared.request.Request.{Request}
 use Rattle.clerk_table.specs.Inputs.{namesOf}
@@ -170,7 +169,7 @@ module _ {p : R.Policy} {w : World} (g : Good p w) (known : Known p w) where
 
     ask-taken :
         done (asked .outcome) ≡ true → (n : R.Net) → Sim (names .identifier) w n →
-        R.askStep n (dataOf names q) (canKeepSent (q .flags)) (q .flags / 2) (n .used) ≡ R.afterAsk n (dataOf names q) (canKeepSent (q .flags)) (q .flags / 2)
+        R.askStep n (dataOf names q) (q .kind) (q .flags / 2) (n .used) ≡ R.afterAsk n (dataOf names q) (q .kind) (q .flags / 2)
     unfolding R.askStep
     ask-taken so n sim =
         let fresh : n .used ≡ false = sym (sim .used) ∙ allowed .1 so in
@@ -190,7 +189,7 @@ module _ {p : R.Policy} {w : World} (g : Good p w) (known : Known p w) where
         clerk-turn refl ask-reached s clear (others-held (w .clerk) (g .clerk) (Input.Ask names q) (allowed .0)) (g .down) (λ j d. refl)
         (λ j d. unnoted-ask (w .history) k j (done (asked .outcome)) d)
         (λ n r sim. (
-          R.asks (dataOf names q) (canKeepSent (q .flags)) (q .flags / 2),
+          R.asks (dataOf names q) (q .kind) (q .flags / 2),
           (
             tt,
             subst (Sim k (clerkStepped w (w .down) asked (withTakenUp (w .history) (done (asked .outcome)) k))) (sym (ask-taken so n sim))

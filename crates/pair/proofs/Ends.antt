@@ -9,6 +9,7 @@ use Rattle.lists.specs.declared.words.Words.{Words}
 use Rattle.message.specs.Format.{inRange}
 use Rattle.message.specs.declared.Carrier.the-variants as Carrier
 use Rattle.message.specs.declared.Body.the-variants as Body
+use Rattle.message.specs.declared.Kind.{Kind}
 use Rattle.message.specs.declared.Message.{Message}
 use Rattle.desk.specs.Letter.{letterOf, messageOf}
 use Rattle.desk.specs.Sends.{plainLetter}
@@ -67,34 +68,41 @@ suspendedRead (R.await m) = m
 suspendedRead R.alert = false
 
 -- ---- what an end holds of the request with an identifier
-abbrev pub termsRead : Words → R.Data → Keep → Connection → Terms
-termsRead identifier d keep connection =
+abbrev pub termsRead : Words → R.Data → Kind → Keep → Connection → Terms
+termsRead identifier d kind keep connection =
     record {
       identifier = identifier;
       numberA = d .numberA;
       numberB = d .numberB;
       service = d .service;
-      kind = d .kind;
+      kind = kind;
       keep = keep;
       connection = connection;
     }
 
-abbrev pub clerkRecord : Words → R.Data → Bool → ClerkStates.State → Keep → Connection → ClerkRecord.Record
-clerkRecord identifier d ck state keep connection = record { terms = termsRead identifier d keep connection; state = state; canKeep = ck }
+-- once the choices are made they are the same at both ends
+abbrev pub chosenRead : Words → R.Terms → Kind → Terms
+chosenRead identifier t kind = termsRead identifier (R.asked t) kind (keepRead (R.keep t)) (connRead (R.conn t))
+
+abbrev pub waitingRecord : Words → R.Data → Kind → ClerkRecord.Record
+waitingRecord identifier d kind = record { terms = termsRead identifier d kind Keep.Empty Connection.Empty; state = ClerkState.WaitAck; canKeep = d .canKeep }
+
+abbrev pub liveRecord : Words → R.Terms → Kind → R.CState → ClerkRecord.Record
+liveRecord identifier t kind s = record { terms = chosenRead identifier t kind; state = clerkStateRead s; canKeep = R.asked t .canKeep }
 
 abbrev pub clerkRead : Words → R.Clerk → P.Held ClerkRecord.Record
 clerkRead identifier R.absent = P.none
-clerkRead identifier (R.waiting d ck) = P.one (clerkRecord identifier d ck ClerkState.WaitAck Keep.Empty Connection.Empty)
-clerkRead identifier (R.live d ck k n s) = P.one (clerkRecord identifier d ck (clerkStateRead s) (keepRead k) (connRead n))
+clerkRead identifier (R.waiting d kind) = P.one (waitingRecord identifier d kind)
+clerkRead identifier (R.live t kind s) = P.one (liveRecord identifier t kind s)
 
 -- the activity mark is no part of the reading
-abbrev pub lineRecord : Words → Bool → R.Data → Bool → R.Conn → R.LState → LineRecord.Record
-lineRecord identifier active d k n s =
-    record { terms = termsRead identifier d (keepRead k) (connRead n); state = lineStateRead s; active = active; suspended = suspendedRead s }
+abbrev pub lineRecord : Words → Bool → R.Terms → Kind → R.LState → LineRecord.Record
+lineRecord identifier active t kind s =
+    record { terms = chosenRead identifier t kind; state = lineStateRead s; active = active; suspended = suspendedRead s }
 
 abbrev pub lineRead : Words → Bool → R.Line → P.Held LineRecord.Record
 lineRead identifier active R.none = P.none
-lineRead identifier active (R.holds d k n s) = P.one (lineRecord identifier active d k n s)
+lineRead identifier active (R.holds t kind s) = P.one (lineRecord identifier active t kind s)
 
 -- ---- its messages
 abbrev pub byConn : {A : Type 0} → R.Conn → A → A → A
@@ -105,11 +113,11 @@ byConn R.rls retained released = released
 abbrev pub namesRead : Words → R.Data → Names
 namesRead identifier d = record { identifier = identifier; numberA = d .numberA; numberB = d .numberB }
 
-abbrev pub requestRead : R.Data → Bool → ℕ → Request
-requestRead d ck q = record { kind = d .kind; service = d .service; flags = askFlags ck q }
+abbrev pub requestRead : R.Data → Kind → ℕ → Request
+requestRead d kind q = record { kind = kind; service = d .service; flags = askFlags (d .canKeep) q }
 
 abbrev pub letterRead : Words → R.Msg → Letter
-letterRead identifier (R.request d ck q) = requestLetter (namesRead identifier d) (requestRead d ck q)
+letterRead identifier (R.request d kind q) = requestLetter (namesRead identifier d) (requestRead d kind q)
 letterRead identifier (R.result k n) = plainLetter identifier (byConn n Carrier.Connect Carrier.ReleaseComplete) (Body.RequestResult (pick k 1 0))
 letterRead identifier (R.denied short) = plainLetter identifier Carrier.ReleaseComplete (Body.RequestError (pick short 1 2))
 letterRead identifier (R.exec n) = plainLetter identifier (byConn n Carrier.Facility Carrier.Setup) Body.CcExecPossible
@@ -139,10 +147,10 @@ Kept identifier = wordsOf (bytesOf identifier) ≡ identifier
 
 -- an ask's data, and its message
 abbrev pub dataOf : Names → Request → R.Data
-dataOf names q = record { numberA = names .numberA; numberB = names .numberB; service = q .service; kind = q .kind }
+dataOf names q = record { numberA = names .numberA; numberB = names .numberB; service = q .service; canKeep = canKeepSent (q .flags) }
 
 abbrev pub askRead : Names → Request → R.Msg
-askRead names q = R.request (dataOf names q) (canKeepSent (q .flags)) (q .flags / 2)
+askRead names q = R.request (dataOf names q) (q .kind) (q .flags / 2)
 
 -- ---- inputs
 abbrev pub lineActRead : LineActs.Act → R.LAct

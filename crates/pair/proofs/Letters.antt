@@ -38,7 +38,7 @@ use Rattle.pair.proofs.Ends.{letterRead, messageRead, ClearLetter, Clea
 -- ---- identifiers
 -- every message carries the identifier of its request
 pub letter-name : (j : Words) (m : R.Msg) → letterRead j m .identifier ≡ j
-letter-name j (R.request d ck q) = refl
+letter-name j (R.request d kind q) = refl
 letter-name j (R.result k n) = refl
 letter-name j (R.denied short) = refl
 letter-name j (R.exec n) = refl
@@ -73,7 +73,7 @@ plain-back j carrier body kept =
 
 pub clear-plain : (j : Words) (m : R.Msg) → NotReq m → Kept j → Clear j m
 unfolding inRange messageOf
-clear-plain j (R.request d ck q) never kept = absurd never
+clear-plain j (R.request d kind q) never kept = absurd never
 clear-plain j (R.result true n) plain kept = record { back = plain-back j _ _ kept; ranged = refl }
 clear-plain j (R.result false n) plain kept = record { back = plain-back j _ _ kept; ranged = refl }
 clear-plain j (R.denied true) plain kept = record { back = plain-back j _ _ kept; ranged = refl }

@@ -6,6 +6,7 @@ use mathlib.Core.List.{List}
 use lib.ListN.{length, getD}
 use Rattle.lists.specs.declared.Found.the-variants.{At, Nothing}
 use Rattle.lists.specs.declared.words.Words.{Words}
+use Rattle.message.specs.declared.Kind.{Kind}
 use Rattle.places.specs.Places as P
 use Rattle.places.proofs.Holding.{held-found, held-missed}
 use Rattle.line_table.specs.Step.{changed, rowTaken}
@@ -35,9 +36,9 @@ policy-kept ws change full = rw (keeps-applied ws change full, retains-applied w
 -- what is read is used and has the identifier
 line-its : (j : Words) (active : Bool) (l : R.Line) → Its lineView j (lineRead j active l)
 line-its j active R.none = tt
-line-its j active (R.holds d k n R.idle) = (refl, refl)
-line-its j active (R.holds d k n (R.await m)) = (refl, refl)
-line-its j active (R.holds d k n R.alert) = (refl, refl)
+line-its j active (R.holds t kind R.idle) = (refl, refl)
+line-its j active (R.holds t kind (R.await m)) = (refl, refl)
+line-its j active (R.holds t kind R.alert) = (refl, refl)
 
 -- ---- a plan that does to the request with an identifier what a reading says
 abbrev pub OwnChange : List Record → Words → Change → Type 0
@@ -68,11 +69,11 @@ plan-step d reached j plan reading does l b h = by (does .answer l b h)
 -- ---- by what a search finds
 -- what is found is what is held, as it is read
 pub found-read :
-    (ws : List ℕ) (identifier : Words) (b : Bool) (d : R.Data) (k : Bool) (n : R.Conn) (s : R.LState) (i : ℕ) →
-    meant identifier (records ws) ≡ At i → P.held lineView identifier (records ws) ≡ lineRead identifier b (R.holds d k n s) →
-    getD (records ws) i blank ≡ lineRecord identifier b d k n s
+    (ws : List ℕ) (identifier : Words) (b : Bool) (t : R.Terms) (kind : Kind) (s : R.LState) (i : ℕ) →
+    meant identifier (records ws) ≡ At i → P.held lineView identifier (records ws) ≡ lineRead identifier b (R.holds t kind s) →
+    getD (records ws) i blank ≡ lineRecord identifier b t kind s
 unfolding meant
-found-read ws identifier b d k n s i e h = the-one _ _ (sym (held-found lineView (records ws) identifier i e) ∙ h)
+found-read ws identifier b t kind s i e h = the-one _ _ (sym (held-found lineView (records ws) identifier i e) ∙ h)
 
 module _ (ws : List ℕ) (identifier : Words) (reading : R.Line → R.LAnswer) where
   pub missed-does :
@@ -83,13 +84,13 @@ module _ (ws : List ℕ) (identifier : Words) (reading : R.Line → R.LAnswer) w
     where
       by : (l : R.Line) (b : Bool) → P.held lineView identifier (records ws) ≡ lineRead identifier b l → Answers plan identifier b l (reading l)
       by R.none b h = answer b
-      by (R.holds d k n s) b h = not-one (sym (held-missed lineView (records ws) identifier e) ∙ h)
+      by (R.holds t kind s) b h = not-one (sym (held-missed lineView (records ws) identifier e) ∙ h)
 
   pub found-does :
       (i : ℕ) (plan : Record → Plan) → meant identifier (records ws) ≡ At i →
       OwnChange (records ws) identifier (plan (getD (records ws) i blank) .change) →
-      ((b : Bool) (d : R.Data) (k : Bool) (n : R.Conn) (s : R.LState) → getD (records ws) i blank ≡ lineRecord identifier b d k n s →
-      Answers (plan (lineRecord identifier b d k n s)) identifier b (R.holds d k n s) (reading (R.holds d k n s))) →
+      ((b : Bool) (t : R.Terms) (kind : Kind) (s : R.LState) → getD (records ws) i blank ≡ lineRecord identifier b t kind s →
+      Answers (plan (lineRecord identifier b t kind s)) identifier b (R.holds t kind s) (reading (R.holds t kind s))) →
       Does ws identifier (plan (getD (records ws) i blank)) reading
   unfolding meant
   found-does i plan e own answer = record { own = own; answer = by }
@@ -98,9 +99,9 @@ module _ (ws : List ℕ) (identifier : Words) (reading : R.Line → R.LAnswer) w
           (l : R.Line) (b : Bool) → P.held lineView identifier (records ws) ≡ lineRead identifier b l →
           Answers (plan (getD (records ws) i blank)) identifier b l (reading l)
       by R.none b h = not-one (sym h ∙ held-found lineView (records ws) identifier i e)
-      by (R.holds d k n s) b h =
-          let q = found-read ws identifier b d k n s i e h in
-          subst (λ (r : Record). Answers (plan r) identifier b (R.holds d k n s) (reading (R.holds d k n s))) (sym q) (answer b d k n s q)
+      by (R.holds t kind s) b h =
+          let q = found-read ws identifier b t kind s i e h in
+          subst (λ (r : Record). Answers (plan r) identifier b (R.holds t kind s) (reading (R.holds t kind s))) (sym q) (answer b t kind s q)
 
 -- ---- a row taken for the record that is found
 pub own-row :

@@ -135,13 +135,13 @@ module _ (ws : List ℕ) (identifier : Words) where
         let reading : R.Line → R.LAnswer = λ l. R.lineTakes (policyOf ws) l code (wordOf R.takes (freeHeld ws here)) in
         subst (λ (plan : Plan). Does ws identifier plan reading) (sym (row-at i))
         (found-does ws identifier reading i (λ r. rowPlan i r letter message (rowAt r)) e (own-at i e)
-        (λ b d k n s q.
-        let f : takesCall ws (d .numberB) ≡ freeHeld ws here = sym (ap (freeHeld ws) (held-found lineView rs identifier i e ∙ ap P.one q)) in
+        (λ b t kind s q.
+        let f : takesCall ws (R.asked t .numberB) ≡ freeHeld ws here = sym (ap (freeHeld ws) (held-found lineView rs identifier i e ∙ ap P.one q)) in
         subst
         (λ (free : Bool).
-        Answers (rowPlan i (lineRecord identifier b d k n s) letter message (rowFor message (takesCall ws (d .numberB)) (keepRead k))) identifier b
-        (R.holds d k n s) (R.lineTakes (policyOf ws) (R.holds d k n s) code (wordOf R.takes free)))
-        f (record-found identifier b (policyOf ws) i message n′ (takesCall ws (d .numberB)) d k n s)))
+        Answers (rowPlan i (lineRecord identifier b t kind s) letter message (rowFor message (takesCall ws (R.asked t .numberB)) (keepRead (R.keep t)))) identifier b
+        (R.holds t kind s) (R.lineTakes (policyOf ws) (R.holds t kind s) code (wordOf R.takes free)))
+        f (record-found identifier b (policyOf ws) i message n′ (takesCall ws (R.asked t .numberB)) t kind s)))
 
     record-heard : Heard code (recordFound ws letter message (meant identifier rs))
     record-heard = (wordOf R.takes (freeHeld ws here), record-does (meant identifier rs) refl)
@@ -162,27 +162,27 @@ module _ (ws : List ℕ) (identifier : Words) where
           let t : sameWords (r .terms .identifier) (names .identifier) ≡ true = words-same (r .terms .identifier) (names .identifier) (its .1 ∙ sym same) in
           absurd (no-true (sym (rw (its .0, t) at never)))
 
-  module _ (d : R.Data) (ck : Bool) (q : ℕ) where
+  module _ (d : R.Data) (kind : Kind) (q : ℕ) where
     abbrev asked : R.Msg
-    asked = R.request d ck q
+    asked = R.request d kind q
 
     denied : (short : Bool) → Heard asked (Deny (pick short 1 2))
     unfolding planOf
-    denied short = (wordOf (R.denies short) true, record { own = stays; answer = λ l b e. request-denied ws identifier b short true d ck q l })
+    denied short = (wordOf (R.denies short) true, record { own = stays; answer = λ l b e. request-denied ws identifier b short true d kind q l })
 
-    store-heard : (busy : Bool) (f : Found) → meant identifier rs ≡ Nothing → place rs ≡ f → Heard asked (storeFound (requestRead d ck q) busy f)
+    store-heard : (busy : Bool) (f : Found) → meant identifier rs ≡ Nothing → place rs ≡ f → Heard asked (storeFound (requestRead d kind q) busy f)
     unfolding planOf meant place
     store-heard busy Nothing new e = denied true
     store-heard busy (At i) new e =
-        let r = newRecord ws (namesRead identifier d) (requestRead d ck q) busy in (
+        let r = newRecord ws (namesRead identifier d) (requestRead d kind q) busy in (
           wordOf R.takes true,
           missed-does ws identifier (λ l. R.lineTakes (policyOf ws) l asked (wordOf R.takes true)) (storedPlan i r) new (stores i r e new)
-              (λ b. request-stored ws i identifier b busy true d ck q),
+              (λ b. request-stored ws i identifier b busy true d kind q),
         )
 
     duplicate-heard :
         (busy : Bool) (f : Found) → first (passes (Duplicate (namesRead identifier d))) rs ≡ f →
-        Heard asked (duplicateFound ws (namesRead identifier d) (requestRead d ck q) busy f)
+        Heard asked (duplicateFound ws (namesRead identifier d) (requestRead d kind q) busy f)
     unfolding countedDecision
     duplicate-heard busy (At i) e = denied true
     duplicate-heard busy Nothing e =
@@ -190,19 +190,19 @@ module _ (ws : List ℕ) (identifier : Words) where
         (λ t. store-heard busy (place rs) (new-identifier (namesRead identifier d) refl e) refl)
         (λ t. denied true)
 
-    line-heard : (f : Found) → Heard asked (lineFound ws (namesRead identifier d) (requestRead d ck q) f)
+    line-heard : (f : Found) → Heard asked (lineFound ws (namesRead identifier d) (requestRead d kind q) f)
     unfolding admittedDecision
     line-heard Nothing = denied false
     line-heard (At k) =
         let line = getD (lines ws) k noLine in
-        pick-elim (Heard asked) (allows line (d .kind))
+        pick-elim (Heard asked) (allows line kind)
         (λ t. duplicate-heard (line .busy) (first (passes (Duplicate (namesRead identifier d))) rs) refl)
         (λ t. denied false)
 
     request-heard : Heard asked (messageDecision ws (letterRead identifier asked))
     unfolding messageDecision requestDecision
     request-heard =
-        rw (request-meant (d .kind) (d .service) (askFlags ck q), request-carried (d .kind) (d .service) (askFlags ck q))
+        rw (request-meant kind (d .service) (askFlags (d .canKeep) q), request-carried kind (d .service) (askFlags (d .canKeep) q))
         (line-heard (lineAt (d .numberB) (lines ws)))
 
   -- ---- every message
@@ -212,7 +212,7 @@ module _ (ws : List ℕ) (identifier : Words) where
 
   message-heard : (m : R.Msg) → Heard m (messageDecision ws (letterRead identifier m))
   unfolding messageDecision recordDecision planOf R.lineTakes
-  message-heard (R.request d ck q) = request-heard d ck q
+  message-heard (R.request d kind q) = request-heard d kind q
   message-heard (R.result k n) = not-here
   message-heard (R.denied short) = not-here
   message-heard (R.exec n) = not-here
@@ -236,8 +236,8 @@ module _ (ws : List ℕ) (identifier : Words) where
 
     own-does :
         (x : R.LAct) →
-        ((i : ℕ) (b : Bool) (d : R.Data) (k : Bool) (n : R.Conn) (s : R.LState) →
-        Answers (ownRow i row (lineRecord identifier b d k n s)) identifier b (R.holds d k n s) (R.lineActs (R.holds d k n s) x)) →
+        ((i : ℕ) (b : Bool) (t : R.Terms) (kind : Kind) (s : R.LState) →
+        Answers (ownRow i row (lineRecord identifier b t kind s)) identifier b (R.holds t kind s) (R.lineActs (R.holds t kind s) x)) →
         (f : Found) → meant identifier rs ≡ f → Does ws identifier (acting f) (λ l. R.lineActs l x)
     unfolding planOf
     own-does x found Nothing e = missed-does ws identifier (λ l. R.lineActs l x) (acting Nothing) e stays (λ b. own-missed identifier b x)
@@ -247,7 +247,7 @@ module _ (ws : List ℕ) (identifier : Words) where
         (pick-elim (λ (plan : Plan). OwnChange rs identifier (plan .change)) (holdsFor row (getD rs i blank))
         (λ h. own-row rs identifier i (getD rs i blank) e row)
         (λ h. stays))
-        (λ b d k n s q. found i b d k n s))
+        (λ b t kind s q. found i b t kind s))
 
 -- ---- the desk's steps
 module _ (d : Desk) (reached : Reached d) where
@@ -264,8 +264,8 @@ module _ (d : Desk) (reached : Reached d) where
 
   own-step :
       (j : Words) (input : Input) (row : Row) (x : R.LAct) →
-      ((i : ℕ) (b : Bool) (d : R.Data) (k : Bool) (n : R.Conn) (s : R.LState) →
-      Answers (ownRow i row (lineRecord j b d k n s)) j b (R.holds d k n s) (R.lineActs (R.holds d k n s) x)) →
+      ((i : ℕ) (b : Bool) (t : R.Terms) (kind : Kind) (s : R.LState) →
+      Answers (ownRow i row (lineRecord j b t kind s)) j b (R.holds t kind s) (R.lineActs (R.holds t kind s) x)) →
       (l : R.Line) (b : Bool) → P.held lineView j (records (d .words)) ≡ lineRead j b l →
       LineStep (made d (planOf (d .words) input (ownFound (d .words) row (meant j (records (d .words)))))) j (R.lineActs l x)
   own-step j input row x found =
@@ -286,12 +286,12 @@ module _ (d : Desk) (reached : Reached d) where
 
 -- ---- the guard's report is taken where a request is held
 guard-taken :
-    (i : ℕ) (identifier : Words) (b : Bool) (d : R.Data) (k : Bool) (n : R.Conn) (s : R.LState) →
-    done (ownRow i GuardRunsOut (lineRecord identifier b d k n s) .outcome) ≡ true
+    (i : ℕ) (identifier : Words) (b : Bool) (t : R.Terms) (kind : Kind) (s : R.LState) →
+    done (ownRow i GuardRunsOut (lineRecord identifier b t kind s) .outcome) ≡ true
 unfolding rowTaken
-guard-taken i identifier b d k n R.idle = refl
-guard-taken i identifier b d k n (R.await m) = refl
-guard-taken i identifier b d k n R.alert = refl
+guard-taken i identifier b t kind R.idle = refl
+guard-taken i identifier b t kind (R.await m) = refl
+guard-taken i identifier b t kind R.alert = refl
 
 guard-ends-found :
     (ws : List ℕ) (identifier : Words) (l : R.Line) (b : Bool) (f : Found) → meant identifier (records ws) ≡ f →
@@ -300,11 +300,11 @@ guard-ends-found :
 unfolding meant planOf
 guard-ends-found ws identifier R.none b Nothing e h = refl
 guard-ends-found ws identifier R.none b (At i) e h = not-one (sym h ∙ held-found lineView (records ws) identifier i e)
-guard-ends-found ws identifier (R.holds d k n s) b Nothing e h = not-one (sym (held-missed lineView (records ws) identifier e) ∙ h)
-guard-ends-found ws identifier (R.holds d k n s) b (At i) e h =
+guard-ends-found ws identifier (R.holds t kind s) b Nothing e h = not-one (sym (held-missed lineView (records ws) identifier e) ∙ h)
+guard-ends-found ws identifier (R.holds t kind s) b (At i) e h =
     ap (λ (plan : Plan). done (plan .outcome)) (acting-at ws identifier (Input.Guard identifier) GuardRunsOut i)
-    ∙ ap (λ (r : Record). done (ownRow i GuardRunsOut r .outcome)) (found-read ws identifier b d k n s i e h)
-    ∙ guard-taken i identifier b d k n s
+    ∙ ap (λ (r : Record). done (ownRow i GuardRunsOut r .outcome)) (found-read ws identifier b t kind s i e h)
+    ∙ guard-taken i identifier b t kind s
 
 pub guard-ends :
     (d : Desk) (identifier : Words) (l : R.Line) (b : Bool) → P.held lineView identifier (records (d .words)) ≡ lineRead identifier b l →

@@ -109,7 +109,7 @@ module _ (d : Desk) (reached : Reached d) (number : Words) where
       let t = fits-invoked number r fit in
       let e = meant-own lineView rs i (line-placed reached) (invoked-used (r .state) t) in
       found-does (d .words) (r .terms .identifier) (λ l. R.lineActs l R.offers) i (λ r. rowTaken i r Offers) e (own-row rs (r .terms .identifier) i r e Offers)
-      (λ b a k n s q. offer-found i (r .terms .identifier) b a k n s (sym (ap (λ (x : Record). invoked (x .state)) q) ∙ t))
+      (λ b a kind s q. offer-found i (r .terms .identifier) b a kind s (sym (ap (λ (x : Record). invoked (x .state)) q) ∙ t))
 
   look-step : (decision : Decision) → decided (d .words) (Input.Look number) ≡ decision → Look rs number decision → Looked d number (step d (Input.Look number))
   unfolding step planFor planOf rowTaken

@@ -8,6 +8,7 @@ use native.Mathlib.Omega.{arith}
 use Rattle.lists.specs.Choice.{pick}
 use Rattle.lists.specs.declared.words.Words.{Words}
 use Rattle.lists.proofs.Choice.{no-true}
+use Rattle.message.specs.declared.Kind.{Kind}
 use Rattle.desk.specs.Carriers.{carrierFits}
 use Rattle.desk.specs.Sends.{answered}
 use Rattle.desk.specs.declared.Connection.the-variants as Connection
@@ -79,37 +80,37 @@ rowPlan i r l message row =
 
 module _ (identifier : Words) (b : Bool) (p : R.Policy) where
   pub record-found :
-      (i : ℕ) (message : RecordMessage) (n′ : R.Conn) (free : Bool) (d : R.Data) (k : Bool) (n : R.Conn) (s : R.LState) →
-      Answers (rowPlan i (lineRecord identifier b d k n s) (letterRead identifier (recordMessage message n′)) message (rowFor message free (keepRead k)))
-      identifier b (R.holds d k n s) (R.lineTakes p (R.holds d k n s) (recordMessage message n′) (wordOf R.takes free))
+      (i : ℕ) (message : RecordMessage) (n′ : R.Conn) (free : Bool) (t : R.Terms) (kind : Kind) (s : R.LState) →
+      Answers (rowPlan i (lineRecord identifier b t kind s) (letterRead identifier (recordMessage message n′)) message (rowFor message free (keepRead (R.keep t))))
+      identifier b (R.holds t kind s) (R.lineTakes p (R.holds t kind s) (recordMessage message n′) (wordOf R.takes free))
   unfolding carrierFits rowTaken R.lineTakes R.onRingout R.onSuspend R.onResume
-  record-found i Message.Ringout n′ true d k n R.idle = answers b refl refl
-  record-found i Message.Ringout n′ true d k n (R.await m) = answers b refl refl
-  record-found i Message.Ringout n′ true d k n R.alert = answers b refl refl
-  record-found i Message.Ringout n′ false d true n R.idle = answers b refl refl
-  record-found i Message.Ringout n′ false d true n (R.await m) = answers true refl refl
-  record-found i Message.Ringout n′ false d true n R.alert = answers b refl refl
-  record-found i Message.Ringout n′ false d false n R.idle = answers b refl refl
-  record-found i Message.Ringout n′ false d false n (R.await m) = answers b refl refl
-  record-found i Message.Ringout n′ false d false n R.alert = answers b refl refl
-  record-found i Message.Suspend n′ free d k n R.idle = answers b refl refl
-  record-found i Message.Suspend R.ret free d k R.ret (R.await m) = answers b refl refl
-  record-found i Message.Suspend R.ret free d k R.rls (R.await m) = answers b refl refl
-  record-found i Message.Suspend R.rls free d k R.ret (R.await m) = answers b refl refl
-  record-found i Message.Suspend R.rls free d k R.rls (R.await m) = answers b refl refl
-  record-found i Message.Suspend n′ free d k n R.alert = answers b refl refl
-  record-found i Message.Resume n′ free d k n R.idle = answers b refl refl
-  record-found i Message.Resume R.ret free d k R.ret (R.await m) = answers b refl refl
-  record-found i Message.Resume R.ret free d k R.rls (R.await m) = answers b refl refl
-  record-found i Message.Resume R.rls free d k R.ret (R.await m) = answers b refl refl
-  record-found i Message.Resume R.rls free d k R.rls (R.await m) = answers b refl refl
-  record-found i Message.Resume n′ free d k n R.alert = answers b refl refl
-  record-found i Message.Cancel R.ret free d k n R.idle = answers b refl refl
-  record-found i Message.Cancel R.ret free d k n (R.await m) = answers b refl refl
-  record-found i Message.Cancel R.ret free d k n R.alert = answers b refl refl
-  record-found i Message.Cancel R.rls free d k n R.idle = answers b refl refl
-  record-found i Message.Cancel R.rls free d k n (R.await m) = answers b refl refl
-  record-found i Message.Cancel R.rls free d k n R.alert = answers b refl refl
+  record-found i Message.Ringout n′ true t kind R.idle = answers b refl refl
+  record-found i Message.Ringout n′ true t kind (R.await m) = answers b refl refl
+  record-found i Message.Ringout n′ true t kind R.alert = answers b refl refl
+  record-found i Message.Ringout n′ false (R.chosen d true n) kind R.idle = answers b refl refl
+  record-found i Message.Ringout n′ false (R.chosen d true n) kind (R.await m) = answers true refl refl
+  record-found i Message.Ringout n′ false (R.chosen d true n) kind R.alert = answers b refl refl
+  record-found i Message.Ringout n′ false (R.chosen d false n) kind R.idle = answers b refl refl
+  record-found i Message.Ringout n′ false (R.chosen d false n) kind (R.await m) = answers b refl refl
+  record-found i Message.Ringout n′ false (R.chosen d false n) kind R.alert = answers b refl refl
+  record-found i Message.Suspend n′ free t kind R.idle = answers b refl refl
+  record-found i Message.Suspend R.ret free (R.chosen d k R.ret) kind (R.await m) = answers b refl refl
+  record-found i Message.Suspend R.ret free (R.chosen d k R.rls) kind (R.await m) = answers b refl refl
+  record-found i Message.Suspend R.rls free (R.chosen d k R.ret) kind (R.await m) = answers b refl refl
+  record-found i Message.Suspend R.rls free (R.chosen d k R.rls) kind (R.await m) = answers b refl refl
+  record-found i Message.Suspend n′ free t kind R.alert = answers b refl refl
+  record-found i Message.Resume n′ free t kind R.idle = answers b refl refl
+  record-found i Message.Resume R.ret free (R.chosen d k R.ret) kind (R.await m) = answers b refl refl
+  record-found i Message.Resume R.ret free (R.chosen d k R.rls) kind (R.await m) = answers b refl refl
+  record-found i Message.Resume R.rls free (R.chosen d k R.ret) kind (R.await m) = answers b refl refl
+  record-found i Message.Resume R.rls free (R.chosen d k R.rls) kind (R.await m) = answers b refl refl
+  record-found i Message.Resume n′ free t kind R.alert = answers b refl refl
+  record-found i Message.Cancel R.ret free t kind R.idle = answers b refl refl
+  record-found i Message.Cancel R.ret free t kind (R.await m) = answers b refl refl
+  record-found i Message.Cancel R.ret free t kind R.alert = answers b refl refl
+  record-found i Message.Cancel R.rls free t kind R.idle = answers b refl refl
+  record-found i Message.Cancel R.rls free t kind (R.await m) = answers b refl refl
+  record-found i Message.Cancel R.rls free t kind R.alert = answers b refl refl
 
   -- no record
   pub record-missed :
@@ -133,42 +134,42 @@ own-missed identifier b x = answers b refl refl
 
 module _ (i : ℕ) (identifier : Words) (b : Bool) where
   pub act-found :
-      (act : Act) (d : R.Data) (k : Bool) (n : R.Conn) (s : R.LState) →
-      Answers (ownRow i (rowOfAct act) (lineRecord identifier b d k n s)) identifier b (R.holds d k n s) (R.lineActs (R.holds d k n s) (lineActRead act))
+      (act : Act) (t : R.Terms) (kind : Kind) (s : R.LState) →
+      Answers (ownRow i (rowOfAct act) (lineRecord identifier b t kind s)) identifier b (R.holds t kind s) (R.lineActs (R.holds t kind s) (lineActRead act))
   unfolding rowTaken R.lineActs
-  act-found Act.Alerted d k n R.idle = answers b refl refl
-  act-found Act.Alerted d k n (R.await m) = answers b refl refl
-  act-found Act.Alerted d k n R.alert = answers b refl refl
-  act-found Act.CallFailed d k n R.idle = answers b refl refl
-  act-found Act.CallFailed d k n (R.await m) = answers b refl refl
-  act-found Act.CallFailed d k n R.alert = answers b refl refl
-  act-found Act.Cancel d k R.ret R.idle = answers b refl refl
-  act-found Act.Cancel d k R.ret (R.await m) = answers b refl refl
-  act-found Act.Cancel d k R.ret R.alert = answers b refl refl
-  act-found Act.Cancel d k R.rls R.idle = answers b refl refl
-  act-found Act.Cancel d k R.rls (R.await m) = answers b refl refl
-  act-found Act.Cancel d k R.rls R.alert = answers b refl refl
+  act-found Act.Alerted t kind R.idle = answers b refl refl
+  act-found Act.Alerted t kind (R.await m) = answers b refl refl
+  act-found Act.Alerted t kind R.alert = answers b refl refl
+  act-found Act.CallFailed t kind R.idle = answers b refl refl
+  act-found Act.CallFailed t kind (R.await m) = answers b refl refl
+  act-found Act.CallFailed t kind R.alert = answers b refl refl
+  act-found Act.Cancel (R.chosen d k R.ret) kind R.idle = answers b refl refl
+  act-found Act.Cancel (R.chosen d k R.ret) kind (R.await m) = answers b refl refl
+  act-found Act.Cancel (R.chosen d k R.ret) kind R.alert = answers b refl refl
+  act-found Act.Cancel (R.chosen d k R.rls) kind R.idle = answers b refl refl
+  act-found Act.Cancel (R.chosen d k R.rls) kind (R.await m) = answers b refl refl
+  act-found Act.Cancel (R.chosen d k R.rls) kind R.alert = answers b refl refl
 
   pub guard-found :
-      (d : R.Data) (k : Bool) (n : R.Conn) (s : R.LState) →
-      Answers (ownRow i GuardRunsOut (lineRecord identifier b d k n s)) identifier b (R.holds d k n s) (R.lineActs (R.holds d k n s) R.guard)
+      (t : R.Terms) (kind : Kind) (s : R.LState) →
+      Answers (ownRow i GuardRunsOut (lineRecord identifier b t kind s)) identifier b (R.holds t kind s) (R.lineActs (R.holds t kind s) R.guard)
   unfolding rowTaken R.lineActs
-  guard-found d k R.ret R.idle = answers b refl refl
-  guard-found d k R.ret (R.await m) = answers b refl refl
-  guard-found d k R.ret R.alert = answers b refl refl
-  guard-found d k R.rls R.idle = answers b refl refl
-  guard-found d k R.rls (R.await m) = answers b refl refl
-  guard-found d k R.rls R.alert = answers b refl refl
+  guard-found (R.chosen d k R.ret) kind R.idle = answers b refl refl
+  guard-found (R.chosen d k R.ret) kind (R.await m) = answers b refl refl
+  guard-found (R.chosen d k R.ret) kind R.alert = answers b refl refl
+  guard-found (R.chosen d k R.rls) kind R.idle = answers b refl refl
+  guard-found (R.chosen d k R.rls) kind (R.await m) = answers b refl refl
+  guard-found (R.chosen d k R.rls) kind R.alert = answers b refl refl
 
   -- a record that fits is Invoked
   pub offer-found :
-      (d : R.Data) (k : Bool) (n : R.Conn) (s : R.LState) → invoked (lineStateRead s) ≡ true →
-      Answers (rowTaken i (lineRecord identifier b d k n s) Offers) identifier b (R.holds d k n s) (R.lineActs (R.holds d k n s) R.offers)
+      (t : R.Terms) (kind : Kind) (s : R.LState) → invoked (lineStateRead s) ≡ true →
+      Answers (rowTaken i (lineRecord identifier b t kind s) Offers) identifier b (R.holds t kind s) (R.lineActs (R.holds t kind s) R.offers)
   unfolding rowTaken R.lineActs
-  offer-found d k R.ret R.idle e = answers b refl refl
-  offer-found d k R.rls R.idle e = answers b refl refl
-  offer-found d k n (R.await m) e = absurd (no-true e)
-  offer-found d k n R.alert e = absurd (no-true e)
+  offer-found (R.chosen d k R.ret) kind R.idle e = answers b refl refl
+  offer-found (R.chosen d k R.rls) kind R.idle e = answers b refl refl
+  offer-found t kind (R.await m) e = absurd (no-true e)
+  offer-found t kind R.alert e = absurd (no-true e)
 
 -- ---- a request: flags are can-keep plus twice the preference
 can-keep-sent : (ck : Bool) (q : ℕ) → canKeepSent (askFlags ck q) ≡ ck
@@ -206,32 +207,32 @@ connection-read ck q ws =
     ∙ connection-chosen (eqb q 1) (eqb q 2) (retains ws)
 
 new-read :
-    (ws : List ℕ) (identifier : Words) (busy : Bool) (d : R.Data) (ck : Bool) (q : ℕ) →
-    newRecord ws (namesRead identifier d) (requestRead d ck q) busy
-    ≡ lineRecord identifier busy d (R.keepOf (policyOf ws) ck) (R.connOf (policyOf ws) q) R.idle
-new-read ws identifier busy d ck q = rw (keep-read ck q (keeps ws), connection-read ck q ws)
+    (ws : List ℕ) (identifier : Words) (busy : Bool) (d : R.Data) (kind : Kind) (q : ℕ) →
+    newRecord ws (namesRead identifier d) (requestRead d kind q) busy
+    ≡ lineRecord identifier busy (R.termsOf (policyOf ws) d q) kind R.idle
+new-read ws identifier busy d kind q = rw (keep-read (d .canKeep) q (keeps ws), connection-read (d .canKeep) q ws)
 
 stored-read :
-    (i : ℕ) (identifier : Words) (b busy : Bool) (d : R.Data) (k : Bool) (n : R.Conn) →
-    Answers (storedPlan i (lineRecord identifier busy d k n R.idle)) identifier b R.none (R.holds d k n R.idle, R.result k n ∷ [])
-stored-read i identifier b busy d true R.ret = answers busy refl refl
-stored-read i identifier b busy d true R.rls = answers busy refl refl
-stored-read i identifier b busy d false R.ret = answers busy refl refl
-stored-read i identifier b busy d false R.rls = answers busy refl refl
+    (i : ℕ) (identifier : Words) (b busy : Bool) (t : R.Terms) (kind : Kind) →
+    Answers (storedPlan i (lineRecord identifier busy t kind R.idle)) identifier b R.none (R.holds t kind R.idle, R.resultOf t ∷ [])
+stored-read i identifier b busy (R.chosen d true R.ret) kind = answers busy refl refl
+stored-read i identifier b busy (R.chosen d true R.rls) kind = answers busy refl refl
+stored-read i identifier b busy (R.chosen d false R.ret) kind = answers busy refl refl
+stored-read i identifier b busy (R.chosen d false R.rls) kind = answers busy refl refl
 
 pub request-stored :
-    (ws : List ℕ) (i : ℕ) (identifier : Words) (b busy free : Bool) (d : R.Data) (ck : Bool) (q : ℕ) →
-    Answers (storedPlan i (newRecord ws (namesRead identifier d) (requestRead d ck q) busy)) identifier b R.none
-    (R.lineTakes (policyOf ws) R.none (R.request d ck q) (wordOf R.takes free))
+    (ws : List ℕ) (i : ℕ) (identifier : Words) (b busy free : Bool) (d : R.Data) (kind : Kind) (q : ℕ) →
+    Answers (storedPlan i (newRecord ws (namesRead identifier d) (requestRead d kind q) busy)) identifier b R.none
+    (R.lineTakes (policyOf ws) R.none (R.request d kind q) (wordOf R.takes free))
 unfolding R.lineTakes R.onRequest
-request-stored ws i identifier b busy free d ck q =
+request-stored ws i identifier b busy free d kind q =
     subst
-    (λ (r : Record). Answers (storedPlan i r) identifier b R.none (R.lineTakes (policyOf ws) R.none (R.request d ck q) (wordOf R.takes free)))
-    (sym (new-read ws identifier busy d ck q))
-    (stored-read i identifier b busy d (R.keepOf (policyOf ws) ck) (R.connOf (policyOf ws) q))
+    (λ (r : Record). Answers (storedPlan i r) identifier b R.none (R.lineTakes (policyOf ws) R.none (R.request d kind q) (wordOf R.takes free)))
+    (sym (new-read ws identifier busy d kind q))
+    (stored-read i identifier b busy (R.termsOf (policyOf ws) d q) kind)
 
 pub request-denied :
-    (ws : List ℕ) (identifier : Words) (b short free : Bool) (d : R.Data) (ck : Bool) (q : ℕ) (l : R.Line) →
-    Answers (deniedPlan identifier (pick short 1 2)) identifier b l (R.lineTakes (policyOf ws) l (R.request d ck q) (wordOf (R.denies short) free))
+    (ws : List ℕ) (identifier : Words) (b short free : Bool) (d : R.Data) (kind : Kind) (q : ℕ) (l : R.Line) →
+    Answers (deniedPlan identifier (pick short 1 2)) identifier b l (R.lineTakes (policyOf ws) l (R.request d kind q) (wordOf (R.denies short) free))
 unfolding R.lineTakes R.onRequest
-request-denied ws identifier b short free d ck q l = answers b refl refl
+request-denied ws identifier b short free d kind q l = answers b refl refl

@@ -61,13 +61,13 @@ act-no-guard : (l : R.Line) (act : Act) → R.guardEnds l (lineActRead act) ≡ 
 act-no-guard R.none Act.Alerted = refl
 act-no-guard R.none Act.CallFailed = refl
 act-no-guard R.none Act.Cancel = refl
-act-no-guard (R.holds d k n s) Act.Alerted = refl
-act-no-guard (R.holds d k n s) Act.CallFailed = refl
-act-no-guard (R.holds d k n s) Act.Cancel = refl
+act-no-guard (R.holds t kind s) Act.Alerted = refl
+act-no-guard (R.holds t kind s) Act.CallFailed = refl
+act-no-guard (R.holds t kind s) Act.Cancel = refl
 
 look-no-guard : (l : R.Line) → R.guardEnds l R.offers ≡ false
 look-no-guard R.none = refl
-look-no-guard (R.holds d k n s) = refl
+look-no-guard (R.holds t kind s) = refl
 
 -- a message that a desk sent has numbers of sixteen bytes
 sent-typed : (k : Words) (c : R.Msg) → Line.Typed (messageRead k c)

@@ -68,7 +68,7 @@ pub record Left (w : World) (e : Event) (after : World) (j : Words) : Type 0 whe
 
 -- only a delivery of the request's own message to the line is one in its net
 abbrev pub Hearing : World → Event → Words → R.Event → Type 0
-Hearing w e j (R.asks d ck q) = Unit
+Hearing w e j (R.asks d kind q) = Unit
 Hearing w e j (R.clerkDoes x) = Unit
 Hearing w e j (R.lineDoes x) = Unit
 Hearing w e j (R.clerkGets busy) = Unit
@@ -104,9 +104,9 @@ unaltered-read :
     {e : Event} {before after : P.Held LineRecord.Record} → Unaltered e before after →
     (j : Words) (l : R.Line) (b : Bool) → before ≡ lineRead j b l → (c : Bool) × (after ≡ lineRead j c l)
 unaltered-read same j l b e = (b, e)
-unaltered-read (marked r t) j R.none b e = not-one (sym e)
-unaltered-read (marked r t) j (R.holds d k n s) b e =
-    (true, ap (λ (x : LineRecord.Record). P.one (activated x)) (the-one r (lineRecord j b d k n s) e))
+unaltered-read (marked r so) j R.none b e = not-one (sym e)
+unaltered-read (marked r so) j (R.holds t kind s) b e =
+    (true, ap (λ (x : LineRecord.Record). P.one (activated x)) (the-one r (lineRecord j b t kind s) e))
 
 pub left-sim : {w : World} {e : Event} {after : World} {j : Words} {n : R.Net} → Left w e after j → Sim j w n → Sim j after n
 left-sim {j = j} {n = n} left sim =

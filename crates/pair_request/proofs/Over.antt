@@ -4,7 +4,7 @@ use mathlib.Core.Bool.{Bool, true, false, true≢false, false≢true}
 use mathlib.Core.List.{List}
 use Rattle.pair_request.specs.Reading.{Msg, Clerk, absent, Line, none, Policy, lineTakes, Net, or, held, Reach, begin, more}
 use Rattle.pair_request.specs.Listed.{NotReq, NoReq}
-use Rattle.pair_request.proofs.Effects.{noReq++, noReq-left, ClerkActEffect, stays, quit-waiting, drops-waiting, quit-live, accepts, resuming, recalling, act-plain, ClerkTakeEffect, take-stays, take-replies, take-ends-waiting, take-ends, take-ends-cancel, take-moves, take-suspends, take-acks, clerk-take-effect, take-plain, LineActEffect, line-stays, line-quits, line-offers, line-alerts, line-fails, LineTakeEffect, line-take-stays, line-take-ends, line-take-moves, line-take-accepts, line-take-effect, or-elim, Move, still, asked, clerk-act, line-act, clerk-get, line-get, up-lost, down-lost, moves}
+use Rattle.pair_request.proofs.Effects.{noReq++, noReq-left, ClerkActEffect, stays, quit-waiting, drops-waiting, quit-live, accepts, resuming, recalling, act-plain, ClerkTakeEffect, take-stays, take-replies, take-ends-waiting, take-ends, take-ends-cancel, take-moves, take-suspends, take-acks, clerk-take-effect, take-plain, LineActEffect, line-stays, line-quits, line-offers, line-alerts, line-fails, LineTakeEffect, line-take-stays, line-take-ends, line-take-moves, line-take-accepts, line-take-effect, or-elim, Move, still, ask, clerk-act, line-act, clerk-get, line-get, up-lost, down-lost, moves}
 use Rattle.pair_request.proofs.Agree.{NetAgrees, agreed, held-accepted, accepted-plain, present-used}
 
 -- ---- over stays over
@@ -49,7 +49,7 @@ pub record Over (s : Net) : Type 0 where
 
 pub over-move : {p : Policy} {s s′ : Net} → Move p s s′ → Over s → Over s′
 over-move still h = h
-over-move (asked q e) h = absurd (true≢false (cc (h .was-used)))
+over-move (ask q e) h = absurd (true≢false (cc (h .was-used)))
 over-move {s} (clerk-act {o} e t) h =
     record {
       was-used = h .was-used;
@@ -89,9 +89,9 @@ or-right : (x y : Bool) → y ≡ true → or x y ≡ true
 or-right true y h = refl
 or-right false y h = h
 
-ran-move : {p : Policy} {s s′ : Net} → Move p s s′ → NetAgrees p s → Ran s → Ran s′
+ran-move : {p : Policy} {s s′ : Net} → Move p s s′ → NetAgrees s → Ran s → Ran s′
 ran-move still g h = h
-ran-move (asked q e) g h = record { timer-ran = λ t. absurd (true≢false (cc (h .timer-ran t .0))); guard-ran = h .guard-ran }
+ran-move (ask q e) g h = record { timer-ran = λ t. absurd (true≢false (cc (h .timer-ran t .0))); guard-ran = h .guard-ran }
 ran-move {s} (clerk-act {t} e k) g h =
     record {
       timer-ran = λ j. or-elim t (s .timedOut) j (λ i. (present-used g (k i .1), k i .0)) (λ i. (h .timer-ran i .0, gone-acts e (h .timer-ran i .1)));

@@ -3,30 +3,35 @@ use Prim.Native.Nat.{ℕ}
 use mathlib.Core.Path.{_≡_}
 use mathlib.Core.Bool.{Bool, true, false, true≢false}
 use mathlib.Core.List.{List, [], _∷_, _++_}
-use Rattle.pair_request.specs.Reading.{Conn, ret, Data, Msg, request, result, denied, exec, ringout, busyAgain, suspend, resume, cancel, alerts, failed, CState, invoked, waitAnswer, ringing, suspended, Clerk, absent, waiting, live, LState, idle, await, alert, Line, none, holds, and, inRinging, onBusyAgain, onExec, clerkTakes, Policy, Verdict, takes, denies, Word, onRequest, onRingout, onResume, onSuspend, lineTakes, Net, Reach, begin, more}
+use Rattle.message.specs.declared.Kind.{Kind}
+use Rattle.pair_request.specs.Reading.{Conn, ret, Data, Terms, chosen, conn, Msg, request, result, denied, exec, ringout, busyAgain, suspend, resume, cancel, alerts, failed, CState, invoked, waitAnswer, ringing, suspended, Clerk, absent, waiting, live, LState, idle, await, alert, Line, none, holds, inRinging, onBusyAgain, onExec, clerkTakes, Policy, Verdict, takes, denies, Word, onRequest, onRingout, onResume, onSuspend, lineTakes, Net, Reach, begin, more}
 use Rattle.pair_request.specs.Listed.{Listed, no-record, invoked-invoked, answer-await, suspended-await, ringout-alert, NoReq}
-use Rattle.pair_request.proofs.Effects.{noReq++, just-cancel, Has, here, there, has++, has-sent, ++[], ClerkActEffect, stays, quit-waiting, drops-waiting, quit-live, accepts, resuming, recalling, act-plain, ClerkTakeEffect, take-stays, take-replies, clerk-take-effect, take-plain, LineActEffect, line-stays, line-quits, line-offers, line-alerts, line-fails, none-stays, same-fits, resume-fits, and-again, Move, still, asked, clerk-act, line-act, clerk-get, line-get, up-lost, down-lost, moves}
+use Rattle.pair_request.proofs.Effects.{noReq++, just-cancel, Has, here, there, has++, has-sent, ++[], ClerkActEffect, stays, quit-waiting, drops-waiting, quit-live, accepts, resuming, recalling, act-plain, ClerkTakeEffect, take-stays, take-replies, clerk-take-effect, take-plain, LineActEffect, line-stays, line-quits, line-offers, line-alerts, line-fails, none-stays, same-fits, resume-fits, Keepable, keepable, Move, still, ask, clerk-act, line-act, clerk-get, line-get, up-lost, down-lost, moves}
 
 -- a constructor with a pair as premise tells what the head of a wire will make of its receiver
 pub data Pair : Clerk → List Msg → Line → List Msg → Type 0 where
   -- the listed pairs
-  both-invoked : {d : Data} {ck k : Bool} {n : Conn} → Pair (live d ck k n invoked) [] (holds d k n idle) []
-  answering : {d : Data} {ck k : Bool} {n : Conn} (m : Bool) → Pair (live d ck k n waitAnswer) [] (holds d k n (await m)) []
-  paused : {d : Data} {ck k : Bool} {n : Conn} → Pair (live d ck k n suspended) [] (holds d k n (await true)) []
-  ring : {d : Data} {ck k : Bool} {n : Conn} → Pair (live d ck k n ringing) [] (holds d k n alert) []
+  both-invoked : {t : Terms} {kind : Kind} → Pair (live t kind invoked) [] (holds t kind idle) []
+  answering : {t : Terms} {kind : Kind} (m : Bool) → Pair (live t kind waitAnswer) [] (holds t kind (await m)) []
+  paused : {t : Terms} {kind : Kind} → Pair (live t kind suspended) [] (holds t kind (await true)) []
+  ring : {t : Terms} {kind : Kind} → Pair (live t kind ringing) [] (holds t kind alert) []
   -- a message of the clerk's is under way
-  requested : {d : Data} {ck : Bool} {q : ℕ} → Pair (waiting d ck) (request d ck q ∷ []) none []
-  resumed : {d : Data} {ck k : Bool} {n : Conn} → Pair (live d ck k n invoked) (resume n ∷ []) (holds d k n (await true)) []
-  called : {d : Data} {ck k : Bool} {n : Conn} (m : Bool) → Pair (live d ck k n ringing) (ringout ∷ []) (holds d k n (await m)) []
-  late : {c : Clerk} {u : List Msg} {d : Data} {k : Bool} {n : Conn} → Pair c u (holds d k n (await true)) [] → Pair c (suspend n ∷ u) (holds d k n (await false)) []
+  requested : {d : Data} {kind : Kind} {q : ℕ} → Pair (waiting d kind) (request d kind q ∷ []) none []
+  resumed : {t : Terms} {kind : Kind} → Pair (live t kind invoked) (resume (conn t) ∷ []) (holds t kind (await true)) []
+  called : {t : Terms} {kind : Kind} (m : Bool) → Pair (live t kind ringing) (ringout ∷ []) (holds t kind (await m)) []
+  late : {c : Clerk} {u : List Msg} {t : Terms} {kind : Kind} → Pair c u (holds t kind (await true)) [] → Pair c (suspend (conn t) ∷ u) (holds t kind (await false)) []
   -- a message of the line's is under way
-  offered : {d : Data} {ck k : Bool} {n : Conn} → Pair (live d ck k n invoked) [] (holds d k n (await false)) (exec n ∷ [])
-  unacked : {d : Data} {ck k : Bool} {n : Conn} {l : Line} {v : List Msg} → and ck k ≡ k → Pair (live d ck k n invoked) [] l v → Pair (waiting d ck) [] l (result k n ∷ v)
-  again : {d : Data} {ck : Bool} {n : Conn} {l : Line} {v : List Msg} → Pair (live d ck true n invoked) [] l v → Pair (live d ck true n ringing) [] l (busyAgain ∷ v)
-  refused : {d : Data} {ck : Bool} {w : Bool} → Pair (waiting d ck) [] none (denied w ∷ [])
-  ended : {d : Data} {ck : Bool} {n : Conn} → Pair (live d ck false n ringing) [] none (busyAgain ∷ [])
-  alerting : {d : Data} {ck k : Bool} {n : Conn} → Pair (live d ck k n ringing) [] none (alerts ∷ [])
-  failing : {d : Data} {ck k : Bool} {n : Conn} → Pair (live d ck k n ringing) [] none (failed ∷ [])
+  offered : {t : Terms} {kind : Kind} → Pair (live t kind invoked) [] (holds t kind (await false)) (exec (conn t) ∷ [])
+  unacked :
+      {d : Data} {kind : Kind} {k : Bool} {n : Conn} {l : Line} {v : List Msg} → Keepable (chosen d k n) → Pair (live (chosen d k n) kind invoked) [] l v →
+      Pair (waiting d kind) [] l (result k n ∷ v)
+  again :
+      {d : Data} {n : Conn} {kind : Kind} {l : Line} {v : List Msg} → Pair (live (chosen d true n) kind invoked) [] l v →
+      Pair (live (chosen d true n) kind ringing) [] l (busyAgain ∷ v)
+  refused : {d : Data} {kind : Kind} {w : Bool} → Pair (waiting d kind) [] none (denied w ∷ [])
+  ended : {d : Data} {n : Conn} {kind : Kind} → Pair (live (chosen d false n) kind ringing) [] none (busyAgain ∷ [])
+  alerting : {t : Terms} {kind : Kind} → Pair (live t kind ringing) [] none (alerts ∷ [])
+  failing : {t : Terms} {kind : Kind} → Pair (live t kind ringing) [] none (failed ∷ [])
 
 -- a message is under way that a clerk's end without the record answers with a ccCancel
 pub data Owed : List Msg → Type 0 where
@@ -42,27 +47,27 @@ pub data Inv : Clerk → List Msg → Line → List Msg → Type 0 where
   pair : {c : Clerk} {u : List Msg} {l : Line} {v : List Msg} → Pair c u l v → Inv c u l v
   line-out : {c : Clerk} {u : List Msg} {v : List Msg} → NoReq u → Has v → Inv c u none v
   clerk-out : {u : List Msg} {l : Line} {v : List Msg} → NoReq u → Has u → Inv absent u l v
-  early-out : {d : Data} {ck : Bool} {q : ℕ} {u : List Msg} → NoReq u → Has u → Inv absent (request d ck q ∷ u) none []
+  early-out : {d : Data} {kind : Kind} {q : ℕ} {u : List Msg} → NoReq u → Has u → Inv absent (request d kind q ∷ u) none []
   both-out : {u : List Msg} {v : List Msg} → NoReq u → Inv absent u none v
   -- the request was rejected by what carries it, and yet it is under way, or its result is
-  unheard : {d : Data} {ck : Bool} {q : ℕ} → Inv absent (request d ck q ∷ []) none []
+  unheard : {d : Data} {kind : Kind} {q : ℕ} → Inv absent (request d kind q ∷ []) none []
   deserted : {u : List Msg} {l : Line} {v : List Msg} → NoReq u → Owed v → Inv absent u l v
 
 -- ---- an act at the clerk's end
-pair-accept : {d : Data} {ck k : Bool} {n : Conn} {u : List Msg} {l : Line} {v : List Msg} → Pair (live d ck k n waitAnswer) u l v → Pair (live d ck k n ringing) (u ++ (ringout ∷ [])) l v
+pair-accept : {t : Terms} {kind : Kind} {u : List Msg} {l : Line} {v : List Msg} → Pair (live t kind waitAnswer) u l v → Pair (live t kind ringing) (u ++ (ringout ∷ [])) l v
 pair-accept (answering m) = called m
 pair-accept (late p) = late (pair-accept p)
 
-pair-resume : {d : Data} {ck k : Bool} {n : Conn} {u : List Msg} {l : Line} {v : List Msg} → Pair (live d ck k n suspended) u l v → Pair (live d ck k n invoked) (u ++ (resume n ∷ [])) l v
+pair-resume : {t : Terms} {kind : Kind} {u : List Msg} {l : Line} {v : List Msg} → Pair (live t kind suspended) u l v → Pair (live t kind invoked) (u ++ (resume (conn t) ∷ [])) l v
 pair-resume paused = resumed
 pair-resume (late p) = late (pair-resume p)
 
-pair-recall : {d : Data} {ck k : Bool} {n : Conn} {u : List Msg} {l : Line} {v : List Msg} → Pair (live d ck k n suspended) u l v → Pair (live d ck k n waitAnswer) (u ++ []) l v
+pair-recall : {t : Terms} {kind : Kind} {u : List Msg} {l : Line} {v : List Msg} → Pair (live t kind suspended) u l v → Pair (live t kind waitAnswer) (u ++ []) l v
 pair-recall paused = answering true
 pair-recall (late p) = late (pair-recall p)
 
 -- a pair of a live record has no request under way
-live-plain : {d : Data} {ck k : Bool} {n : Conn} {s : CState} {u : List Msg} {l : Line} {v : List Msg} → Pair (live d ck k n s) u l v → NoReq u
+live-plain : {t : Terms} {kind : Kind} {s : CState} {u : List Msg} {l : Line} {v : List Msg} → Pair (live t kind s) u l v → NoReq u
 live-plain both-invoked = tt
 live-plain (answering m) = tt
 live-plain paused = tt
@@ -76,15 +81,15 @@ live-plain ended = tt
 live-plain alerting = tt
 live-plain failing = tt
 
-quit-from-live : {d : Data} {ck k : Bool} {n : Conn} {s : CState} {u : List Msg} {l : Line} {v : List Msg} → Pair (live d ck k n s) u l v → Inv absent (u ++ (cancel n ∷ [])) l v
-quit-from-live {n} {u} p = clerk-out (noReq++ u _ (live-plain p) (just-cancel n)) (has-sent n u)
+quit-from-live : {t : Terms} {kind : Kind} {s : CState} {u : List Msg} {l : Line} {v : List Msg} → Pair (live t kind s) u l v → Inv absent (u ++ (cancel (conn t) ∷ [])) l v
+quit-from-live {t} {u} p = clerk-out (noReq++ u _ (live-plain p) (just-cancel (conn t))) (has-sent (conn t) u)
 
-quit-from-waiting : {d : Data} {ck : Bool} {u : List Msg} {l : Line} {v : List Msg} → Pair (waiting d ck) u l v → Inv absent (u ++ (cancel ret ∷ [])) l v
+quit-from-waiting : {d : Data} {kind : Kind} {u : List Msg} {l : Line} {v : List Msg} → Pair (waiting d kind) u l v → Inv absent (u ++ (cancel ret ∷ [])) l v
 quit-from-waiting requested = early-out (just-cancel ret) here
 quit-from-waiting (unacked e p) = clerk-out (just-cancel ret) here
 quit-from-waiting refused = clerk-out (just-cancel ret) here
 
-reject-waiting : {d : Data} {ck : Bool} {u : List Msg} {l : Line} {v : List Msg} → Pair (waiting d ck) u l v → Inv absent (u ++ []) l v
+reject-waiting : {d : Data} {kind : Kind} {u : List Msg} {l : Line} {v : List Msg} → Pair (waiting d kind) u l v → Inv absent (u ++ []) l v
 reject-waiting requested = unheard
 reject-waiting (unacked e p) = deserted tt owed-result
 reject-waiting refused = both-out tt
@@ -110,21 +115,21 @@ inv-clerk-acts {u} (deserted h k) stays = rw (++[] u) (deserted h k)
 -- ---- a message at the clerk's end
 pair-clerk-gets : {c : Clerk} {m : Msg} {u v : List Msg} {l : Line} → Pair c u l (m ∷ v) → (b : Bool) → Inv (clerkTakes c m b .0) (u ++ clerkTakes c m b .1) l v
 unfolding clerkTakes inRinging onBusyAgain onExec
-pair-clerk-gets (offered {n}) false = rw (same-fits n, onExec) (pair (answering false))
-pair-clerk-gets (offered {n}) true = rw (same-fits n, onExec) (pair (late paused))
+pair-clerk-gets (offered {t}) false = rw (same-fits (conn t), onExec) (pair (answering false))
+pair-clerk-gets (offered {t}) true = rw (same-fits (conn t), onExec) (pair (late paused))
 pair-clerk-gets (unacked e p) b = rw e (pair p)
 pair-clerk-gets (again p) b = pair p
 pair-clerk-gets refused b = both-out tt
 pair-clerk-gets ended b = both-out tt
 pair-clerk-gets alerting b = both-out tt
-pair-clerk-gets (failing {n}) b = both-out (just-cancel n)
+pair-clerk-gets (failing {t}) b = both-out (just-cancel (conn t))
 
 -- a ccCancel ends whatever the clerk holds
 cancelled : (c : Clerk) (n : Conn) (b : Bool) (u v : List Msg) → NoReq u → Inv (clerkTakes c (cancel n) b .0) (u ++ clerkTakes c (cancel n) b .1) none v
 unfolding clerkTakes
 cancelled absent n b u v h = both-out (noReq++ u _ h tt)
-cancelled (waiting d ck) n b u v h = both-out (noReq++ u _ h tt)
-cancelled (live d ck k n′ s) n b u v h = both-out (noReq++ u _ h tt)
+cancelled (waiting d kind) n b u v h = both-out (noReq++ u _ h tt)
+cancelled (live t kind s) n b u v h = both-out (noReq++ u _ h tt)
 
 -- a deleted record stays deleted
 gone-out : {m : Msg} {c′ : Clerk} {o : List Msg} {l : Line} {v : List Msg} (u : List Msg) → ClerkTakeEffect absent m c′ o → NoReq u → Has u → Inv c′ (u ++ o) l v
@@ -149,7 +154,7 @@ inv-clerk-gets {u} (deserted h owed-result) b = unfold clerkTakes in clerk-out (
 inv-clerk-gets {m} {u} (deserted h (owed-later k)) b = deserted-gets u (clerk-take-effect _ m b) h k
 
 -- ---- an act at the line's end
-held-plain : {c : Clerk} {d : Data} {k : Bool} {n : Conn} {s : LState} {u : List Msg} {v : List Msg} → Pair c u (holds d k n s) v → NoReq u
+held-plain : {c : Clerk} {t : Terms} {kind : Kind} {s : LState} {u : List Msg} {v : List Msg} → Pair c u (holds t kind s) v → NoReq u
 held-plain both-invoked = tt
 held-plain (answering m) = tt
 held-plain paused = tt
@@ -161,21 +166,21 @@ held-plain offered = tt
 held-plain (unacked e p) = tt
 held-plain (again p) = tt
 
-pair-offer : {c : Clerk} {u : List Msg} {d : Data} {k : Bool} {n : Conn} {v : List Msg} → Pair c u (holds d k n idle) v → Pair c u (holds d k n (await false)) (v ++ (exec n ∷ []))
+pair-offer : {c : Clerk} {u : List Msg} {t : Terms} {kind : Kind} {v : List Msg} → Pair c u (holds t kind idle) v → Pair c u (holds t kind (await false)) (v ++ (exec (conn t) ∷ []))
 pair-offer both-invoked = offered
 pair-offer (unacked e p) = unacked e (pair-offer p)
 pair-offer (again p) = again (pair-offer p)
 
 -- in Alert the wires are quiet
-pair-alerts : {c : Clerk} {u : List Msg} {d : Data} {k : Bool} {n : Conn} {v : List Msg} → Pair c u (holds d k n alert) v → Pair c u none (v ++ (alerts ∷ []))
+pair-alerts : {c : Clerk} {u : List Msg} {t : Terms} {kind : Kind} {v : List Msg} → Pair c u (holds t kind alert) v → Pair c u none (v ++ (alerts ∷ []))
 pair-alerts ring = alerting
 
-pair-fails : {c : Clerk} {u : List Msg} {d : Data} {k : Bool} {n : Conn} {v : List Msg} → Pair c u (holds d k n alert) v → Pair c u none (v ++ (failed ∷ []))
+pair-fails : {c : Clerk} {u : List Msg} {t : Terms} {kind : Kind} {v : List Msg} → Pair c u (holds t kind alert) v → Pair c u none (v ++ (failed ∷ []))
 pair-fails ring = failing
 
 pair-line-acts : {c : Clerk} {u : List Msg} {l l′ : Line} {o v : List Msg} → Pair c u l v → LineActEffect l l′ o → Inv c u l′ (v ++ o)
 pair-line-acts {v} p line-stays = rw (++[] v) (pair p)
-pair-line-acts {v} p (line-quits {n}) = line-out (held-plain p) (has-sent n v)
+pair-line-acts {v} p (line-quits {t}) = line-out (held-plain p) (has-sent (conn t) v)
 pair-line-acts p line-offers = pair (pair-offer p)
 pair-line-acts p line-alerts = pair (pair-alerts p)
 pair-line-acts p line-fails = pair (pair-fails p)
@@ -190,28 +195,28 @@ inv-line-acts unheard line-stays = unheard
 inv-line-acts (deserted h k) e = deserted h (owed++ _ k)
 
 -- ---- a message at the line's end
-request-taken : (p : Policy) (d : Data) (ck : Bool) (q : ℕ) (a : Verdict) → Inv (waiting d ck) [] (onRequest p none d ck q a .0) (onRequest p none d ck q a .1)
+request-taken : (p : Policy) (d : Data) (kind : Kind) (q : ℕ) (a : Verdict) → Inv (waiting d kind) [] (onRequest p none d kind q a .0) (onRequest p none d kind q a .1)
 unfolding onRequest
-request-taken p d ck q takes = pair (unacked (and-again ck (p .keeps)) both-invoked)
-request-taken p d ck q (denies w) = pair refused
+request-taken p d kind q takes = pair (unacked (keepable p d q) both-invoked)
+request-taken p d kind q (denies w) = pair refused
 
-ringout-taken : (d : Data) (ck k : Bool) (n : Conn) (b : Bool) → Inv (live d ck k n ringing) [] (onRingout d k n b .0) (onRingout d k n b .1)
+ringout-taken : (t : Terms) (kind : Kind) (b : Bool) → Inv (live t kind ringing) [] (onRingout t kind b .0) (onRingout t kind b .1)
 unfolding onRingout
-ringout-taken d ck k n true = pair ring
-ringout-taken d ck true n false = pair (again both-invoked)
-ringout-taken d ck false n false = pair ended
+ringout-taken t kind true = pair ring
+ringout-taken (chosen d true n) kind false = pair (again both-invoked)
+ringout-taken (chosen d false n) kind false = pair ended
 
 pair-line-gets : {c : Clerk} {m : Msg} {u v : List Msg} {l : Line} (p : Policy) (w : Word) → Pair c (m ∷ u) l v → Inv c u (lineTakes p l m w .0) (v ++ lineTakes p l m w .1)
 unfolding lineTakes onResume onSuspend
-pair-line-gets p w (requested {d} {ck} {q}) = request-taken p d ck q (w .verdict)
-pair-line-gets p w (resumed {n}) = rw (resume-fits n, onResume) (pair both-invoked)
-pair-line-gets p w (called {d} {ck} {k} {n} m) = ringout-taken d ck k n (w .free)
-pair-line-gets p w (late {n} i) = rw (same-fits n, onSuspend) (pair i)
+pair-line-gets p w (requested {d} {kind} {q}) = request-taken p d kind q (w .verdict)
+pair-line-gets p w (resumed {t}) = rw (resume-fits (conn t), onResume) (pair both-invoked)
+pair-line-gets p w (called {t} {kind} m) = ringout-taken t kind (w .free)
+pair-line-gets p w (late {t} i) = rw (same-fits (conn t), onSuspend) (pair i)
 
-unheard-taken : (p : Policy) (d : Data) (ck : Bool) (q : ℕ) (a : Verdict) → Inv absent [] (onRequest p none d ck q a .0) (onRequest p none d ck q a .1)
+unheard-taken : (p : Policy) (d : Data) (kind : Kind) (q : ℕ) (a : Verdict) → Inv absent [] (onRequest p none d kind q a .0) (onRequest p none d kind q a .1)
 unfolding onRequest
-unheard-taken p d ck q takes = deserted tt owed-result
-unheard-taken p d ck q (denies w) = both-out tt
+unheard-taken p d kind q takes = deserted tt owed-result
+unheard-taken p d kind q (denies w) = both-out tt
 
 inv-line-gets : {c : Clerk} {m : Msg} {u v : List Msg} {l : Line} (p : Policy) (w : Word) → Inv c (m ∷ u) l v → Inv c u (lineTakes p l m w .0) (v ++ lineTakes p l m w .1)
 inv-line-gets p w (pair i) = pair-line-gets p w i
@@ -219,7 +224,7 @@ inv-line-gets {m} p w (line-out h k) = rw (none-stays p m w (h .0)) (line-out (h
 inv-line-gets p w (clerk-out h here) = unfold lineTakes in both-out (h .1)
 inv-line-gets p w (clerk-out h (there k)) = clerk-out (h .1) k
 inv-line-gets p w (early-out h k) = clerk-out h k
-inv-line-gets p w (unheard {d} {ck} {q}) = unfold lineTakes in unheard-taken p d ck q (w .verdict)
+inv-line-gets p w (unheard {d} {kind} {q}) = unfold lineTakes in unheard-taken p d kind q (w .verdict)
 inv-line-gets p w (deserted h k) = deserted (h .1) (owed++ _ k)
 inv-line-gets {m} p w (both-out h) = rw (none-stays p m w (h .0)) (both-out (h .1))
 
@@ -233,8 +238,8 @@ pub data Stage : Bool → Clerk → List Msg → Line → List Msg → Type 0 wh
 abbrev pub Undropped : Net → Type 0
 Undropped s = s .dropped ≡ false → Stage (s .used) (s .clerk) (s .up) (s .line) (s .down)
 
-stage-asks : {c : Clerk} {u v : List Msg} {l : Line} (d : Data) (ck : Bool) (q : ℕ) → Stage false c u l v → Stage true (waiting d ck) (u ++ (request d ck q ∷ [])) l v
-stage-asks d ck q new = old (pair requested)
+stage-asks : {c : Clerk} {u v : List Msg} {l : Line} (d : Data) (kind : Kind) (q : ℕ) → Stage false c u l v → Stage true (waiting d kind) (u ++ (request d kind q ∷ [])) l v
+stage-asks d kind q new = old (pair requested)
 
 stage-acts : {t : Bool} {c c′ : Clerk} {o u v : List Msg} {l : Line} → Stage t c u l v → ClerkActEffect c c′ o → Stage t c′ (u ++ o) l v
 stage-acts new stays = new
@@ -252,7 +257,7 @@ stage-line-gets p w (old i) = old (inv-line-gets p w i)
 
 move-undropped : {p : Policy} {s s′ : Net} → Move p s s′ → Undropped s → Undropped s′
 move-undropped still i h = i h
-move-undropped (asked {d} {ck} q e) i h = stage-asks d ck q (rw e at (i h))
+move-undropped (ask {d} {kind} q e) i h = stage-asks d kind q (rw e at (i h))
 move-undropped (clerk-act e t) i h = stage-acts (i h) e
 move-undropped (line-act e t) i h = stage-line-acts (i h) e
 move-undropped (clerk-get b e) i h = stage-gets b (rw e at (i h))

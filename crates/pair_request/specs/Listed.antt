@@ -1,17 +1,18 @@
 -- Document 01, "Pairs when the wires are quiet", on the reading of one request; and messages that are no request.
 use mathlib.Core.Bool.{Bool, true}
 use mathlib.Core.List.{List, [], _∷_}
-use Rattle.pair_request.specs.Reading.{Data, Conn, Msg, request, result, denied, exec, ringout, busyAgain, noMatch, suspend, resume, cancel, alerts, failed, Clerk, absent, live, invoked, waitAnswer, ringing, suspended, Line, none, holds, idle, await, alert}
+use Rattle.message.specs.declared.Kind.{Kind}
+use Rattle.pair_request.specs.Reading.{Terms, Msg, request, result, denied, exec, ringout, busyAgain, noMatch, suspend, resume, cancel, alerts, failed, Clerk, absent, live, invoked, waitAnswer, ringing, suspended, Line, none, holds, idle, await, alert}
 
 pub data Listed : Clerk → Line → Type 0 where
   no-record : Listed absent none
-  invoked-invoked : {d : Data} {ck k : Bool} {n : Conn} → Listed (live d ck k n invoked) (holds d k n idle)
-  answer-await : {d : Data} {ck k : Bool} {n : Conn} {m : Bool} → Listed (live d ck k n waitAnswer) (holds d k n (await m))
-  suspended-await : {d : Data} {ck k : Bool} {n : Conn} → Listed (live d ck k n suspended) (holds d k n (await true))
-  ringout-alert : {d : Data} {ck k : Bool} {n : Conn} → Listed (live d ck k n ringing) (holds d k n alert)
+  invoked-invoked : {t : Terms} {kind : Kind} → Listed (live t kind invoked) (holds t kind idle)
+  answer-await : {t : Terms} {kind : Kind} {m : Bool} → Listed (live t kind waitAnswer) (holds t kind (await m))
+  suspended-await : {t : Terms} {kind : Kind} → Listed (live t kind suspended) (holds t kind (await true))
+  ringout-alert : {t : Terms} {kind : Kind} → Listed (live t kind ringing) (holds t kind alert)
 
 abbrev pub NotReq : Msg → Type 0
-NotReq (request d ck q) = ⊥
+NotReq (request d kind q) = ⊥
 NotReq (result k n) = Unit
 NotReq (denied w) = Unit
 NotReq (exec n) = Unit

@@ -1,6 +1,5 @@
 -- One request at its two ends and on the two wires: what the desks' tables read for it. That the desks' own definitions do exactly this is proved
 -- in crate pair; nothing that the product promises is stated here.
-use mathlib.Core.Path.{_≡_, refl}
 use mathlib.Core.Bool.{Bool, true, false}
 use mathlib.Core.List.{List, [], _∷_, _++_}
 use Prim.Native.Nat.{ℕ}
@@ -17,16 +16,30 @@ use Rattle.clerk_table.specs.declared.table.Timer.the-variants.{T1, T2, T3}
 pub data Conn : Type 0 where
   ret rls : Conn
 
--- what an ask stores and its request message carries
+-- what an ask stores and its request message carries, beside the kind
 pub record Data : Type 0 where
   pub numberA : Words
   pub numberB : Words
   pub service : ℕ
-  pub kind : Kind
+  pub canKeep : Bool
 
--- a request has its data, can-keep and preference; a ccCancel goes in Release Complete (ret) or in Setup (rls)
+-- what both ends go by once the line's end has stored the request: what was asked, the keep choice, the connection choice. No step changes them. It is no
+-- record, so that the constructor stands in patterns and indices where a choice decides.
+pub data Terms : Type 0 where
+  chosen : Data → Bool → Conn → Terms
+
+abbrev pub asked : Terms → Data
+asked (chosen d k n) = d
+
+abbrev pub keep : Terms → Bool
+keep (chosen d k n) = k
+
+abbrev pub conn : Terms → Conn
+conn (chosen d k n) = n
+
+-- a request has its data, kind and preference; a ccCancel goes in Release Complete (ret) or in Setup (rls)
 pub data Msg : Type 0 where
-  request : Data → Bool → ℕ → Msg
+  request : Data → Kind → ℕ → Msg
   result : Bool → Conn → Msg
   denied : Bool → Msg
   exec : Conn → Msg
@@ -39,11 +52,11 @@ pub data Msg : Type 0 where
 pub data CState : Type 0 where
   invoked waitAnswer ringing suspended : CState
 
--- data and can-keep; once acknowledged also keep choice, connection choice and state
+-- what was asked, or the terms once acknowledged; and the phase, which a step may change: kind and state
 pub data Clerk : Type 0 where
   absent : Clerk
-  waiting : Data → Bool → Clerk
-  live : Data → Bool → Bool → Conn → CState → Clerk
+  waiting : Data → Kind → Clerk
+  live : Terms → Kind → CState → Clerk
 
 -- Await with the suspended mark or without it
 pub data LState : Type 0 where
@@ -53,7 +66,7 @@ pub data LState : Type 0 where
 
 pub data Line : Type 0 where
   none : Line
-  holds : Data → Bool → Conn → LState → Line
+  holds : Terms → Kind → LState → Line
 
 abbrev pub and : Bool → Bool → Bool
 and true b = b
@@ -78,17 +91,17 @@ LAnswer = Line × List Msg
 
 -- ---- the clerk's end
 -- an input that has a row in Ringout alone
-unfoldable pub inRinging : Clerk → (Data → Bool → Bool → Conn → CAnswer) → CAnswer
+unfoldable pub inRinging : Clerk → (Terms → Kind → CAnswer) → CAnswer
 inRinging absent f = (absent, [])
-inRinging (waiting d ck) f = (waiting d ck, [])
-inRinging (live d ck k n invoked) f = (live d ck k n invoked, [])
-inRinging (live d ck k n waitAnswer) f = (live d ck k n waitAnswer, [])
-inRinging (live d ck k n ringing) f = f d ck k n
-inRinging (live d ck k n suspended) f = (live d ck k n suspended, [])
+inRinging (waiting d kind) f = (waiting d kind, [])
+inRinging (live t kind invoked) f = (live t kind invoked, [])
+inRinging (live t kind waitAnswer) f = (live t kind waitAnswer, [])
+inRinging (live t kind ringing) f = f t kind
+inRinging (live t kind suspended) f = (live t kind suspended, [])
 
-unfoldable pub onBusyAgain : Data → Bool → Bool → Conn → CAnswer
-onBusyAgain d ck true n = (live d ck true n invoked, [])
-onBusyAgain d ck false n = (absent, [])
+unfoldable pub onBusyAgain : Terms → Kind → CAnswer
+onBusyAgain (chosen d true n) kind = (live (chosen d true n) kind invoked, [])
+onBusyAgain (chosen d false n) kind = (absent, [])
 
 -- the reply to a ccExecPossible in Setup that is refused with 7 or 8 (mend M3)
 abbrev pub unfit : Conn → List Msg
@@ -96,36 +109,36 @@ unfit ret = []
 unfit rls = cancel ret ∷ []
 
 -- ccExecPossible in Invoked: is the carrier right, is User A busy
-unfoldable pub onExec : Data → Bool → Bool → Conn → Conn → Bool → Bool → CAnswer
-onExec d ck k n m false b = (live d ck k n invoked, unfit m)
-onExec d ck k n m true false = (live d ck k n waitAnswer, [])
-onExec d ck k n m true true = (live d ck k n suspended, suspend n ∷ [])
+unfoldable pub onExec : Terms → Kind → Conn → Bool → Bool → CAnswer
+onExec t kind m false b = (live t kind invoked, unfit m)
+onExec t kind m true false = (live t kind waitAnswer, [])
+onExec t kind m true true = (live t kind suspended, suspend (conn t) ∷ [])
 
 -- a message at the clerk's end, with the host's word on User A (true: busy)
 unfoldable pub clerkTakes : Clerk → Msg → Bool → CAnswer
-clerkTakes c (request d ck p) b = (c, [])
+clerkTakes c (request d kind p) b = (c, [])
 clerkTakes c ringout b = (c, [])
 clerkTakes c (suspend n) b = (c, [])
 clerkTakes c (resume n) b = (c, [])
 clerkTakes absent (result k n) b = (absent, cancel ret ∷ [])
-clerkTakes (waiting d ck) (result k n) b = (live d ck (and ck k) n invoked, [])
-clerkTakes (live d ck k n s) (result k′ n′) b = (live d ck k n s, [])
+clerkTakes (waiting d kind) (result k n) b = (live (chosen d (and (d .canKeep) k) n) kind invoked, [])
+clerkTakes (live t kind s) (result k′ n′) b = (live t kind s, [])
 clerkTakes absent (denied w) b = (absent, [])
-clerkTakes (waiting d ck) (denied w) b = (absent, [])
-clerkTakes (live d ck k n s) (denied w) b = (live d ck k n s, [])
+clerkTakes (waiting d kind) (denied w) b = (absent, [])
+clerkTakes (live t kind s) (denied w) b = (live t kind s, [])
 clerkTakes absent (exec m) b = (absent, cancel ret ∷ [])
-clerkTakes (waiting d ck) (exec m) b = (waiting d ck, unfit m)
-clerkTakes (live d ck k n invoked) (exec m) b = onExec d ck k n m (sameConn m n) b
-clerkTakes (live d ck k n waitAnswer) (exec m) b = (live d ck k n waitAnswer, unfit m)
-clerkTakes (live d ck k n ringing) (exec m) b = (live d ck k n ringing, unfit m)
-clerkTakes (live d ck k n suspended) (exec m) b = (live d ck k n suspended, unfit m)
+clerkTakes (waiting d kind) (exec m) b = (waiting d kind, unfit m)
+clerkTakes (live t kind invoked) (exec m) b = onExec t kind m (sameConn m (conn t)) b
+clerkTakes (live t kind waitAnswer) (exec m) b = (live t kind waitAnswer, unfit m)
+clerkTakes (live t kind ringing) (exec m) b = (live t kind ringing, unfit m)
+clerkTakes (live t kind suspended) (exec m) b = (live t kind suspended, unfit m)
 clerkTakes absent (cancel m) b = (absent, [])
-clerkTakes (waiting d ck) (cancel m) b = (absent, [])
-clerkTakes (live d ck k n s) (cancel m) b = (absent, [])
+clerkTakes (waiting d kind) (cancel m) b = (absent, [])
+clerkTakes (live t kind s) (cancel m) b = (absent, [])
 clerkTakes c busyAgain b = inRinging c onBusyAgain
-clerkTakes c noMatch b = inRinging c (λ d ck k n. (absent, []))
-clerkTakes c alerts b = inRinging c (λ d ck k n. (absent, []))
-clerkTakes c failed b = inRinging c (λ d ck k n. (absent, cancel n ∷ []))
+clerkTakes c noMatch b = inRinging c (λ t kind. (absent, []))
+clerkTakes c alerts b = inRinging c (λ t kind. (absent, []))
+clerkTakes c failed b = inRinging c (λ t kind. (absent, cancel (conn t) ∷ []))
 
 -- a signal is handed in as the message that it stands for
 abbrev pub signalMsg : Signal → Msg
@@ -139,45 +152,45 @@ pub data CAct : Type 0 where
   signal : Signal → CAct
 
 -- user's acts and timers at the clerk's end, by the state of an acknowledged record
-unfoldable pub liveActs : Data → Bool → Bool → Conn → CState → CAct → CAnswer
-liveActs d ck k n waitAnswer (act Act.Accept) = (live d ck k n ringing, ringout ∷ [])
-liveActs d ck k n invoked (act Act.Accept) = (live d ck k n invoked, [])
-liveActs d ck k n ringing (act Act.Accept) = (live d ck k n ringing, [])
-liveActs d ck k n suspended (act Act.Accept) = (live d ck k n suspended, [])
-liveActs d ck k n suspended (act Act.Resume) = (live d ck k n invoked, resume n ∷ [])
-liveActs d ck k n invoked (act Act.Resume) = (live d ck k n invoked, [])
-liveActs d ck k n waitAnswer (act Act.Resume) = (live d ck k n waitAnswer, [])
-liveActs d ck k n ringing (act Act.Resume) = (live d ck k n ringing, [])
-liveActs d ck k n suspended (act Act.GoOn) = (live d ck k n waitAnswer, [])
-liveActs d ck k n invoked (act Act.GoOn) = (live d ck k n invoked, [])
-liveActs d ck k n waitAnswer (act Act.GoOn) = (live d ck k n waitAnswer, [])
-liveActs d ck k n ringing (act Act.GoOn) = (live d ck k n ringing, [])
-liveActs d ck k n s (act Act.Cancel) = (absent, cancel n ∷ [])
-liveActs d ck k n s (timer T1) = (live d ck k n s, [])
-liveActs d ck k n invoked (timer T2) = (absent, cancel n ∷ [])
-liveActs d ck k n waitAnswer (timer T2) = (absent, cancel n ∷ [])
-liveActs d ck k n ringing (timer T2) = (live d ck k n ringing, [])
-liveActs d ck k n suspended (timer T2) = (absent, cancel n ∷ [])
-liveActs d ck k n invoked (timer T3) = (live d ck k n invoked, [])
-liveActs d ck k n waitAnswer (timer T3) = (absent, cancel n ∷ [])
-liveActs d ck k n ringing (timer T3) = (live d ck k n ringing, [])
-liveActs d ck k n suspended (timer T3) = (live d ck k n suspended, [])
-liveActs d ck k n s (signal x) = clerkTakes (live d ck k n s) (signalMsg x) false
+unfoldable pub liveActs : Terms → Kind → CState → CAct → CAnswer
+liveActs t kind waitAnswer (act Act.Accept) = (live t kind ringing, ringout ∷ [])
+liveActs t kind invoked (act Act.Accept) = (live t kind invoked, [])
+liveActs t kind ringing (act Act.Accept) = (live t kind ringing, [])
+liveActs t kind suspended (act Act.Accept) = (live t kind suspended, [])
+liveActs t kind suspended (act Act.Resume) = (live t kind invoked, resume (conn t) ∷ [])
+liveActs t kind invoked (act Act.Resume) = (live t kind invoked, [])
+liveActs t kind waitAnswer (act Act.Resume) = (live t kind waitAnswer, [])
+liveActs t kind ringing (act Act.Resume) = (live t kind ringing, [])
+liveActs t kind suspended (act Act.GoOn) = (live t kind waitAnswer, [])
+liveActs t kind invoked (act Act.GoOn) = (live t kind invoked, [])
+liveActs t kind waitAnswer (act Act.GoOn) = (live t kind waitAnswer, [])
+liveActs t kind ringing (act Act.GoOn) = (live t kind ringing, [])
+liveActs t kind s (act Act.Cancel) = (absent, cancel (conn t) ∷ [])
+liveActs t kind s (timer T1) = (live t kind s, [])
+liveActs t kind invoked (timer T2) = (absent, cancel (conn t) ∷ [])
+liveActs t kind waitAnswer (timer T2) = (absent, cancel (conn t) ∷ [])
+liveActs t kind ringing (timer T2) = (live t kind ringing, [])
+liveActs t kind suspended (timer T2) = (absent, cancel (conn t) ∷ [])
+liveActs t kind invoked (timer T3) = (live t kind invoked, [])
+liveActs t kind waitAnswer (timer T3) = (absent, cancel (conn t) ∷ [])
+liveActs t kind ringing (timer T3) = (live t kind ringing, [])
+liveActs t kind suspended (timer T3) = (live t kind suspended, [])
+liveActs t kind s (signal x) = clerkTakes (live t kind s) (signalMsg x) false
 
-unfoldable pub waitingActs : Data → Bool → CAct → CAnswer
-waitingActs d ck (act Act.Accept) = (waiting d ck, [])
-waitingActs d ck (act Act.Resume) = (waiting d ck, [])
-waitingActs d ck (act Act.GoOn) = (waiting d ck, [])
-waitingActs d ck (act Act.Cancel) = (absent, cancel ret ∷ [])
-waitingActs d ck (timer T1) = (absent, cancel ret ∷ [])
-waitingActs d ck (timer T2) = (waiting d ck, [])
-waitingActs d ck (timer T3) = (waiting d ck, [])
-waitingActs d ck (signal x) = clerkTakes (waiting d ck) (signalMsg x) false
+unfoldable pub waitingActs : Data → Kind → CAct → CAnswer
+waitingActs d kind (act Act.Accept) = (waiting d kind, [])
+waitingActs d kind (act Act.Resume) = (waiting d kind, [])
+waitingActs d kind (act Act.GoOn) = (waiting d kind, [])
+waitingActs d kind (act Act.Cancel) = (absent, cancel ret ∷ [])
+waitingActs d kind (timer T1) = (absent, cancel ret ∷ [])
+waitingActs d kind (timer T2) = (waiting d kind, [])
+waitingActs d kind (timer T3) = (waiting d kind, [])
+waitingActs d kind (signal x) = clerkTakes (waiting d kind) (signalMsg x) false
 
 unfoldable pub clerkActs : Clerk → CAct → CAnswer
 clerkActs absent x = (absent, [])
-clerkActs (waiting d ck) x = waitingActs d ck x
-clerkActs (live d ck k n s) x = liveActs d ck k n s x
+clerkActs (waiting d kind) x = waitingActs d kind x
+clerkActs (live t kind s) x = liveActs t kind s x
 
 -- ---- the line's end
 -- the desk's settings: whether it keeps, and the connection it chooses by default
@@ -185,11 +198,15 @@ pub record Policy : Type 0 where
   pub keeps : Bool
   pub default : Conn
 
-abbrev pub keepOf : Policy → Bool → Bool
-keepOf p ck = and ck (p .keeps)
-
 abbrev pub connOf : Policy → ℕ → Conn
 connOf p preference = pick (eqb preference 1) ret (pick (eqb preference 2) rls (p .default))
+
+-- the terms on which it stores a request
+abbrev pub termsOf : Policy → Data → ℕ → Terms
+termsOf p d q = chosen d (and (d .canKeep) (p .keeps)) (connOf p q)
+
+abbrev pub resultOf : Terms → Msg
+resultOf t = result (keep t) (conn t)
 
 -- what the desk as a whole decides: a request is taken, or denied short (true) or long
 pub data Verdict : Type 0 where
@@ -201,16 +218,16 @@ pub record Word : Type 0 where
   pub verdict : Verdict
   pub free : Bool
 
-unfoldable pub onRequest : Policy → Line → Data → Bool → ℕ → Verdict → LAnswer
-onRequest p l d ck q (denies w) = (l, denied w ∷ [])
-onRequest p none d ck q takes = (holds d (keepOf p ck) (connOf p q) idle, result (keepOf p ck) (connOf p q) ∷ [])
-onRequest p (holds d′ k n s) d ck q takes = (holds d′ k n s, denied true ∷ [])
+unfoldable pub onRequest : Policy → Line → Data → Kind → ℕ → Verdict → LAnswer
+onRequest p l d kind q (denies w) = (l, denied w ∷ [])
+onRequest p none d kind q takes = (holds (termsOf p d q) kind idle, resultOf (termsOf p d q) ∷ [])
+onRequest p (holds t kind′ s) d kind q takes = (holds t kind′ s, denied true ∷ [])
 
 -- ccRingout in Await, by whether the line can take a call and keep is chosen
-unfoldable pub onRingout : Data → Bool → Conn → Bool → LAnswer
-onRingout d k n true = (holds d k n alert, [])
-onRingout d true n false = (holds d true n idle, busyAgain ∷ [])
-onRingout d false n false = (none, busyAgain ∷ [])
+unfoldable pub onRingout : Terms → Kind → Bool → LAnswer
+onRingout t kind true = (holds t kind alert, [])
+onRingout (chosen d true n) kind false = (holds (chosen d true n) kind idle, busyAgain ∷ [])
+onRingout (chosen d false n) kind false = (none, busyAgain ∷ [])
 
 -- a ccResume is taken in Facility or Setup for RET, in Setup for RLS (mend M5)
 abbrev pub resumeFits : Conn → Conn → Bool
@@ -219,16 +236,16 @@ resumeFits rls ret = false
 resumeFits rls rls = true
 
 -- is the carrier right
-unfoldable pub onResume : Data → Bool → Conn → Bool → Bool → LAnswer
-onResume d k n m true = (holds d k n idle, [])
-onResume d k n m false = (holds d k n (await m), [])
+unfoldable pub onResume : Terms → Kind → Bool → Bool → LAnswer
+onResume t kind m true = (holds t kind idle, [])
+onResume t kind m false = (holds t kind (await m), [])
 
-unfoldable pub onSuspend : Data → Bool → Conn → Bool → Bool → LAnswer
-onSuspend d k n m true = (holds d k n (await true), [])
-onSuspend d k n m false = (holds d k n (await m), [])
+unfoldable pub onSuspend : Terms → Kind → Bool → Bool → LAnswer
+onSuspend t kind m true = (holds t kind (await true), [])
+onSuspend t kind m false = (holds t kind (await m), [])
 
 unfoldable pub lineTakes : Policy → Line → Msg → Word → LAnswer
-lineTakes p l (request d ck q) w = onRequest p l d ck q (w .verdict)
+lineTakes p l (request d kind q) w = onRequest p l d kind q (w .verdict)
 lineTakes p l (result k n) w = (l, [])
 lineTakes p l (denied v) w = (l, [])
 lineTakes p l (exec n) w = (l, [])
@@ -238,34 +255,34 @@ lineTakes p l alerts w = (l, [])
 lineTakes p l failed w = (l, [])
 lineTakes p l (cancel n) w = (none, [])
 lineTakes p none ringout w = (none, noMatch ∷ [])
-lineTakes p (holds d k n idle) ringout w = (holds d k n idle, noMatch ∷ [])
-lineTakes p (holds d k n (await m)) ringout w = onRingout d k n (w .free)
-lineTakes p (holds d k n alert) ringout w = (holds d k n alert, noMatch ∷ [])
+lineTakes p (holds t kind idle) ringout w = (holds t kind idle, noMatch ∷ [])
+lineTakes p (holds t kind (await m)) ringout w = onRingout t kind (w .free)
+lineTakes p (holds t kind alert) ringout w = (holds t kind alert, noMatch ∷ [])
 lineTakes p none (suspend n′) w = (none, [])
-lineTakes p (holds d k n idle) (suspend n′) w = (holds d k n idle, [])
-lineTakes p (holds d k n (await m)) (suspend n′) w = onSuspend d k n m (sameConn n′ n)
-lineTakes p (holds d k n alert) (suspend n′) w = (holds d k n alert, [])
+lineTakes p (holds t kind idle) (suspend n′) w = (holds t kind idle, [])
+lineTakes p (holds t kind (await m)) (suspend n′) w = onSuspend t kind m (sameConn n′ (conn t))
+lineTakes p (holds t kind alert) (suspend n′) w = (holds t kind alert, [])
 lineTakes p none (resume n′) w = (none, cancel ret ∷ [])
-lineTakes p (holds d k n idle) (resume n′) w = (holds d k n idle, cancel ret ∷ [])
-lineTakes p (holds d k n (await m)) (resume n′) w = onResume d k n m (resumeFits n n′)
-lineTakes p (holds d k n alert) (resume n′) w = (holds d k n alert, cancel ret ∷ [])
+lineTakes p (holds t kind idle) (resume n′) w = (holds t kind idle, cancel ret ∷ [])
+lineTakes p (holds t kind (await m)) (resume n′) w = onResume t kind m (resumeFits (conn t) n′)
+lineTakes p (holds t kind alert) (resume n′) w = (holds t kind alert, cancel ret ∷ [])
 
 pub data LAct : Type 0 where
   offers alerted callFailed cancels guard : LAct
 
 unfoldable pub lineActs : Line → LAct → LAnswer
 lineActs none x = (none, [])
-lineActs (holds d k n idle) offers = (holds d k n (await false), exec n ∷ [])
-lineActs (holds d k n (await m)) offers = (holds d k n (await m), [])
-lineActs (holds d k n alert) offers = (holds d k n alert, [])
-lineActs (holds d k n idle) alerted = (holds d k n idle, [])
-lineActs (holds d k n (await m)) alerted = (holds d k n (await m), [])
-lineActs (holds d k n alert) alerted = (none, alerts ∷ [])
-lineActs (holds d k n idle) callFailed = (holds d k n idle, [])
-lineActs (holds d k n (await m)) callFailed = (holds d k n (await m), [])
-lineActs (holds d k n alert) callFailed = (none, failed ∷ [])
-lineActs (holds d k n s) cancels = (none, cancel n ∷ [])
-lineActs (holds d k n s) guard = (none, cancel n ∷ [])
+lineActs (holds t kind idle) offers = (holds t kind (await false), exec (conn t) ∷ [])
+lineActs (holds t kind (await m)) offers = (holds t kind (await m), [])
+lineActs (holds t kind alert) offers = (holds t kind alert, [])
+lineActs (holds t kind idle) alerted = (holds t kind idle, [])
+lineActs (holds t kind (await m)) alerted = (holds t kind (await m), [])
+lineActs (holds t kind alert) alerted = (none, alerts ∷ [])
+lineActs (holds t kind idle) callFailed = (holds t kind idle, [])
+lineActs (holds t kind (await m)) callFailed = (holds t kind (await m), [])
+lineActs (holds t kind alert) callFailed = (none, failed ∷ [])
+lineActs (holds t kind s) cancels = (none, cancel (conn t) ∷ [])
+lineActs (holds t kind s) guard = (none, cancel (conn t) ∷ [])
 
 -- ---- the net
 -- the two ends, the two wires (`up`: to the line's end), and the history: was it taken up, was it accepted, was a T1 or T2 report taken at the
@@ -290,8 +307,8 @@ or false b = b
 
 abbrev pub present : Clerk → Bool
 present absent = false
-present (waiting d ck) = true
-present (live d ck k n s) = true
+present (waiting d kind) = true
+present (live t kind s) = true
 
 abbrev pub isT1orT2 : CAct → Bool
 isT1orT2 (act x) = false
@@ -306,18 +323,18 @@ runsOut c x = and (isT1orT2 x) (and (present c) (not (present (clerkActs c x .0)
 
 abbrev pub guardEnds : Line → LAct → Bool
 guardEnds none x = false
-guardEnds (holds d k n s) offers = false
-guardEnds (holds d k n s) alerted = false
-guardEnds (holds d k n s) callFailed = false
-guardEnds (holds d k n s) cancels = false
-guardEnds (holds d k n s) guard = true
+guardEnds (holds t kind s) offers = false
+guardEnds (holds t kind s) alerted = false
+guardEnds (holds t kind s) callFailed = false
+guardEnds (holds t kind s) cancels = false
+guardEnds (holds t kind s) guard = true
 
 abbrev pub held : Line → Bool
 held none = false
-held (holds d k n s) = true
+held (holds t kind s) = true
 
 pub data Event : Type 0 where
-  asks : Data → Bool → ℕ → Event
+  asks : Data → Kind → ℕ → Event
   clerkDoes : CAct → Event
   lineDoes : LAct → Event
   clerkGets : Bool → Event
@@ -368,11 +385,11 @@ lost s u d =
       dropped = true;
     }
 
-abbrev pub afterAsk : Net → Data → Bool → ℕ → Net
-afterAsk s d ck q =
+abbrev pub afterAsk : Net → Data → Kind → ℕ → Net
+afterAsk s d kind q =
     record {
-      clerk = waiting d ck;
-      up = s .up ++ (request d ck q ∷ []);
+      clerk = waiting d kind;
+      up = s .up ++ (request d kind q ∷ []);
       line = s .line;
       down = s .down;
       used = true;
@@ -383,9 +400,9 @@ afterAsk s d ck q =
     }
 
 -- an identifier is taken up at most once
-unfoldable pub askStep : Net → Data → Bool → ℕ → Bool → Net
-askStep s d ck q true = s
-askStep s d ck q false = afterAsk s d ck q
+unfoldable pub askStep : Net → Data → Kind → ℕ → Bool → Net
+askStep s d kind q true = s
+askStep s d kind q false = afterAsk s d kind q
 
 unfoldable pub clerkGetStep : Net → Bool → List Msg → Net
 clerkGetStep s b [] = s
@@ -396,7 +413,7 @@ lineGetStep p s w [] = s
 lineGetStep p s w (m ∷ u) = afterLine s u false (lineTakes p (s .line) m w)
 
 unfoldable pub next : Policy → Net → Event → Net
-next p s (asks d ck q) = askStep s d ck q (s .used)
+next p s (asks d kind q) = askStep s d kind q (s .used)
 next p s (clerkDoes x) = afterClerk s (s .down) (runsOut (s .clerk) x) (clerkActs (s .clerk) x)
 next p s (lineDoes x) = afterLine s (s .up) (guardEnds (s .line) x) (lineActs (s .line) x)
 next p s (clerkGets b) = clerkGetStep s b (s .down)
