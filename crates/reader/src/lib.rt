@@ -92,12 +92,32 @@ fn plain(at: usize, body: Body, next: usize) -> FieldsRead
     }
 }
 
+// The same, field by field: so that only a request's answer stands in memory, and the fields of a message without numbers need not.
+fn field_by_field(read: FieldsRead) -> FieldsRead
+    ensures { λ r. ⌜ r ≡ read ⌝ }
+{
+    match read {
+        FieldsRead::Whole {
+            behindA,
+            behindB,
+            body,
+            next,
+        } => FieldsRead::Whole {
+            behindA,
+            behindB,
+            body,
+            next,
+        },
+        FieldsRead::Refused(x) => FieldsRead::Refused(x),
+    }
+}
+
 fn fields(typeNumber: u16, s: &[u8], at: usize) -> FieldsRead
     ensures { λ r. ⌜ fieldsTold r ≡ fieldsAt typeNumber (now (s .entry)) at ⌝ }
 {
     match typeNumber {
-        1 => request(Kind::Ccbs, s, at),
-        2 => request(Kind::Ccnr, s, at),
+        1 => field_by_field(request(Kind::Ccbs, s, at)),
+        2 => field_by_field(request(Kind::Ccnr, s, at)),
         3 => match read_field(s, at, 0, 1) {
             NumberRead::Refused(x) => FieldsRead::Refused(x),
             NumberRead::Value(v, next) => plain(at, Body::RequestResult { keep: v as u8 }, next),

@@ -12,8 +12,14 @@ use Rattle.reader.proofs.fields.Tie as tie
 request-requires : tie.Need-request-requires
 request-requires c κs = search needs
 
+field-by-field-requires : tie.Need-field-by-field-requires
+field-by-field-requires c κs = search needs
+
 request-requires-2 : tie.Need-request-requires-2
 request-requires-2 c κs = search needs
+
+field-by-field-requires-2 : tie.Need-field-by-field-requires-2
+field-by-field-requires-2 c κs = search needs
 
 read-field-requires : tie.Need-read-field-requires
 read-field-requires c κs = search needs
@@ -24,8 +30,8 @@ enum-known-x c = search needs
 enum-known-v : tie.Need-enum-known-v
 enum-known-v c = search needs
 
-cast-t18 : tie.Need-cast-t18
-cast-t18 c = omega (arith, field-read _ _ _ _ _ _ (sym (c .before .before .before .read-field .ensures) ∙ ap numberTold (c .before .v .given .1)) .most)
+cast-t20 : tie.Need-cast-t20
+cast-t20 c = omega (arith, field-read _ _ _ _ _ _ (sym (c .before .before .before .read-field .ensures) ∙ ap numberTold (c .before .v .given .1)) .most)
 
 plain-requires : tie.Need-plain-requires
 plain-requires c κs = search needs
@@ -39,8 +45,8 @@ enum-known-x-2 c = search needs
 enum-known-v-2 : tie.Need-enum-known-v-2
 enum-known-v-2 c = search needs
 
-cast-t22 : tie.Need-cast-t22
-cast-t22 c = omega (arith, field-read _ _ _ _ _ _ (sym (c .before .before .before .read-field2 .ensures) ∙ ap numberTold (c .before .v2 .given .1)) .most)
+cast-t24 : tie.Need-cast-t24
+cast-t24 c = omega (arith, field-read _ _ _ _ _ _ (sym (c .before .before .before .read-field2 .ensures) ∙ ap numberTold (c .before .v2 .given .1)) .most)
 
 plain-requires-2 : tie.Need-plain-requires-2
 plain-requires-2 c κs = search needs
@@ -60,8 +66,8 @@ enum-known-x-3 c = search needs
 enum-known-v-3 : tie.Need-enum-known-v-3
 enum-known-v-3 c = search needs
 
-cast-t28 : tie.Need-cast-t28
-cast-t28 c = omega (arith, field-read _ _ _ _ _ _ (sym (c .before .before .before .read-field3 .ensures) ∙ ap numberTold (c .before .v3 .given .1)) .most)
+cast-t30 : tie.Need-cast-t30
+cast-t30 c = omega (arith, field-read _ _ _ _ _ _ (sym (c .before .before .before .read-field3 .ensures) ∙ ap numberTold (c .before .v3 .given .1)) .most)
 
 plain-requires-5 : tie.Need-plain-requires-5
 plain-requires-5 c κs = search needs
@@ -83,11 +89,11 @@ plain-requires-10 c κs = search needs
 
 returns : tie.Need-returns
 unfolding fieldsAt
-returns c = rw (c .before .match .keys1, c .request .ensures)
+returns c = rw (c .before .before .match .keys1, c .field-by-field .ensures, c .before .request .ensures)
 
 returns-2 : tie.Need-returns-2
 unfolding fieldsAt
-returns-2 c = rw (c .before .match .keys2, c .request2 .ensures)
+returns-2 c = rw (c .before .before .match .keys2, c .field-by-field2 .ensures, c .before .request2 .ensures)
 
 returns-3 : tie.Need-returns-3
 unfolding fieldsAt
@@ -146,23 +152,25 @@ fields-spec =
     tie.close
     (tie.spec
     request-requires
+    field-by-field-requires
     request-requires-2
+    field-by-field-requires-2
     read-field-requires
     enum-known-x
     enum-known-v
-    cast-t18
+    cast-t20
     plain-requires
     read-field-requires-2
     enum-known-x-2
     enum-known-v-2
-    cast-t22
+    cast-t24
     plain-requires-2
     plain-requires-3
     plain-requires-4
     read-field-requires-3
     enum-known-x-3
     enum-known-v-3
-    cast-t28
+    cast-t30
     plain-requires-5
     plain-requires-6
     plain-requires-7
