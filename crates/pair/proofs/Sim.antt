@@ -99,33 +99,6 @@ Turned p w e after = Good p after × Turn p w e after
 pub unmoved : {p : R.Policy} {w : World} {e : Event} → Good p w → Turned p w e w
 unmoved {w = w} g = (g, nobody (λ j. record { clerk = refl; line = same; up = refl; down = refl; history = unnoted (w .history) j }))
 
--- ---- a request that is left has the same net
-unaltered-read :
-    {e : Event} {before after : P.Held LineRecord.Record} → Unaltered e before after →
-    (j : Words) (l : R.Line) (b : Bool) → before ≡ lineRead j b l → (c : Bool) × (after ≡ lineRead j c l)
-unaltered-read same j l b e = (b, e)
-unaltered-read (marked r so) j R.none b e = not-one (sym e)
-unaltered-read (marked r so) j (R.holds t kind s) b e =
-    (true, ap (λ (x : LineRecord.Record). P.one (activated x)) (the-one r (lineRecord j b t kind s) e))
-
-pub left-sim : {w : World} {e : Event} {after : World} {j : Words} {n : R.Net} → Left w e after j → Sim j w n → Sim j after n
-left-sim {j = j} {n = n} left sim =
-    let line = unaltered-read (left .line) j (n .line) (sim .active) (sim .line) in
-    record {
-      clerk = left .clerk ∙ sim .clerk;
-      active = line .0;
-      line = line .1;
-      up = left .up ∙ sim .up;
-      down = left .down ∙ sim .down;
-      upClear = sim .upClear;
-      downClear = sim .downClear;
-      kept = sim .kept;
-      used = left .history .takenUp ∙ sim .used;
-      timedOut = left .history .runOut ∙ sim .timedOut;
-      guarded = left .history .guarded ∙ sim .guarded;
-      dropped = left .history .dropped ∙ sim .dropped;
-    }
-
 -- ---- wires
 map-append : {A B : Type 0} (f : A → B) (xs ys : List A) → map f (xs ++ ys) ≡ map f xs ++ map f ys
 map-append f [] ys = refl
@@ -151,65 +124,75 @@ pub wire-other :
 wire-other j k ms sent added s c d =
     messages-append j ms sent ∙ ap (λ x. messagesOf j ms ++ x) (ap (messagesOf j) s ∙ messages-other k j added c d) ∙ append-none (messagesOf j ms)
 
--- ---- the net of the request that a step is about
--- after a step of the clerk's desk
-abbrev clerkNet : R.Net → List R.Msg → Bool → Bool → R.CAnswer → R.Net
-clerkNet n left u t answer =
-    record {
-      clerk = answer .0;
-      up = n .up ++ answer .1;
-      line = n .line;
-      down = left;
+-- ---- the net of a request after a step, by what the step made of its records, its wires and its notes
+sim-next :
+    {j : Words} {w after : World} {n : R.Net} → Sim j w n → {c : R.Clerk} {l : R.Line} {a u t g x : Bool} {up down : List R.Msg} →
+    clerkHolds after j ≡ clerkRead j c → (b : Bool) → lineHolds after j ≡ lineRead j b l → messagesOf j (after .up) ≡ map (messageRead j) up → AllClear j up →
+    messagesOf j (after .down) ≡ map (messageRead j) down → AllClear j down → Noted (after .history) (w .history) j u t g x →
+    (R.or u (n .used) ≡ true → Kept j) →
+    Sim j after
+    (record {
+      clerk = c;
+      up = up;
+      line = l;
+      down = down;
       used = R.or u (n .used);
-      accepted = n .accepted;
+      accepted = a;
       timedOut = R.or t (n .timedOut);
-      guarded = n .guarded;
-      dropped = n .dropped;
+      guarded = R.or g (n .guarded);
+      dropped = R.or x (n .dropped);
+    })
+sim-next sim {u = u} {t} {g} {x} clerk b line up upClear down downClear h kept =
+    record {
+      clerk = clerk;
+      active = b;
+      line = line;
+      up = up;
+      down = down;
+      upClear = upClear;
+      downClear = downClear;
+      kept = kept;
+      used = h .takenUp ∙ ap (R.or u) (sim .used);
+      timedOut = h .runOut ∙ ap (R.or t) (sim .timedOut);
+      guarded = h .guarded ∙ ap (R.or g) (sim .guarded);
+      dropped = h .dropped ∙ ap (R.or x) (sim .dropped);
     }
 
+-- one that is left has the same net
+unaltered-read :
+    {e : Event} {before after : P.Held LineRecord.Record} → Unaltered e before after →
+    (j : Words) (l : R.Line) (b : Bool) → before ≡ lineRead j b l → (c : Bool) × (after ≡ lineRead j c l)
+unaltered-read same j l b e = (b, e)
+unaltered-read (marked r so) j R.none b e = not-one (sym e)
+unaltered-read (marked r so) j (R.holds t kind s) b e =
+    (true, ap (λ (x : LineRecord.Record). P.one (activated x)) (the-one r (lineRecord j b t kind s) e))
+
+pub left-sim : {w : World} {e : Event} {after : World} {j : Words} {n : R.Net} → Left w e after j → Sim j w n → Sim j after n
+left-sim {j = j} {n = n} left sim =
+    let line = unaltered-read (left .line) j (n .line) (sim .active) (sim .line) in
+    sim-next sim (left .clerk ∙ sim .clerk) (line .0) (line .1) (left .up ∙ sim .up) (sim .upClear) (left .down ∙ sim .down) (sim .downClear) (left .history)
+    (sim .kept)
+
+-- the one that a step of the clerk's desk is about
 pub clerk-own :
     {j : Words} {w : World} {n : R.Net} → Sim j w n → {rest : List Message} {left : List R.Msg} → messagesOf j rest ≡ map (messageRead j) left → AllClear j left →
     {step : ClerkStepped.Stepped} {history : History} {answer : R.CAnswer} → ClerkStep step j answer → AllClear j (answer .1) →
     {u t : Bool} → Noted history (w .history) j u t false false → (R.or u (n .used) ≡ true → Kept j) →
-    Sim j (clerkStepped w rest step history) (clerkNet n left u t answer)
-clerk-own {j} {w} {n} sim e c {step} {answer = answer} s clear {u} {t} h kept =
-    record {
-      clerk = s .itself;
-      active = sim .active;
-      line = sim .line;
-      up = wire-own j (w .up) (sentBy (step .outcome .sending)) (n .up) (answer .1) (sim .up) (s .sends) clear;
-      down = e;
-      upClear = clear-append (sim .upClear) clear;
-      downClear = c;
-      kept = kept;
-      used = h .takenUp ∙ ap (R.or u) (sim .used);
-      timedOut = h .runOut ∙ ap (R.or t) (sim .timedOut);
-      guarded = h .guarded ∙ sim .guarded;
-      dropped = h .dropped ∙ sim .dropped;
-    }
+    Sim j (clerkStepped w rest step history) (R.afterClerk n left u t answer)
+clerk-own {j} {w} {n} sim e c {step} {answer = answer} s clear h kept =
+    sim-next sim (s .itself) (sim .active) (sim .line) (wire-own j (w .up) (sentBy (step .outcome .sending)) (n .up) (answer .1) (sim .up) (s .sends) clear)
+    (clear-append (sim .upClear) clear) e c h kept
 
--- after a step of the line desk
+-- of the line desk
 pub line-own :
     {j : Words} {w : World} {n : R.Net} → Sim j w n → {rest : List Message} {left : List R.Msg} → messagesOf j rest ≡ map (messageRead j) left → AllClear j left →
     {step : LineStepped.Stepped} {history : History} {answer : R.LAnswer} → LineStep step j answer → AllClear j (answer .1) →
     {g : Bool} → Noted history (w .history) j false false g false → Sim j (lineStepped w rest step history) (R.afterLine n left g answer)
-line-own {j} {w} {n} sim e c {step} {answer = answer} s clear {g} h =
-    record {
-      clerk = sim .clerk;
-      active = s .active;
-      line = s .itself;
-      up = e;
-      down = wire-own j (w .down) (sentBy (step .outcome .sending)) (n .down) (answer .1) (sim .down) (s .sends) clear;
-      upClear = c;
-      downClear = clear-append (sim .downClear) clear;
-      kept = sim .kept;
-      used = h .takenUp ∙ sim .used;
-      timedOut = h .runOut ∙ sim .timedOut;
-      guarded = h .guarded ∙ ap (R.or g) (sim .guarded);
-      dropped = h .dropped ∙ sim .dropped;
-    }
+line-own {j} {w} {n} sim e c {step} {answer = answer} s clear h =
+    sim-next sim (sim .clerk) (s .active) (s .itself) e c (wire-own j (w .down) (sentBy (step .outcome .sending)) (n .down) (answer .1) (sim .down) (s .sends) clear)
+    (clear-append (sim .downClear) clear) h (sim .kept)
 
--- after a drop, by what is left of the wires
+-- a drop, by what is left of the wires
 abbrev pub lossy : World → List Message → List Message → Words → World
 lossy w up down k = record { clerk = w .clerk; up = up; line = w .line; down = down; history = withDropped (w .history) (k ∷ []) }
 
@@ -217,17 +200,6 @@ pub lost-own :
     {j : Words} {w : World} {n : R.Net} → Sim j w n → {up down : List Message} {u d : List R.Msg} → messagesOf j up ≡ map (messageRead j) u → AllClear j u →
     messagesOf j down ≡ map (messageRead j) d → AllClear j d → Sim j (lossy w up down j) (R.lost n u d)
 lost-own {j} {w} sim e c f b =
-    record {
-      clerk = sim .clerk;
-      active = sim .active;
-      line = sim .line;
-      up = e;
-      down = f;
-      upClear = c;
-      downClear = b;
-      kept = sim .kept;
-      used = sim .used;
-      timedOut = sim .timedOut;
-      guarded = sim .guarded;
-      dropped = has-own true j (w .history .dropped);
-    }
+    let noted : Noted (withDropped (w .history) (j ∷ [])) (w .history) j false false false true =
+    record { takenUp = refl; runOut = refl; guarded = refl; dropped = has-own true j (w .history .dropped) } in
+    sim-next sim (sim .clerk) (sim .active) (sim .line) e c f b noted (sim .kept)

@@ -379,9 +379,9 @@ or-elim false y h f g = g h
 pub data Move (p : Policy) : Net → Net → Type 0 where
   still : {s : Net} → Move p s s
   ask : {s : Net} {d : Data} {kind : Kind} (q : ℕ) → s .used ≡ false → Move p s (afterAsk s d kind q)
-  clerk-act : {s : Net} {c : Clerk} {o : List Msg} {t : Bool} → ClerkActEffect (s .clerk) c o → (t ≡ true → (c ≡ absent) × (present (s .clerk) ≡ true)) → Move p s (afterClerk s (s .down) t (c, o))
+  clerk-act : {s : Net} {c : Clerk} {o : List Msg} {t : Bool} → ClerkActEffect (s .clerk) c o → (t ≡ true → (c ≡ absent) × (present (s .clerk) ≡ true)) → Move p s (afterClerk s (s .down) false t (c, o))
   line-act : {s : Net} {l : Line} {o : List Msg} {t : Bool} → LineActEffect (s .line) l o → (t ≡ true → (l ≡ none) × (held (s .line) ≡ true)) → Move p s (afterLine s (s .up) t (l, o))
-  clerk-get : {s : Net} {m : Msg} {v : List Msg} (b : Bool) → s .down ≡ m ∷ v → Move p s (afterClerk s v false (clerkTakes (s .clerk) m b))
+  clerk-get : {s : Net} {m : Msg} {v : List Msg} (b : Bool) → s .down ≡ m ∷ v → Move p s (afterClerk s v false false (clerkTakes (s .clerk) m b))
   line-get : {s : Net} {m : Msg} {u : List Msg} (w : Word) → s .up ≡ m ∷ u → Move p s (afterLine s u false (lineTakes p (s .line) m w))
   up-lost : {s : Net} (i : ℕ) → Move p s (lost s (leftOut i (s .up)) (s .down))
   down-lost : {s : Net} (i : ℕ) → Move p s (lost s (s .up) (leftOut i (s .down)))

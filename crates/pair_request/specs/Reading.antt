@@ -341,15 +341,15 @@ pub data Event : Type 0 where
   lineGets : Word → Event
   losesUp losesDown : ℕ → Event
 
--- the clerk's end answered r
-abbrev pub afterClerk : Net → List Msg → Bool → CAnswer → Net
-afterClerk s d o r =
+-- the clerk's end answered r: was the request taken up by it, did it run out
+abbrev pub afterClerk : Net → List Msg → Bool → Bool → CAnswer → Net
+afterClerk s d u o r =
     record {
       clerk = r .0;
       up = s .up ++ r .1;
       line = s .line;
       down = d;
-      used = s .used;
+      used = or u (s .used);
       accepted = s .accepted;
       timedOut = or o (s .timedOut);
       guarded = s .guarded;
@@ -386,18 +386,7 @@ lost s u d =
     }
 
 abbrev pub afterAsk : Net → Data → Kind → ℕ → Net
-afterAsk s d kind q =
-    record {
-      clerk = waiting d kind;
-      up = s .up ++ (request d kind q ∷ []);
-      line = s .line;
-      down = s .down;
-      used = true;
-      accepted = s .accepted;
-      timedOut = s .timedOut;
-      guarded = s .guarded;
-      dropped = s .dropped;
-    }
+afterAsk s d kind q = afterClerk s (s .down) true false (waiting d kind, request d kind q ∷ [])
 
 -- an identifier is taken up at most once
 unfoldable pub askStep : Net → Data → Kind → ℕ → Bool → Net
@@ -406,7 +395,7 @@ askStep s d kind q false = afterAsk s d kind q
 
 unfoldable pub clerkGetStep : Net → Bool → List Msg → Net
 clerkGetStep s b [] = s
-clerkGetStep s b (m ∷ d) = afterClerk s d false (clerkTakes (s .clerk) m b)
+clerkGetStep s b (m ∷ d) = afterClerk s d false false (clerkTakes (s .clerk) m b)
 
 unfoldable pub lineGetStep : Policy → Net → Word → List Msg → Net
 lineGetStep p s w [] = s
@@ -414,7 +403,7 @@ lineGetStep p s w (m ∷ u) = afterLine s u false (lineTakes p (s .line) m w)
 
 unfoldable pub next : Policy → Net → Event → Net
 next p s (asks d kind q) = askStep s d kind q (s .used)
-next p s (clerkDoes x) = afterClerk s (s .down) (runsOut (s .clerk) x) (clerkActs (s .clerk) x)
+next p s (clerkDoes x) = afterClerk s (s .down) false (runsOut (s .clerk) x) (clerkActs (s .clerk) x)
 next p s (lineDoes x) = afterLine s (s .up) (guardEnds (s .line) x) (lineActs (s .line) x)
 next p s (clerkGets b) = clerkGetStep s b (s .down)
 next p s (lineGets w) = lineGetStep p s w (s .up)
