@@ -2,12 +2,10 @@
 use Prim.Native.Nat.{_/_}
 use mathlib.Core.Path.{_≡_, refl, sym, _∙_, ap, subst}
 use mathlib.Core.Bool.{Bool, true, false}
-use mathlib.Core.List.{List, [], _∷_, _++_}
+use mathlib.Core.List.{List, [], _∷_}
 use Rattle.lists.specs.Lists.{both}
 use Rattle.lists.specs.declared.words.Words.{Words}
 use Rattle.message.specs.declared.Message.{Message}
-use Rattle.desk.specs.declared.outcome.Sending.{Sending}
-use Rattle.desk.specs.declared.outcome.Sending.the-variants as Sending
 use Rattle.terms.specs.declared.request.Names.{Names}
 use Rattle.terms.specs.declared.request.Request.{Request}
 use Rattle.clerk_table.specs.Inputs.{namesOf}
@@ -27,13 +25,13 @@ use Rattle.pair_request.specs.Wires.{Signal, callDied, rejected}
 use Rattle.pair_request.specs.Reading as R
 use Rattle.pair_request.proofs.Effects.{clerk-act-effect, signal-takes, act-plain, clerk-take-effect, take-plain}
 use Rattle.pair_request.proofs.Agree.{agreed, untaken}
-use Rattle.pair.specs.World.{World, History, Event, clerkDoes, clerkIsTold, clerkHears, clerkHolds, messagesOf, sentBy, done, counts, clerkStepped, clerkHeard, clerkNotes, withTakenUp, withRunOut, signalLetter, ClerkAllowed}
+use Rattle.pair.specs.World.{World, History, Event, clerkDoes, clerkIsTold, clerkHears, clerkHolds, done, counts, clerkStepped, clerkHeard, clerkNotes, withTakenUp, withRunOut, signalLetter, ClerkAllowed}
 use Rattle.pair.specs.Meaning.{Heads, About, same}
 use Rattle.pair.proofs.Ends.{clerkRead, letterRead, messageRead, Clear, dataOf, askRead, ClerkStep}
 use Rattle.pair.proofs.Letters.{letter-name, clear-kept, sent-name, clear-ask}
 use Rattle.pair.proofs.ClerkEnd.{clerk-hears, clerk-acts, clerk-reports, clerk-runs-out, AskStep, refused, stored, clerk-asks}
-use Rattle.pair.proofs.Wires.{head-own, head-other, AllClear, no-message, one-more, plain-clear, Worded, quiet, word, worded-append, worded-sent, has-own, has-other}
-use Rattle.pair.proofs.Sim.{Sim, Known, Good, Noted, Unnoted, unnoted, Moves, about, nobody, somebody, Turned, unmoved, append-none, wire-other, clerk-own}
+use Rattle.pair.proofs.Wires.{head-own, AllClear, no-message, one-more, plain-clear, Worded, quiet, word, has-own, has-other}
+use Rattle.pair.proofs.Sim.{Sim, Known, Good, Noted, Unnoted, unnoted, about, Turned, unmoved, wired-same, wired-sent, wired-heard, turn-about, turn-none, silent, clerk-own}
 
 -- ---- what the clerk's end sends about a request: one that was taken up has an identifier that its bytes give back, one that was not is nowhere
 act-clear : {p : R.Policy} {j : Words} {w : World} {n : R.Net} → Sim j w n → R.Reach p n → (x : R.CAct) → AllClear j (R.clerkActs (n .clerk) x .1)
@@ -61,49 +59,6 @@ unnoted-timer : (h : History) (k j : Words) (so : Bool) → (k ≡ j → ⊥) �
 unnoted-timer h k j so d = record { takenUp = refl; runOut = has-other so k j (h .runOut) d; guarded = refl; dropped = refl }
 
 module _ {p : R.Policy} {w : World} (g : Good p w) (known : Known p w) where
-  -- ---- a step about a request, and one about none
-  clerk-turn :
-      {e : Event} {k : Words} {after : Stepped} {answer : R.CAnswer} → About w e k → Clerk.Reached (after .desk) → ClerkStep after k answer → AllClear k (answer .1) →
-      ((j : Words) → (k ≡ j → ⊥) → P.held Clerk.clerkView j (ClerkRecords.records (after .desk .words)) ≡ clerkHolds w j) →
-      {rest : List Message} → Worded rest → ((j : Words) → (k ≡ j → ⊥) → messagesOf j rest ≡ messagesOf j (w .down)) →
-      {history : History} → ((j : Words) → (k ≡ j → ⊥) → Unnoted history (w .history) j) →
-      ((n : R.Net) → R.Reach p n → Sim k w n → Moves p w e (clerkStepped w rest after history) k n) → Turned p w e (clerkStepped w rest after history)
-  clerk-turn {k = k} {after} {answer} named reached s clear others worded rests unnoted own = (
-    record {
-      clerk = reached;
-      line = g .line;
-      policy = g .policy;
-      up = worded-append (g .up) (subst Worded (sym (s .sends)) (worded-sent clear));
-      down = worded;
-    },
-    somebody k (about named) own
-        (λ j d.
-        record {
-          clerk = others j d;
-          line = same;
-          up = wire-other j k (w .up) (sentBy (after .outcome .sending)) (answer .1) (s .sends) clear d;
-          down = rests j d;
-          history = unnoted j d;
-        }),
-  )
-
-  clerk-still :
-      {e : Event} (after : Stepped) {history : History} → Clerk.Reached (after .desk) → after .desk ≡ w .clerk → after .outcome .sending ≡ Sending.Nothing →
-      ((j : Words) → Unnoted history (w .history) j) → Turned p w e (clerkStepped w (w .down) after history)
-  clerk-still after reached d s unnoted =
-      let silent : w .up ++ sentBy (after .outcome .sending) ≡ w .up = ap (λ (x : Sending). w .up ++ sentBy x) s ∙ append-none (w .up) in (
-        record { clerk = reached; line = g .line; policy = g .policy; up = subst Worded (sym silent) (g .up); down = g .down },
-        nobody
-            (λ j.
-            record {
-              clerk = ap (λ (x : Desk). P.held Clerk.clerkView j (ClerkRecords.records (x .words))) d;
-              line = same;
-              up = ap (messagesOf j) silent;
-              down = refl;
-              history = unnoted j;
-            }),
-      )
-
   -- ---- an act, a timer's report
   acting :
       {e : Event} (k : Words) (x : R.CAct) (input : Input) (history : History) → About w e k → namesOf input .identifier ≡ k → Clerk.Fair input →
@@ -113,8 +68,9 @@ module _ {p : R.Policy} {w : World} (g : Good p w) (known : Known p w) where
   unfolding R.next
   acting k x input history named name fair steps noted unnoted =
       let its = known k .1 .1 in
-      clerk-turn named (Clerk.steps fair (g .clerk)) (steps (known k .0 .clerk) (its .clerk)) (act-clear its (known k .1 .0) x)
-      (λ j d. others-held (w .clerk) (g .clerk) input fair j (λ q. d (sym name ∙ q))) (g .down) (λ j d. refl) unnoted
+      let s = steps (known k .0 .clerk) (its .clerk) in
+      turn-about k (about named) (Clerk.steps fair (g .clerk)) (g .line) (g .policy) (wired-sent (g .up) (s .sends) (act-clear its (known k .1 .0) x))
+      (wired-same (g .down)) (λ j d. others-held (w .clerk) (g .clerk) input fair j (λ q. d (sym name ∙ q))) (λ j d. refl) unnoted
       (λ n r sim.
       (R.clerkDoes x, (tt, clerk-own sim (sim .down) (sim .downClear) (steps (n .clerk) (sim .clerk)) (act-clear sim r x) (noted n sim) (sim .kept))))
 
@@ -180,13 +136,17 @@ module _ {p : R.Policy} {w : World} (g : Good p w) (known : Known p w) where
         Turned p w (clerkDoes (Input.Ask names q)) (clerkStepped w (w .down) asked (withTakenUp (w .history) (done (asked .outcome)) (names .identifier)))
     unfolding R.next
     clerk-ask (refused so d s) =
-        clerk-still asked ask-reached d s (λ j. subst (λ b. Unnoted (withTakenUp (w .history) b (names .identifier)) (w .history) j) (sym so) (unnoted (w .history) j))
+        turn-none g ask-reached (g .line) (g .policy) (silent (w .up) s) refl
+        (λ j. ap (λ (x : Desk). P.held Clerk.clerkView j (ClerkRecords.records (x .words))) d)
+        (λ j. same)
+        (λ j. subst (λ b. Unnoted (withTakenUp (w .history) b (names .identifier)) (w .history) j) (sym so) (unnoted (w .history) j))
     clerk-ask (stored so s) =
         let k = names .identifier in
         let clear : AllClear k (askRead names q ∷ []) = one-more (clear-ask names q (allowed .0)) no-message in
         let noted : Noted (withTakenUp (w .history) (done (asked .outcome)) k) (w .history) k true false false false =
         subst (λ b. Noted (withTakenUp (w .history) b k) (w .history) k true false false false) (sym so) (noted-ask (w .history) k) in
-        clerk-turn refl ask-reached s clear (others-held (w .clerk) (g .clerk) (Input.Ask names q) (allowed .0)) (g .down) (λ j d. refl)
+        turn-about k (about refl) ask-reached (g .line) (g .policy) (wired-sent (g .up) (s .sends) clear) (wired-same (g .down))
+        (others-held (w .clerk) (g .clerk) (Input.Ask names q) (allowed .0)) (λ j d. refl)
         (λ j d. unnoted-ask (w .history) k j (done (asked .outcome)) d)
         (λ n r sim. (
           R.asks (dataOf names q) (q .kind) (q .flags / 2),
@@ -227,13 +187,14 @@ module _ {p : R.Policy} {w : World} (g : Good p w) (known : Known p w) where
       let fair = Clerk.hears (letterRead k c) busy in
       let heard = sym (hears-as busy k c refl clear) in
       let its = known k in
-      clerk-turn (subst (λ (ms : List Message). Heads ms k) (sym e) name)
-      (subst (λ (s : Stepped). Clerk.Reached (s .desk)) heard (Clerk.steps fair (g .clerk)))
-      (hears-step busy k c refl clear (its .0 .clerk) (its .1 .1 .clerk)) (take-clear k (its .0 .clerk) c busy clear)
+      let s = hears-step busy k c refl clear (its .0 .clerk) (its .1 .1 .clerk) in
+      turn-about k (about (subst (λ (ms : List Message). Heads ms k) (sym e) name))
+      (subst (λ (s : Stepped). Clerk.Reached (s .desk)) heard (Clerk.steps fair (g .clerk))) (g .line) (g .policy)
+      (wired-sent (g .up) (s .sends) (take-clear k (its .0 .clerk) c busy clear)) (wired-heard e name others)
       (λ j d.
       subst (λ (s : Stepped). P.held Clerk.clerkView j (ClerkRecords.records (s .desk .words)) ≡ clerkHolds w j) heard
       (others-held (w .clerk) (g .clerk) (Input.Message (letterRead k c) busy) fair j (λ q. d (sym (letter-name k c) ∙ q))))
-      others (λ j d. head-other e name d) (λ j d. unnoted (w .history) j)
+      (λ j d. refl) (λ j d. unnoted (w .history) j)
       (λ n r sim.
       let h = head-own e name (sim .downClear) (sim .down) in (
         R.clerkGets busy,

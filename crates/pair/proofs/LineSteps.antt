@@ -2,13 +2,11 @@
 use Prim.Native.Nat.{ℕ}
 use mathlib.Core.Path.{_≡_, refl, sym, _∙_, ap, subst}
 use mathlib.Core.Bool.{Bool, true, false}
-use mathlib.Core.List.{List, [], _∷_, _++_}
+use mathlib.Core.List.{List, [], _∷_}
 use Rattle.lists.specs.declared.words.Words.{Words}
 use Rattle.lists.proofs.WordsLaws.{length-bytesOf, bytes-bytesOf}
 use Rattle.message.specs.declared.Message.{Message}
 use Rattle.desk.specs.Letter.{messageOf}
-use Rattle.desk.specs.declared.outcome.Sending.{Sending}
-use Rattle.desk.specs.declared.outcome.Sending.the-variants as Sending
 use Rattle.places.specs.Places as P
 use Rattle.line_table.specs.declared.inputs.Act.{Act}
 use Rattle.line_table.specs.declared.inputs.Act.the-variants as Act
@@ -26,16 +24,16 @@ use Rattle.pair_request.specs.Wires.{leftOut}
 use Rattle.pair_request.specs.Reading as R
 use Rattle.pair_request.proofs.Effects.{line-act-effect, line-act-plain, line-take-effect, line-take-plain}
 use Rattle.pair_request.proofs.Agree.{agreed, untaken}
-use Rattle.pair.specs.World.{World, History, Event, lineDoes, lineHears, dropsUp, dropsDown, lineHolds, messagesOf, sentBy, done, lineStepped, lineHeard, lineNotes, next, withGuarded, LineAllowed}
+use Rattle.pair.specs.World.{World, History, Event, lineDoes, lineHears, dropsUp, dropsDown, lineHolds, done, lineStepped, lineHeard, lineNotes, next, withGuarded, LineAllowed}
 use Rattle.pair.specs.Meaning.{Heads, About, Drops, Unaltered, same}
 use Rattle.pair.proofs.Ends.{lineRead, letterRead, messageRead, Clear, lineActRead, policyOf, LineStep}
 use Rattle.pair.proofs.Letters.{letter-name, clear-kept, sent-name}
 use Rattle.pair.proofs.LineChanges.{policy-kept}
 use Rattle.pair.proofs.LineEnd.{line-hears, line-acts, line-guards, guard-ends}
 use Rattle.pair.proofs.LineLooks.{Looked, nothing, offers, line-looks, Reported, line-reports}
-use Rattle.pair.proofs.Wires.{head-own, head-other, AllClear, no-message, plain-clear, Worded, quiet, word, worded-append, worded-sent, LeftOut, nothing-lost, one-lost, left-out, has-own, has-other}
+use Rattle.pair.proofs.Wires.{head-own, AllClear, no-message, plain-clear, Worded, quiet, word, LeftOut, nothing-lost, one-lost, left-out, has-own, has-other}
 use Rattle.pair.proofs.Grounds.{line-full}
-use Rattle.pair.proofs.Sim.{Sim, Known, Good, Noted, Unnoted, unnoted, Moves, about, loses, nobody, somebody, Turned, unmoved, append-none, wire-other, line-own, lossy, lost-own}
+use Rattle.pair.proofs.Sim.{Sim, Known, Good, Noted, Unnoted, unnoted, Moves, about, loses, Turned, unmoved, Wired, wired-same, wired-sent, wired-heard, turn-about, turn-none, silent, line-own, lossy, lost-own}
 
 -- ---- what the line's end sends about a request: one that was taken up has an identifier that its bytes give back, one that was not is nowhere
 line-act-clear : {p : R.Policy} {j : Words} {w : World} {n : R.Net} → Sim j w n → R.Reach p n → (x : R.LAct) → AllClear j (R.lineActs (n .line) x .1)
@@ -86,43 +84,6 @@ module _ {p : R.Policy} {w : World} (g : Good p w) (known : Known p w) where
   unfolding step
   policy-step input = policy-kept (w .line .words) (planFor (w .line .words) input .change) (line-full (g .line)) ∙ g .policy
 
-  -- ---- a step about a request, and one about none
-  line-turn :
-      {e : Event} {k : Words} {after : Stepped} {answer : R.LAnswer} → About w e k → Line.Reached (after .desk) → policyOf (after .desk .words) ≡ p →
-      LineStep after k answer → AllClear k (answer .1) →
-      ((j : Words) → (k ≡ j → ⊥) → P.held Line.lineView j (records (after .desk .words)) ≡ lineHolds w j) →
-      {rest : List Message} → Worded rest → ((j : Words) → (k ≡ j → ⊥) → messagesOf j rest ≡ messagesOf j (w .up)) →
-      {history : History} → ((j : Words) → (k ≡ j → ⊥) → Unnoted history (w .history) j) →
-      ((n : R.Net) → R.Reach p n → Sim k w n → Moves p w e (lineStepped w rest after history) k n) → Turned p w e (lineStepped w rest after history)
-  line-turn {e} {k} {after} {answer} named reached policy s clear others worded rests unnoted own = (
-    record {
-      clerk = g .clerk;
-      line = reached;
-      policy = policy;
-      up = worded;
-      down = worded-append (g .down) (subst Worded (sym (s .sends)) (worded-sent clear));
-    },
-    somebody k (about named) own
-        (λ j d.
-        record {
-          clerk = refl;
-          line = subst (Unaltered e (lineHolds w j)) (sym (others j d)) same;
-          up = rests j d;
-          down = wire-other j k (w .down) (sentBy (after .outcome .sending)) (answer .1) (s .sends) clear d;
-          history = unnoted j d;
-        }),
-  )
-
-  line-still :
-      (e : Event) (after : Stepped) → Line.Reached (after .desk) → policyOf (after .desk .words) ≡ p → after .outcome .sending ≡ Sending.Nothing →
-      ((j : Words) → Unaltered e (lineHolds w j) (P.held Line.lineView j (records (after .desk .words)))) →
-      Turned p w e (lineStepped w (w .up) after (w .history))
-  line-still e after reached policy s unaltered =
-      let silent : w .down ++ sentBy (after .outcome .sending) ≡ w .down = ap (λ (x : Sending). w .down ++ sentBy x) s ∙ append-none (w .down) in (
-        record { clerk = g .clerk; line = reached; policy = policy; up = g .up; down = subst Worded (sym silent) (g .down) },
-        nobody (λ j. record { clerk = refl; line = unaltered j; up = refl; down = ap (messagesOf j) silent; history = unnoted (w .history) j }),
-      )
-
   -- ---- an act, the guard's report, an offer
   acting :
       (k : Words) (x : R.LAct) (input : Input) (history : History) → About w (lineDoes input) k → Line.Fair input →
@@ -133,8 +94,9 @@ module _ {p : R.Policy} {w : World} (g : Good p w) (known : Known p w) where
   unfolding R.next
   acting k x input history named fair steps others noted unnoted =
       let its = known k .1 .1 in
-      line-turn named (Line.steps fair (g .line)) (policy-step input) (steps (known k .0 .line) (its .active) (its .line))
-      (line-act-clear its (known k .1 .0) x) others (g .up) (λ j d. refl) unnoted
+      let s = steps (known k .0 .line) (its .active) (its .line) in
+      turn-about k (about named) (g .clerk) (Line.steps fair (g .line)) (policy-step input) (wired-same (g .up))
+      (wired-sent (g .down) (s .sends) (line-act-clear its (known k .1 .0) x)) (λ j d. refl) others unnoted
       (λ n r sim.
       (R.lineDoes x, (tt, line-own sim (sim .up) (sim .upClear) (steps (n .line) (sim .active) (sim .line)) (line-act-clear sim r x) (noted n sim))))
 
@@ -162,8 +124,10 @@ module _ {p : R.Policy} {w : World} (g : Good p w) (known : Known p w) where
       (number : Words) → Looked (w .line) number (step (w .line) (Input.Look number)) →
       Turned p w (lineDoes (Input.Look number)) (lineStepped w (w .up) (step (w .line) (Input.Look number)) (w .history))
   line-look number (nothing d s) =
-      line-still (lineDoes (Input.Look number)) (step (w .line) (Input.Look number)) (Line.steps (Line.looks number) (g .line)) (policy-step (Input.Look number)) s
+      turn-none g (g .clerk) (Line.steps (Line.looks number) (g .line)) (policy-step (Input.Look number)) refl (silent (w .down) s)
+      (λ j. refl)
       (λ j. subst (λ (x : Desk). Unaltered (lineDoes (Input.Look number)) (lineHolds w j) (P.held Line.lineView j (records (x .words)))) (sym d) same)
+      (unnoted (w .history))
   line-look number (offers k puts steps others) =
       acting k R.offers (Input.Look number) (w .history) puts (Line.looks number) steps others
       (λ n sim. subst (λ t. Noted (w .history) (w .history) k false false t false) (sym (look-no-guard (n .line))) (unnoted (w .history) k))
@@ -173,8 +137,8 @@ module _ {p : R.Policy} {w : World} (g : Good p w) (known : Known p w) where
       (number : Words) (busy : Bool) → Reported (w .line) number busy (step (w .line) (Input.Report number busy)) →
       Turned p w (lineDoes (Input.Report number busy)) (lineStepped w (w .up) (step (w .line) (Input.Report number busy)) (w .history))
   line-report number busy s =
-      line-still (lineDoes (Input.Report number busy)) (step (w .line) (Input.Report number busy)) (Line.steps (Line.reports number busy) (g .line))
-      (policy-step (Input.Report number busy)) (s .silent) (s .unaltered)
+      turn-none g (g .clerk) (Line.steps (Line.reports number busy) (g .line)) (policy-step (Input.Report number busy)) refl (silent (w .down) (s .silent))
+      (λ j. refl) (s .unaltered) (unnoted (w .history))
 
   -- ---- every input that a host gives
   pub line-does :
@@ -218,13 +182,14 @@ module _ {p : R.Policy} {w : World} (g : Good p w) (known : Known p w) where
       let s = hears-step k c refl clear in
       let heard = hears-as k c refl clear in
       let its = known k .1 .1 in
-      line-turn head (subst (λ (s : Stepped). Line.Reached (s .desk)) (sym heard) (Line.steps (fair k c clear) (g .line)))
-      (ap (λ (s : Stepped). policyOf (s .desk .words)) heard ∙ policy-step (Input.Message (letterRead k c)))
-      (s .1 (known k .0 .line) (its .active) (its .line)) (take-clear p k (known k .0 .line) c (s .0) clear)
+      let own = s .1 (known k .0 .line) (its .active) (its .line) in
+      turn-about k (about head) (g .clerk) (subst (λ (s : Stepped). Line.Reached (s .desk)) (sym heard) (Line.steps (fair k c clear) (g .line)))
+      (ap (λ (s : Stepped). policyOf (s .desk .words)) heard ∙ policy-step (Input.Message (letterRead k c))) (wired-heard e name others)
+      (wired-sent (g .down) (own .sends) (take-clear p k (known k .0 .line) c (s .0) clear)) (λ j d. refl)
       (λ j d.
       subst (λ (s : Stepped). P.held Line.lineView j (records (s .desk .words)) ≡ lineHolds w j) (sym heard)
       (others-held (w .line) (g .line) (Input.Message (letterRead k c)) (fair k c clear) tt j (λ q. d (sym (letter-name k c) ∙ q))))
-      others (λ j d. head-other e name d) (λ j d. unnoted (w .history) j)
+      (λ j d. unnoted (w .history) j)
       (λ n r sim.
       let h = head-own e name (sim .upClear) (sim .up) in
       let t = hears-step k (h .code) (h .same) (h .clear) in (
@@ -239,21 +204,11 @@ module _ {p : R.Policy} {w : World} (g : Good p w) (known : Known p w) where
 
   -- ---- a drop: it is about the request whose message is left out
   drop-turn :
-      {e : Event} (k : Words) (up down : List Message) → Worded up → Worded down → Drops w e k →
-      ((j : Words) → (k ≡ j → ⊥) → (messagesOf j up ≡ messagesOf j (w .up)) × (messagesOf j down ≡ messagesOf j (w .down))) →
+      {e : Event} (k : Words) (up down : List Message) → Drops w e k → Wired k (w .up) up → Wired k (w .down) down →
       ((n : R.Net) → R.Reach p n → Sim k w n → Moves p w e (lossy w up down k) k n) → Turned p w e (lossy w up down k)
-  drop-turn k up down wordedUp wordedDown drops rests own = (
-    record { clerk = g .clerk; line = g .line; policy = g .policy; up = wordedUp; down = wordedDown },
-    somebody k (loses drops refl refl) own
-        (λ j d.
-        record {
-          clerk = refl;
-          line = same;
-          up = rests j d .0;
-          down = rests j d .1;
-          history = record { takenUp = refl; runOut = refl; guarded = refl; dropped = has-other true k j (w .history .dropped) d };
-        }),
-  )
+  drop-turn k up down drops wiredUp wiredDown =
+      turn-about k (loses drops refl refl) (g .clerk) (g .line) (g .policy) wiredUp wiredDown (λ j d. refl) (λ j d. refl)
+      (λ j d. record { takenUp = refl; runOut = refl; guarded = refl; dropped = has-other true k j (w .history .dropped) d })
 
   pub drop-up : (i : ℕ) → Turned p w (dropsUp i) (next w (dropsUp i))
   unfolding next R.next
@@ -263,7 +218,7 @@ module _ {p : R.Policy} {w : World} (g : Good p w) (known : Known p w) where
       by (nothing-lost e n) = rw (e, n) (unmoved g)
       by (one-lost k n h worded others own) =
           rw n
-          (drop-turn k (leftOut i (w .up)) (w .down) worded (g .down) h (λ j d. (others j d, refl))
+          (drop-turn k (leftOut i (w .up)) (w .down) h (record { worded = worded; others = others }) (wired-same (g .down))
           (λ m r sim.
           let l = own (m .up) (sim .upClear) (sim .up) in
           (R.losesUp (l .0), (tt, lost-own sim (l .1 .0) (l .1 .1) (sim .down) (sim .downClear)))))
@@ -276,7 +231,7 @@ module _ {p : R.Policy} {w : World} (g : Good p w) (known : Known p w) where
       by (nothing-lost e n) = rw (e, n) (unmoved g)
       by (one-lost k n h worded others own) =
           rw n
-          (drop-turn k (w .up) (leftOut i (w .down)) (g .up) worded h (λ j d. (refl, others j d))
+          (drop-turn k (w .up) (leftOut i (w .down)) h (wired-same (g .up)) (record { worded = worded; others = others })
           (λ m r sim.
           let l = own (m .down) (sim .downClear) (sim .down) in
           (R.losesDown (l .0), (tt, lost-own sim (sim .up) (sim .upClear) (l .1 .0) (l .1 .1)))))

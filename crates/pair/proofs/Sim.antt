@@ -1,9 +1,11 @@
 -- One request's part of a world: what the ends hold of it, its messages and its history, as a net of crate pair_request. A step is about one request, whose net it moves, or about none; every other it leaves.
-use mathlib.Core.Path.{_≡_, refl, sym, _∙_, ap}
+use mathlib.Core.Path.{_≡_, refl, sym, _∙_, ap, subst}
 use mathlib.Core.Bool.{Bool, true, false}
 use mathlib.Core.List.{List, [], _∷_, _++_, map}
 use Rattle.lists.specs.declared.words.Words.{Words}
 use Rattle.message.specs.declared.Message.{Message}
+use Rattle.desk.specs.declared.outcome.Sending.{Sending}
+use Rattle.desk.specs.declared.outcome.Sending.the-variants as Sending
 use Rattle.places.specs.Places as P
 use Rattle.clerk.specs.declared.steps.Stepped as ClerkStepped
 use Rattle.clerk_sound.specs.Sound as ClerkSound
@@ -12,11 +14,11 @@ use Rattle.line_records.specs.Change.{activated}
 use Rattle.line.specs.declared.steps.Stepped as LineStepped
 use Rattle.line_sound.specs.Sound as LineSound
 use Rattle.pair_request.specs.Reading as R
-use Rattle.pair.specs.World.{World, History, Event, lineHears, clerkHolds, lineHolds, messagesOf, has, sentBy, withDropped, clerkStepped, lineStepped, next}
+use Rattle.pair.specs.World.{World, History, Event, lineHears, clerkHolds, lineHolds, nameOf, messagesOf, has, sentBy, withDropped, clerkStepped, lineStepped, next}
 use Rattle.pair.specs.Meaning.{Heads, About, Drops, Unaltered, same, marked}
 use Rattle.pair.proofs.Ends.{clerkRead, lineRecord, lineRead, messageRead, Kept, policyOf, ClerkStep, LineStep}
 use Rattle.pair.proofs.Changes.{not-one, the-one}
-use Rattle.pair.proofs.Wires.{messages-append, AllClear, clear-append, messages-own, messages-other, Worded, has-own}
+use Rattle.pair.proofs.Wires.{messages-append, head-other, AllClear, clear-append, messages-own, messages-other, Worded, worded-append, worded-sent, has-own}
 
 pub record Sim (j : Words) (w : World) (n : R.Net) : Type 0 where
   pub clerk : clerkHolds w j ≡ clerkRead j (n .clerk)
@@ -95,10 +97,6 @@ pub data Turn (p : R.Policy) (w : World) (e : Event) (after : World) : Type 0 wh
 abbrev pub Turned : R.Policy → World → Event → World → Type 0
 Turned p w e after = Good p after × Turn p w e after
 
--- a step that is none
-pub unmoved : {p : R.Policy} {w : World} {e : Event} → Good p w → Turned p w e w
-unmoved {w = w} g = (g, nobody (λ j. record { clerk = refl; line = same; up = refl; down = refl; history = unnoted (w .history) j }))
-
 -- ---- wires
 map-append : {A B : Type 0} (f : A → B) (xs ys : List A) → map f (xs ++ ys) ≡ map f xs ++ map f ys
 map-append f [] ys = refl
@@ -123,6 +121,63 @@ pub wire-other :
     messagesOf j (ms ++ sent) ≡ messagesOf j ms
 wire-other j k ms sent added s c d =
     messages-append j ms sent ∙ ap (λ x. messagesOf j ms ++ x) (ap (messagesOf j) s ∙ messages-other k j added c d) ∙ append-none (messagesOf j ms)
+
+-- ---- a step about a request
+abbrev pub Others : Words → (Words → Type 0) → Type 0
+Others k P = (j : Words) → (k ≡ j → ⊥) → P j
+
+-- a wire before and after it: every message is still as it was sent, and those of every other request are the same
+pub record Wired (k : Words) (before after : List Message) : Type 0 where
+  pub worded : Worded after
+  pub others : Others k (λ j. messagesOf j after ≡ messagesOf j before)
+
+pub wired-same : {k : Words} {ms : List Message} → Worded ms → Wired k ms ms
+wired-same worded = record { worded = worded; others = λ j d. refl }
+
+pub wired-sent :
+    {k : Words} {ms sent : List Message} {added : List R.Msg} → Worded ms → sent ≡ map (messageRead k) added → AllClear k added → Wired k ms (ms ++ sent)
+wired-sent {k} {ms} {sent} {added} worded s c =
+    record { worded = worded-append worded (subst Worded (sym s) (worded-sent c)); others = λ j d. wire-other j k ms sent added s c d }
+
+pub wired-heard : {k : Words} {m : Message} {rest wire : List Message} → wire ≡ m ∷ rest → nameOf m ≡ k → Worded rest → Wired k wire rest
+wired-heard e name worded = record { worded = worded; others = λ j d. head-other e name d }
+
+-- the world stays good, and every other request is left
+pub turn-about :
+    {p : R.Policy} {w : World} {e : Event} {after : World} (k : Words) → Named w e after k →
+    ClerkSound.Reached (after .clerk) → LineSound.Reached (after .line) → policyOf (after .line .words) ≡ p →
+    Wired k (w .up) (after .up) → Wired k (w .down) (after .down) →
+    Others k (λ j. clerkHolds after j ≡ clerkHolds w j) → Others k (λ j. lineHolds after j ≡ lineHolds w j) →
+    Others k (Unnoted (after .history) (w .history)) → ((n : R.Net) → R.Reach p n → Sim k w n → Moves p w e after k n) → Turned p w e after
+turn-about {w = w} {e} k named clerk line policy up down clerks lines notes own = (
+  record { clerk = clerk; line = line; policy = policy; up = up .worded; down = down .worded },
+  somebody k named own
+      (λ j d.
+      record {
+        clerk = clerks j d;
+        line = subst (Unaltered e (lineHolds w j)) (sym (lines j d)) same;
+        up = up .others j d;
+        down = down .others j d;
+        history = notes j d;
+      }),
+)
+
+-- ---- a step about none
+pub turn-none :
+    {p : R.Policy} {w : World} {e : Event} {after : World} → Good p w → ClerkSound.Reached (after .clerk) → LineSound.Reached (after .line) →
+    policyOf (after .line .words) ≡ p → after .up ≡ w .up → after .down ≡ w .down → ((j : Words) → clerkHolds after j ≡ clerkHolds w j) →
+    ((j : Words) → Unaltered e (lineHolds w j) (lineHolds after j)) → ((j : Words) → Unnoted (after .history) (w .history) j) → Turned p w e after
+turn-none g clerk line policy up down clerks lines notes = (
+  record { clerk = clerk; line = line; policy = policy; up = subst Worded (sym up) (g .up); down = subst Worded (sym down) (g .down) },
+  nobody (λ j. record { clerk = clerks j; line = lines j; up = ap (messagesOf j) up; down = ap (messagesOf j) down; history = notes j }),
+)
+
+pub unmoved : {p : R.Policy} {w : World} {e : Event} → Good p w → Turned p w e w
+unmoved {w = w} g = turn-none g (g .clerk) (g .line) (g .policy) refl refl (λ j. refl) (λ j. same) (unnoted (w .history))
+
+-- nothing is sent
+pub silent : {sending : Sending} (ms : List Message) → sending ≡ Sending.Nothing → ms ++ sentBy sending ≡ ms
+silent ms s = ap (λ (x : Sending). ms ++ sentBy x) s ∙ append-none ms
 
 -- ---- the net of a request after a step, by what the step made of its records, its wires and its notes
 sim-next :
