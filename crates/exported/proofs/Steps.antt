@@ -20,6 +20,8 @@ use Rattle.message.specs.Wire.{messageAt}
 use Rattle.message.specs.declared.Message.{Message}
 use Rattle.desk.specs.Letter.{numberWords, letterOf, messageOf}
 use Rattle.desk.specs.declared.outcome.Outcome.{Outcome}
+use Rattle.terms.specs.declared.request.Names.{Names}
+use Rattle.terms.specs.declared.request.Request.{Request}
 use Rattle.writer.specs.declared.Written.{Written}
 use Rattle.writer.specs.declared.Written.the-variants.{Wrote, Refused}
 use Rattle.writer.proofs.RoundTrip.{round-trip}
@@ -30,14 +32,15 @@ use Rattle.clerk_table.specs.declared.inputs.Input.the-variants as AtClerk
 use Rattle.clerk_table.specs.declared.table.Timer.{Timer}
 use Rattle.clerk_table.specs.declared.table.Timer.the-variants.{T1, T2, T3}
 use Rattle.clerk.specs.Entry as ClerkEntry
-use Rattle.clerk.specs.Entry.{askMessage}
+use Rattle.clerk.specs.Entry.{askMessage, askNames, askRequest, askEntry}
 use Rattle.clerk.specs.Steps as Clerk
+use Rattle.clerk.specs.declared.entry.Asking.{Asking}
 use Rattle.clerk.specs.declared.entry.Entry as ClerkEntries
 use Rattle.clerk.specs.declared.entry.Entry.the-variants as ClerkEntered
 use Rattle.clerk.specs.declared.entry.BytesEntry as ClerkBytes
 use Rattle.clerk.specs.declared.steps.Stepped as ClerkStepped
 use Rattle.clerk.specs.declared.steps.SteppedBytes as ClerkSteppedBytes
-use Rattle.clerk_sound.specs.Sound.{asks}
+use Rattle.clerk_sound.specs.Sound.{Typed, Fair, asks}
 use Rattle.line_table.specs.declared.inputs.Act as LineActs
 use Rattle.line_table.specs.declared.inputs.Act.the-variants as LineAct
 use Rattle.line_table.specs.declared.inputs.Input.the-variants as AtLine
@@ -54,7 +57,8 @@ use Rattle.tollherring.specs.Clerk.{clerkEntered, clerkBytes, clerkAsked, clerk
 use Rattle.tollherring.specs.Line.{startWords, lineStartedWords, lineStartedAnswer, lineEntered, lineBytes, lineReceived, lineStatusReported, lineLooked, lineActed, lineGuarded}
 use Rattle.tollherring.proofs.Claims.{no-room-nothing}
 use Rattle.pair_request.specs.Wires.{Signal, callDied, rejected}
-use Rattle.pair.specs.World.{World, Event, clerkDoes, lineDoes, clerkIsTold, clerkHears, lineHears, nameOf, sentBy, clerkHeard, lineHeard, signalLetter, next}
+use Rattle.pair.specs.World as Pair
+use Rattle.pair.specs.World.{World, Event, clerkDoes, lineDoes, clerkIsTold, clerkHears, lineHears, nameOf, has, sentBy, clerkHeard, lineHeard, signalLetter, next, Allowed}
 use Rattle.pair.specs.Meaning.{ClerkHearsBytes, LineHearsBytes}
 use Rattle.pair.proofs.AsBytes.{heard-as-bytes}
 use Rattle.exported.specs.Calls.{End, clerkEnd, lineEnd, IsStep, done, refused}
@@ -279,12 +283,32 @@ line-unread : (words out bytes : List ℕ) (number : ℕ) → messageAt bytes �
 unfolding lineReceived LineEntry.bytesEntry lineEntered
 line-unread words out bytes number e = rw e
 
+abbrev Once : World → Names → Request → Type 0
+Once w names q =
+    Fair (AtClerk.Ask names q)
+    × (Pair.done (Clerk.step (w .clerk) (AtClerk.Ask names q) .outcome) ≡ true → has (w .history .takenUp) (names .identifier) ≡ false)
+
+-- an ask of values of the code's types, under an identifier that was not taken up
+ask-allowed :
+    (w : World) (a : Asking) → Typed a → askEntry a ≡ ClerkEntered.Given (AtClerk.Ask (askNames a) (askRequest a)) → has (w .history .takenUp) (wordsOf (a .identifier)) ≡ false →
+    Allowed w (askEvent a)
+unfolding letterOf
+ask-allowed w a typed e fresh =
+    record {
+      asked = λ names q is.
+          let name : askNames a ≡ names = cc in
+          let request : askRequest a ≡ q = cc in
+          subst (λ (n : Names). Once w n q) name (subst (Once w (askNames a)) request (asks a typed e, λ so. fresh));
+      toClerk = λ l busy is. let z : _≡_ {A = ℕ} 0 1 = cc in absurd (omega (arith, z));
+      toLine = λ l is. let z : _≡_ {A = ℕ} 0 1 = cc in absurd (omega (arith, z));
+    }
+
 pub face-is-step : FaceIsStep
 unfolding clerkActed clerkReported lineReceived lineStatusReported lineLooked lineActed lineGuarded letterOf
 face-is-step w reach out =
     record {
       clerkAsk = asking w out;
-      askAllowed = λ a typed e fresh. (asks a typed e, λ so. fresh);
+      askAllowed = λ a typed e fresh. ask-allowed w a typed e fresh;
       clerkAct = acting w out;
       clerkReport = reporting w out;
       lineReport = line-reporting w out;

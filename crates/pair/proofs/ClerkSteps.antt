@@ -25,8 +25,8 @@ use Rattle.pair_request.specs.Wires.{Signal, callDied, rejected}
 use Rattle.pair_request.specs.Reading as R
 use Rattle.pair_request.proofs.Effects.{clerk-act-effect, signal-takes, act-plain, clerk-take-effect, take-plain}
 use Rattle.pair_request.proofs.Agree.{agreed, untaken}
-use Rattle.pair.specs.World.{World, History, Event, clerkDoes, clerkIsTold, clerkHears, clerkHolds, done, counts, clerkStepped, clerkHeard, clerkNotes, withTakenUp, withRunOut, signalLetter, ClerkAllowed}
-use Rattle.pair.specs.Meaning.{Heads, About, same}
+use Rattle.pair.specs.World.{World, History, Event, clerkDoes, clerkIsTold, clerkHears, clerkHolds, done, counts, clerkStepped, clerkHeard, clerkNotes, withTakenUp, withRunOut, signalLetter, has, Allowed}
+use Rattle.pair.specs.Meaning.{Heads, About, by-clerk, by-signal, to-clerk, same}
 use Rattle.pair.proofs.Ends.{clerkRead, letterRead, messageRead, Clear, dataOf, askRead, ClerkStep}
 use Rattle.pair.proofs.Letters.{letter-name, clear-kept, sent-name, clear-ask}
 use Rattle.pair.proofs.ClerkEnd.{clerk-hears, clerk-acts, clerk-reports, clerk-runs-out, AskStep, refused, stored, clerk-asks}
@@ -76,7 +76,7 @@ module _ {p : R.Policy} {w : World} (g : Good p w) (known : Known p w) where
 
   clerk-act : (k : Words) (act : Act) → Turned p w (clerkDoes (Input.Act k act)) (clerkStepped w (w .down) (step (w .clerk) (Input.Act k act)) (w .history))
   clerk-act k act =
-      acting k (R.act act) (Input.Act k act) (w .history) refl refl (Clerk.acts k act) (clerk-acts (w .clerk) (g .clerk) k act)
+      acting k (R.act act) (Input.Act k act) (w .history) by-clerk refl (Clerk.acts k act) (clerk-acts (w .clerk) (g .clerk) k act)
       (λ n sim. unnoted (w .history) k)
       (λ j d. unnoted (w .history) j)
 
@@ -88,7 +88,7 @@ module _ {p : R.Policy} {w : World} (g : Good p w) (known : Known p w) where
   clerk-timer k timer =
       let h = w .history in
       let so = both (counts timer) (done (step (w .clerk) (Input.Timer k timer) .outcome)) in
-      acting k (R.timer timer) (Input.Timer k timer) (withRunOut h so k) refl refl (Clerk.times k timer)
+      acting k (R.timer timer) (Input.Timer k timer) (withRunOut h so k) by-clerk refl (Clerk.times k timer)
       (clerk-reports (w .clerk) (g .clerk) k timer)
       (λ n sim.
       subst (λ t. Noted (withRunOut h so k) h k false t false false) (clerk-runs-out (w .clerk) (g .clerk) k timer (n .clerk) (sim .clerk)) (noted-timer h k so))
@@ -111,12 +111,15 @@ module _ {p : R.Policy} {w : World} (g : Good p w) (known : Known p w) where
       (x : Signal) (k : Words) (busy : Bool) →
       Turned p w (clerkIsTold x k busy) (clerkStepped w (w .down) (step (w .clerk) (Input.Message (signalLetter x k) busy)) (w .history))
   clerk-told x k busy =
-      acting k (R.signal x) (Input.Message (signalLetter x k) busy) (w .history) refl (signal-name x k) (Clerk.hears (signalLetter x k) busy) (told-step k x busy)
+      acting k (R.signal x) (Input.Message (signalLetter x k) busy) (w .history) by-signal (signal-name x k) (Clerk.hears (signalLetter x k) busy) (told-step k x busy)
       (λ n sim. unnoted (w .history) k)
       (λ j d. unnoted (w .history) j)
 
   -- ---- an ask
-  module _ (names : Names) (q : Request) (allowed : ClerkAllowed w (Input.Ask names q)) where
+  module _ (names : Names) (q : Request) (once : Allowed w (clerkDoes (Input.Ask names q))) where
+    allowed : Clerk.Fair (Input.Ask names q) × (done (step (w .clerk) (Input.Ask names q) .outcome) ≡ true → has (w .history .takenUp) (names .identifier) ≡ false)
+    allowed = once .asked names q refl
+
     abbrev asked : Stepped
     asked = step (w .clerk) (Input.Ask names q)
 
@@ -145,7 +148,7 @@ module _ {p : R.Policy} {w : World} (g : Good p w) (known : Known p w) where
         let clear : AllClear k (askRead names q ∷ []) = one-more (clear-ask names q (allowed .0)) no-message in
         let noted : Noted (withTakenUp (w .history) (done (asked .outcome)) k) (w .history) k true false false false =
         subst (λ b. Noted (withTakenUp (w .history) b k) (w .history) k true false false false) (sym so) (noted-ask (w .history) k) in
-        turn-about k (about refl) ask-reached (g .line) (g .policy) (wired-sent (g .up) (s .sends) clear) (wired-same (g .down))
+        turn-about k (about by-clerk) ask-reached (g .line) (g .policy) (wired-sent (g .up) (s .sends) clear) (wired-same (g .down))
         (others-held (w .clerk) (g .clerk) (Input.Ask names q) (allowed .0)) (λ j d. refl)
         (λ j d. unnoted-ask (w .history) k j (done (asked .outcome)) d)
         (λ n r sim. (
@@ -159,10 +162,10 @@ module _ {p : R.Policy} {w : World} (g : Good p w) (known : Known p w) where
 
   -- ---- every input that a host gives
   pub clerk-does :
-      (input : Input) → ClerkAllowed w input →
+      (input : Input) → Allowed w (clerkDoes input) →
       Turned p w (clerkDoes input) (clerkStepped w (w .down) (step (w .clerk) input) (clerkNotes (w .history) input (done (step (w .clerk) input .outcome))))
   clerk-does (Input.Ask names q) allowed = clerk-ask names q allowed (clerk-asks (w .clerk) (g .clerk) names q)
-  clerk-does (Input.Message l busy) never = absurd never
+  clerk-does (Input.Message l busy) never = absurd (never .toClerk l busy refl)
   clerk-does (Input.Act k act) allowed = clerk-act k act
   clerk-does (Input.Timer k timer) allowed = clerk-timer k timer
 
@@ -188,7 +191,7 @@ module _ {p : R.Policy} {w : World} (g : Good p w) (known : Known p w) where
       let heard = sym (hears-as busy k c refl clear) in
       let its = known k in
       let s = hears-step busy k c refl clear (its .0 .clerk) (its .1 .1 .clerk) in
-      turn-about k (about (subst (λ (ms : List Message). Heads ms k) (sym e) name))
+      turn-about k (about (to-clerk (subst (λ (ms : List Message). Heads ms k) (sym e) name)))
       (subst (λ (s : Stepped). Clerk.Reached (s .desk)) heard (Clerk.steps fair (g .clerk))) (g .line) (g .policy)
       (wired-sent (g .up) (s .sends) (take-clear k (its .0 .clerk) c busy clear)) (wired-heard e name others)
       (λ j d.

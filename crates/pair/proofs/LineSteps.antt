@@ -24,8 +24,8 @@ use Rattle.pair_request.specs.Wires.{leftOut}
 use Rattle.pair_request.specs.Reading as R
 use Rattle.pair_request.proofs.Effects.{line-act-effect, line-act-plain, line-take-effect, line-take-plain}
 use Rattle.pair_request.proofs.Agree.{agreed, untaken}
-use Rattle.pair.specs.World.{World, History, Event, lineDoes, lineHears, dropsUp, dropsDown, lineHolds, done, lineStepped, lineHeard, lineNotes, next, withGuarded, LineAllowed}
-use Rattle.pair.specs.Meaning.{Heads, About, Drops, Unaltered, same}
+use Rattle.pair.specs.World.{World, History, Event, lineDoes, lineHears, dropsUp, dropsDown, lineHolds, done, lineStepped, lineHeard, lineNotes, next, withGuarded, Allowed}
+use Rattle.pair.specs.Meaning.{Heads, About, by-act, by-guard, by-look, by-line, to-line, Drops, from-up, from-down, Unaltered, same}
 use Rattle.pair.proofs.Ends.{lineRead, letterRead, messageRead, Clear, lineActRead, policyOf, LineStep}
 use Rattle.pair.proofs.Letters.{letter-name, clear-kept, sent-name}
 use Rattle.pair.proofs.LineChanges.{policy-kept}
@@ -102,7 +102,7 @@ module _ {p : R.Policy} {w : World} (g : Good p w) (known : Known p w) where
 
   line-act : (k : Words) (act : Act) → Turned p w (lineDoes (Input.Act k act)) (lineStepped w (w .up) (step (w .line) (Input.Act k act)) (w .history))
   line-act k act =
-      acting k (lineActRead act) (Input.Act k act) (w .history) refl (Line.acts k act) (line-acts (w .line) (g .line) k act)
+      acting k (lineActRead act) (Input.Act k act) (w .history) (by-line by-act) (Line.acts k act) (line-acts (w .line) (g .line) k act)
       (others-held (w .line) (g .line) (Input.Act k act) (Line.acts k act) tt)
       (λ n sim. subst (λ t. Noted (w .history) (w .history) k false false t false) (sym (act-no-guard (n .line) act)) (unnoted (w .history) k))
       (λ j d. unnoted (w .history) j)
@@ -114,7 +114,7 @@ module _ {p : R.Policy} {w : World} (g : Good p w) (known : Known p w) where
   line-guard k =
       let h = w .history in
       let so = done (step (w .line) (Input.Guard k) .outcome) in
-      acting k R.guard (Input.Guard k) (withGuarded h so k) refl (Line.guards k) (line-guards (w .line) (g .line) k)
+      acting k R.guard (Input.Guard k) (withGuarded h so k) (by-line by-guard) (Line.guards k) (line-guards (w .line) (g .line) k)
       (others-held (w .line) (g .line) (Input.Guard k) (Line.guards k) tt)
       (λ n sim.
       subst (λ t. Noted (withGuarded h so k) h k false false t false) (guard-ends (w .line) k (n .line) (sim .active) (sim .line)) (noted-guard h k so))
@@ -129,7 +129,7 @@ module _ {p : R.Policy} {w : World} (g : Good p w) (known : Known p w) where
       (λ j. subst (λ (x : Desk). Unaltered (lineDoes (Input.Look number)) (lineHolds w j) (P.held Line.lineView j (records (x .words)))) (sym d) same)
       (unnoted (w .history))
   line-look number (offers k puts steps others) =
-      acting k R.offers (Input.Look number) (w .history) puts (Line.looks number) steps others
+      acting k R.offers (Input.Look number) (w .history) (by-line (by-look puts)) (Line.looks number) steps others
       (λ n sim. subst (λ t. Noted (w .history) (w .history) k false false t false) (sym (look-no-guard (n .line))) (unnoted (w .history) k))
       (λ j d. unnoted (w .history) j)
 
@@ -142,9 +142,9 @@ module _ {p : R.Policy} {w : World} (g : Good p w) (known : Known p w) where
 
   -- ---- every input that a host gives
   pub line-does :
-      (input : Input) → LineAllowed input →
+      (input : Input) → Allowed w (lineDoes input) →
       Turned p w (lineDoes input) (lineStepped w (w .up) (step (w .line) input) (lineNotes (w .history) input (done (step (w .line) input .outcome))))
-  line-does (Input.Message l) never = absurd never
+  line-does (Input.Message l) never = absurd (never .toLine l refl)
   line-does (Input.Act k act) allowed = line-act k act
   line-does (Input.Guard k) allowed = line-guard k
   line-does (Input.Report number busy) allowed = line-report number busy (line-reports (w .line) (g .line) number busy)
@@ -183,7 +183,7 @@ module _ {p : R.Policy} {w : World} (g : Good p w) (known : Known p w) where
       let heard = hears-as k c refl clear in
       let its = known k .1 .1 in
       let own = s .1 (known k .0 .line) (its .active) (its .line) in
-      turn-about k (about head) (g .clerk) (subst (λ (s : Stepped). Line.Reached (s .desk)) (sym heard) (Line.steps (fair k c clear) (g .line)))
+      turn-about k (about (to-line head)) (g .clerk) (subst (λ (s : Stepped). Line.Reached (s .desk)) (sym heard) (Line.steps (fair k c clear) (g .line)))
       (ap (λ (s : Stepped). policyOf (s .desk .words)) heard ∙ policy-step (Input.Message (letterRead k c))) (wired-heard e name others)
       (wired-sent (g .down) (own .sends) (take-clear p k (known k .0 .line) c (s .0) clear)) (λ j d. refl)
       (λ j d.
@@ -218,7 +218,7 @@ module _ {p : R.Policy} {w : World} (g : Good p w) (known : Known p w) where
       by (nothing-lost e n) = rw (e, n) (unmoved g)
       by (one-lost k n h worded others own) =
           rw n
-          (drop-turn k (leftOut i (w .up)) (w .down) h (record { worded = worded; others = others }) (wired-same (g .down))
+          (drop-turn k (leftOut i (w .up)) (w .down) (from-up h) (record { worded = worded; others = others }) (wired-same (g .down))
           (λ m r sim.
           let l = own (m .up) (sim .upClear) (sim .up) in
           (R.losesUp (l .0), (tt, lost-own sim (l .1 .0) (l .1 .1) (sim .down) (sim .downClear)))))
@@ -231,7 +231,7 @@ module _ {p : R.Policy} {w : World} (g : Good p w) (known : Known p w) where
       by (nothing-lost e n) = rw (e, n) (unmoved g)
       by (one-lost k n h worded others own) =
           rw n
-          (drop-turn k (w .up) (leftOut i (w .down)) h (wired-same (g .up)) (record { worded = worded; others = others })
+          (drop-turn k (w .up) (leftOut i (w .down)) (from-down h) (wired-same (g .up)) (record { worded = worded; others = others })
           (λ m r sim.
           let l = own (m .down) (sim .downClear) (sim .down) in
           (R.losesDown (l .0), (tt, lost-own sim (sim .up) (sim .upClear) (l .1 .0) (l .1 .1)))))

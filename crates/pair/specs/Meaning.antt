@@ -15,17 +15,20 @@ use Rattle.desk.specs.declared.outcome.Sending.{Sending}
 use Rattle.desk.specs.declared.outcome.Sending.the-variants as Sending
 use Rattle.places.specs.Places.{Held, none, one}
 use Rattle.clerk_table.specs.Inputs.{namesOf}
+use Rattle.clerk_table.specs.declared.inputs.Input as ClerkInput
 use Rattle.clerk_table.specs.declared.record.Record as ClerkRecord
 use Rattle.clerk_table.specs.declared.table.State.the-variants as ClerkState
 use Rattle.clerk.specs.Steps as Clerk
 use Rattle.line.specs.Steps as Line
 use Rattle.line.specs.declared.Desk as LineDesk
+use Rattle.line_table.specs.declared.inputs.Act as LineAct
 use Rattle.line_table.specs.declared.inputs.Input as LineInput
 use Rattle.line_table.specs.declared.inputs.Input.the-variants as AtLine
 use Rattle.line_table.specs.declared.record.Record as LineRecord
 use Rattle.line_table.specs.declared.table.State.the-variants as LineState
 use Rattle.line_table.specs.Record.{moved}
 use Rattle.line_table.specs.Search.{marks}
+use Rattle.pair_request.specs.Wires.{Signal}
 use Rattle.pair.specs.World.{World, Event, clerkDoes, lineDoes, clerkIsTold, clerkHears, lineHears, dropsUp, dropsDown, clerkHolds, lineHolds, nameOf, next, Run, stop, then}
 
 -- acknowledged: the connection choice is not empty
@@ -91,22 +94,18 @@ Sends Sending.Nothing identifier = ⊥
 Sends (Sending.Send l) identifier = l .identifier ≡ identifier
 
 -- the request that an input of the line desk is about: the one it names, the one whose ccExecPossible a Look sends
-abbrev pub LineAbout : LineDesk.Desk → LineInput.Input → Words → Type 0
-LineAbout d (AtLine.Message l) identifier = l .identifier ≡ identifier
-LineAbout d (AtLine.Act name act) identifier = name ≡ identifier
-LineAbout d (AtLine.Guard name) identifier = name ≡ identifier
-LineAbout d (AtLine.Report number busy) identifier = ⊥
-LineAbout d (AtLine.Look number) identifier = Sends (Line.step d (AtLine.Look number) .outcome .sending) identifier
+pub data LineAbout (d : LineDesk.Desk) : LineInput.Input → Words → Type 0 where
+  by-act : {identifier : Words} {act : LineAct.Act} → LineAbout d (AtLine.Act identifier act) identifier
+  by-guard : {identifier : Words} → LineAbout d (AtLine.Guard identifier) identifier
+  by-look : {number identifier : Words} → Sends (Line.step d (AtLine.Look number) .outcome .sending) identifier → LineAbout d (AtLine.Look number) identifier
 
 -- the request that a step is about: the one that its input is about, or whose message it delivers
-abbrev pub About : World → Event → Words → Type 0
-About w (clerkDoes input) identifier = namesOf input .identifier ≡ identifier
-About w (lineDoes input) identifier = LineAbout (w .line) input identifier
-About w (clerkIsTold signal name busy) identifier = name ≡ identifier
-About w (clerkHears busy) identifier = Heads (w .down) identifier
-About w lineHears identifier = Heads (w .up) identifier
-About w (dropsUp i) identifier = ⊥
-About w (dropsDown i) identifier = ⊥
+pub data About (w : World) : Event → Words → Type 0 where
+  by-clerk : {input : ClerkInput.Input} → About w (clerkDoes input) (namesOf input .identifier)
+  by-line : {input : LineInput.Input} {identifier : Words} → LineAbout (w .line) input identifier → About w (lineDoes input) identifier
+  by-signal : {signal : Signal} {identifier : Words} {busy : Bool} → About w (clerkIsTold signal identifier busy) identifier
+  to-clerk : {busy : Bool} {identifier : Words} → Heads (w .down) identifier → About w (clerkHears busy) identifier
+  to-line : {identifier : Words} → Heads (w .up) identifier → About w lineHears identifier
 
 -- the same, except that a busy report of its line may mark the activity of an Invoked record
 pub data Unaltered : Event → Held LineRecord.Record → Held LineRecord.Record → Type 0 where
@@ -120,14 +119,9 @@ pub record Untouched (w : World) (e : Event) (identifier : Words) : Type 0 where
   pub line : Unaltered e (lineHolds w identifier) (lineHolds (next w e) identifier)
 
 -- a step that drops one of its messages
-abbrev pub Drops : World → Event → Words → Type 0
-Drops w (clerkDoes input) identifier = ⊥
-Drops w (lineDoes input) identifier = ⊥
-Drops w (clerkIsTold signal name busy) identifier = ⊥
-Drops w (clerkHears busy) identifier = ⊥
-Drops w lineHears identifier = ⊥
-Drops w (dropsUp i) identifier = Heads (drop i (w .up)) identifier
-Drops w (dropsDown i) identifier = Heads (drop i (w .down)) identifier
+pub data Drops (w : World) : Event → Words → Type 0 where
+  from-up : {i : ℕ} {identifier : Words} → Heads (drop i (w .up)) identifier → Drops w (dropsUp i) identifier
+  from-down : {i : ℕ} {identifier : Words} → Heads (drop i (w .down)) identifier → Drops w (dropsDown i) identifier
 
 -- ---- a delivery may as well be of bytes: those that the writer makes of a message, whatever follows them
 abbrev pub ClerkHearsBytes : World → Bool → List ℕ → List Message → Type 0

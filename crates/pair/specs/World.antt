@@ -18,6 +18,8 @@ use Rattle.desk.specs.declared.letter.Letter.{Letter}
 use Rattle.desk.specs.declared.outcome.Outcome.{Outcome}
 use Rattle.desk.specs.declared.outcome.Sending.{Sending}
 use Rattle.desk.specs.declared.outcome.Sending.the-variants as Sending
+use Rattle.terms.specs.declared.request.Names.{Names}
+use Rattle.terms.specs.declared.request.Request.{Request}
 use Rattle.places.specs.Places.{Held, held}
 use Rattle.clerk_table.specs.declared.inputs.Input as ClerkInput
 use Rattle.clerk_table.specs.declared.inputs.Input.the-variants as AtClerk
@@ -184,31 +186,15 @@ next w (dropsDown i) =
     record { clerk = w .clerk; up = w .up; line = w .line; down = leftOut i (w .down); history = withDropped (w .history) (lostAt i (w .down)) }
 
 -- ---- runs
--- every other message comes by the wire alone. An ask is any that the entry makes of values of the code's types (`Fair`), and every identifier is taken up by at most
--- one ask that is not refused
-abbrev pub ClerkAllowed : World → ClerkInput.Input → Type 0
-ClerkAllowed w (AtClerk.Ask names q) =
-    ClerkSound.Fair (AtClerk.Ask names q)
-    × (done (Clerk.step (w .clerk) (AtClerk.Ask names q) .outcome) ≡ true → has (w .history .takenUp) (names .identifier) ≡ false)
-ClerkAllowed w (AtClerk.Message l busy) = ⊥
-ClerkAllowed w (AtClerk.Act identifier act) = Unit
-ClerkAllowed w (AtClerk.Timer identifier timer) = Unit
-
-abbrev pub LineAllowed : LineInput.Input → Type 0
-LineAllowed (AtLine.Message l) = ⊥
-LineAllowed (AtLine.Act identifier act) = Unit
-LineAllowed (AtLine.Guard identifier) = Unit
-LineAllowed (AtLine.Report number busy) = Unit
-LineAllowed (AtLine.Look number) = Unit
-
-abbrev pub Allowed : World → Event → Type 0
-Allowed w (clerkDoes input) = ClerkAllowed w input
-Allowed w (lineDoes input) = LineAllowed input
-Allowed w (clerkIsTold signal identifier busy) = Unit
-Allowed w (clerkHears busy) = Unit
-Allowed w lineHears = Unit
-Allowed w (dropsUp i) = Unit
-Allowed w (dropsDown i) = Unit
+-- an ask is any that the entry makes of values of the code's types (`Fair`), every identifier is taken up by at most one ask that is not refused, and no host makes up
+-- a message: but for what the signalling tells, messages come by the wires
+pub record Allowed (w : World) (e : Event) : Type 0 where
+  pub asked :
+      (names : Names) (q : Request) → e ≡ clerkDoes (AtClerk.Ask names q) →
+      ClerkSound.Fair (AtClerk.Ask names q)
+      × (done (Clerk.step (w .clerk) (AtClerk.Ask names q) .outcome) ≡ true → has (w .history .takenUp) (names .identifier) ≡ false)
+  pub toClerk : (l : Letter) (busy : Bool) → e ≡ clerkDoes (AtClerk.Message l busy) → ⊥
+  pub toLine : (l : Letter) → e ≡ lineDoes (AtLine.Message l) → ⊥
 
 pub data Run (first : World) : World → Type 0 where
   stop : Run first first

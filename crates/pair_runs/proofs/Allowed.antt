@@ -1,6 +1,6 @@
 -- A run from a list of events, by tests that compute: each ask is one that the entry makes, and no identifier is taken up twice.
 use Prim.Native.Nat.{ℕ, zero, suc, _/_}
-use mathlib.Core.Path.{_≡_, refl}
+use mathlib.Core.Path.{_≡_, refl, subst}
 use mathlib.Core.Bool.{Bool, true, false, not, false≢true}
 use mathlib.Core.List.{List, [], _∷_}
 use lib.Dec.{ltb, lit<}
@@ -109,24 +109,16 @@ allowed w (dropsUp i) = true
 allowed w (dropsDown i) = true
 
 pub allowed-told : (w : World) (e : Event) → allowed w e ≡ true → Allowed w e
-allowed-told w (clerkDoes (AtClerk.Ask names q)) so =
-    let parts = both-parts (fair names q) (once w names q) so in (
-      fair-told names q (parts .0),
-      once-told (done (Clerk.step (w .clerk) (AtClerk.Ask names q) .outcome)) (has (w .history .takenUp) (names .identifier)) (parts .1),
-    )
-allowed-told w (clerkDoes (AtClerk.Message l busy)) so = false≢true so
-allowed-told w (clerkDoes (AtClerk.Act identifier act)) so = tt
-allowed-told w (clerkDoes (AtClerk.Timer identifier timer)) so = tt
-allowed-told w (lineDoes (AtLine.Message l)) so = false≢true so
-allowed-told w (lineDoes (AtLine.Act identifier act)) so = tt
-allowed-told w (lineDoes (AtLine.Guard identifier)) so = tt
-allowed-told w (lineDoes (AtLine.Report number busy)) so = tt
-allowed-told w (lineDoes (AtLine.Look number)) so = tt
-allowed-told w (clerkIsTold signal identifier busy) so = tt
-allowed-told w (clerkHears busy) so = tt
-allowed-told w lineHears so = tt
-allowed-told w (dropsUp i) so = tt
-allowed-told w (dropsDown i) so = tt
+allowed-told w e so =
+    record {
+      asked = λ names q is.
+          let parts = both-parts (fair names q) (once w names q) (subst (λ (x : Event). allowed w x ≡ true) is so) in (
+            fair-told names q (parts .0),
+            once-told (done (Clerk.step (w .clerk) (AtClerk.Ask names q) .outcome)) (has (w .history .takenUp) (names .identifier)) (parts .1),
+          );
+      toClerk = λ l busy is. false≢true (subst (λ (x : Event). allowed w x ≡ true) is so);
+      toLine = λ l is. false≢true (subst (λ (x : Event). allowed w x ≡ true) is so);
+    }
 
 -- ---- a run
 unfoldable pub runs : World → List Event → Bool

@@ -4,6 +4,7 @@ use mathlib.Core.Bool.{Bool, true, false, true≢false, false≢true}
 use mathlib.Core.Logic.{_⊎_, inl, inr}
 use mathlib.Core.List.{List, [], _∷_}
 use Rattle.lists.specs.Words.{wordsOf}
+use Rattle.lists.specs.declared.words.Words.{Words}
 use Rattle.message.specs.declared.Kind.the-variants.{Ccbs}
 use Rattle.message.specs.declared.Message.{Message}
 use Rattle.desk.specs.Letter.{numberWords}
@@ -16,12 +17,13 @@ use Rattle.clerk_table.specs.declared.inputs.Input.the-variants as AtClerk
 use Rattle.clerk_table.specs.declared.record.Record as ClerkRecord
 use Rattle.clerk_table.specs.declared.table.Timer.the-variants.{T2}
 use Rattle.clerk_records.specs.Records as ClerkRecords
+use Rattle.line_table.specs.declared.inputs.Input.the-variants as AtLine
 use Rattle.line_table.specs.declared.record.Record as LineRecord
 use Rattle.line_table.specs.declared.table.State.{State}
 use Rattle.line_table.specs.declared.table.State.the-variants as LineState
 use Rattle.line_records.specs.Records as LineRecords
 use Rattle.pair.specs.World.{World, Event, clerkDoes, lineDoes, clerkIsTold, clerkHears, lineHears, dropsUp, dropsDown, clerkHolds, lineHolds, next, Run, stop, then}
-use Rattle.pair.specs.Meaning.{Accepted, Stores, Unaltered, same, marked}
+use Rattle.pair.specs.Meaning.{Accepted, Stores, by-act, by-guard, by-look, About, by-clerk, by-line, by-signal, to-clerk, to-line, Unaltered, same, marked}
 use Rattle.pair_runs.specs.Refuted as Wrong
 use Rattle.pair_runs.specs.Runs.{play, first, numberB, oneLine, start, asks, lineReports, stored, acknowledged, wentOn, noReply, runOut, deserted, rejection}
 use Rattle.pair_runs.proofs.Allowed.{bytes-told, allowed-told, runs}
@@ -131,9 +133,32 @@ pub gone-though-under-way : Wrong.GoneThoughUnderWay → ⊥
 unfolding play runs all
 gone-though-under-way wrong =
     not-none (lineHolds (next (at rejection) lineHears) (wordsOf first)) refl
-    (wrong (at rejection) (reach false rejection refl) (wordsOf first) refl refl refl (next (at rejection) lineHears) (then stop lineHears tt) .1)
+    (wrong (at rejection) (reach false rejection refl) (wordsOf first) refl refl refl (next (at rejection) lineHears) (then stop lineHears (allowed-told (at rejection) lineHears refl)) .1)
 
 -- ---- 5. a Look that offers; a busy report; a drop
+-- a line report and a drop are about nobody
+abbrev somebody : Event → Bool
+somebody (clerkDoes input) = true
+somebody (lineDoes (AtLine.Message l)) = true
+somebody (lineDoes (AtLine.Act identifier act)) = true
+somebody (lineDoes (AtLine.Guard identifier)) = true
+somebody (lineDoes (AtLine.Report number busy)) = false
+somebody (lineDoes (AtLine.Look number)) = true
+somebody (clerkIsTold signal identifier busy) = true
+somebody (clerkHears busy) = true
+somebody lineHears = true
+somebody (dropsUp i) = false
+somebody (dropsDown i) = false
+
+about-somebody : {w : World} {e : Event} {identifier : Words} → About w e identifier → somebody e ≡ true
+about-somebody by-clerk = refl
+about-somebody (by-line by-act) = refl
+about-somebody (by-line by-guard) = refl
+about-somebody (by-line (by-look sends)) = refl
+about-somebody by-signal = refl
+about-somebody (to-clerk head) = refl
+about-somebody (to-line head) = refl
+
 abbrev waiting : State → Bool
 waiting LineState.Free = false
 waiting LineState.Invoked = true
@@ -161,7 +186,7 @@ active (one l) = l .active
 pub report-marks-nothing : Wrong.ReportMarksNothing → ⊥
 unfolding play runs all
 report-marks-nothing wrong =
-    true≢false (ap active (wrong (at noReply) (reach false noReply refl) (lineReports true) tt (wordsOf first) (λ about. about)))
+    true≢false (ap active (wrong (at noReply) (reach false noReply refl) (lineReports true) (allowed-told (at noReply) (lineReports true) refl) (wordsOf first) (λ about. false≢true (about-somebody about))))
 
 abbrev empty : List Message → Bool
 empty [] = true
@@ -169,7 +194,7 @@ empty (m ∷ ms) = false
 
 pub drop-takes-nothing : Wrong.DropTakesNothing → ⊥
 unfolding play runs all
-drop-takes-nothing wrong = true≢false (ap empty (wrong (at asked) (reach false asked refl) (dropsUp 0) tt (wordsOf first) (λ about. about) .0))
+drop-takes-nothing wrong = true≢false (ap empty (wrong (at asked) (reach false asked refl) (dropsUp 0) (allowed-told (at asked) (dropsUp 0) refl) (wordsOf first) (λ about. false≢true (about-somebody about)) .0))
 
 pub refuted : Wrong.Refuted
 refuted =
