@@ -1,4 +1,5 @@
-// The entry of the clerk's desk: bytes and raw arrays become an input here and nowhere else, or are refused with 1 or 2 before the desk is asked.
+// The entry of the clerk's desk: an ask, a message, bytes and raw arrays become an input here and nowhere else, or are refused with 1 or 2. An inner room of the clerk's
+// desk: its functions are no public operations.
 use clerk_table::inputs::Act;
 use clerk_table::inputs::Input;
 use clerk_table::table::Timer;

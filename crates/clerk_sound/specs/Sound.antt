@@ -11,6 +11,7 @@ use Rattle.lists.specs.declared.words.Words.{Words}
 use Rattle.message.specs.Number.{digitsInRange}
 use Rattle.message.specs.Format.{inRange}
 use Rattle.desk.specs.declared.letter.Letter.{Letter}
+use Rattle.desk.specs.Outcome.{refusedWith}
 use Rattle.desk.specs.declared.outcome.Outcome.{Outcome}
 use Rattle.desk.specs.declared.sends.Sends.the-variants as Sends
 use Rattle.desk.specs.declared.Connection.the-variants as Connection
@@ -41,9 +42,9 @@ use Rattle.clerk.specs.declared.entry.Entry.the-variants.{Given}
 abbrev pub clerkView : View Record
 clerkView = record { used = used; name = λ r. r .terms .identifier; blank = blank }
 
--- ---- a refusal leaves the desk as it was
+-- ---- a refusal leaves the desk as it was, and tells its number and perhaps a reply: no timer, no notice, no word to clear the call
 abbrev pub Same : Desk → Desk → Outcome → Type 0
-Same before after outcome = (outcome .refusal ≡ 0 → ⊥) → after ≡ before
+Same before after outcome = (outcome .refusal ≡ 0 → ⊥) → (after ≡ before) × (outcome ≡ refusedWith (outcome .refusal) (outcome .sending))
 
 pub record RefusedSame : Type 0 where
   -- whatever comes in at the entry: an ask, a message, an act, a timer's report

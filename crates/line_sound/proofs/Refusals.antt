@@ -1,4 +1,4 @@
--- A refusal leaves the desk as it was: of the decisions only a refusal makes a plan with a number, and its plan changes nothing; what the entry refuses hands the desk back.
+-- A refusal leaves the desk as it was: of the decisions only a refusal makes a plan with a number, and its plan changes nothing and only replies; what the entry refuses hands the desk back.
 use Prim.Native.Nat.{ℕ, _*_, _/_}
 use mathlib.Core.Path.{_≡_, refl, ap}
 use mathlib.Core.Bool.{Bool}
@@ -6,9 +6,11 @@ use mathlib.Core.List.{List}
 use lib.ListN.{length, replicate}
 use lib.Dec.{leb, eqb}
 use Rattle.lists.proofs.Choice.{pick-elim}
+use Rattle.desk.specs.Outcome.{refusedWith}
 use Rattle.line_table.specs.Step.{rowTaken}
 use Rattle.line_table.specs.declared.record.Decision.{Decision}
 use Rattle.line_table.specs.declared.record.Decision.the-variants.{Refuse, Deny, Take, Store, Report}
+use Rattle.line_table.specs.declared.record.Plan.{Plan}
 use Rattle.line_table.specs.declared.record.Change.{Change}
 use Rattle.line_table.specs.declared.record.Change.the-variants.{Stay}
 use Rattle.line_table.specs.declared.inputs.Input.{Input}
@@ -28,10 +30,13 @@ use Rattle.line_sound.specs.Sound.{Same, RefusedSame}
 
 -- ---- a step
 -- a plan that refuses stays
-refused-stays : (ws : List ℕ) (input : Input) (decision : Decision) → (planOf ws input decision .outcome .refusal ≡ 0 → ⊥) → planOf ws input decision .change ≡ Stay
+abbrev OnlyReplies : Plan → Type 0
+OnlyReplies plan = (plan .change ≡ Stay) × (plan .outcome ≡ refusedWith (plan .outcome .refusal) (plan .outcome .sending))
+
+refused-stays : (ws : List ℕ) (input : Input) (decision : Decision) → (planOf ws input decision .outcome .refusal ≡ 0 → ⊥) → OnlyReplies (planOf ws input decision)
 unfolding planOf rowTaken
-refused-stays ws input (Refuse number reply) never = refl
-refused-stays ws input (Deny error) never = refl
+refused-stays ws input (Refuse number reply) never = (refl, refl)
+refused-stays ws input (Deny error) never = absurd (never refl)
 refused-stays ws input (Take i row) never = absurd (never refl)
 refused-stays ws input (Store i q busy) never = absurd (never refl)
 refused-stays ws input (Report k busy) never = absurd (never refl)
@@ -39,12 +44,12 @@ refused-stays ws input (Report k busy) never = absurd (never refl)
 same-step : (d : Desk) (input : Input) → Same d (step d input .desk) (step d input .outcome)
 unfolding step planFor applied
 same-step d input never =
-    let stays : planFor (d .words) input .change ≡ Stay = refused-stays (d .words) input (decided (d .words) input) never in
-    ap (λ (c : Change). record { words = applied (d .words) c }) stays
+    let only = refused-stays (d .words) input (decided (d .words) input) never in
+    (ap (λ (c : Change). record { words = applied (d .words) c }) (only .0), only .1)
 
 same-entered : (d : Desk) (entry : Entry) → Same d (entered d entry .desk) (entered d entry .outcome)
 unfolding entered
-same-entered d (Refused number) = λ never. refl
+same-entered d (Refused number) = λ never. (refl, refl)
 same-entered d (Given input) = same-step d input
 
 same-bytes : (d : Desk) (bytes : List ℕ) → Same d (receivedBytes d bytes .desk) (receivedBytes d bytes .outcome)

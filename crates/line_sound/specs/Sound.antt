@@ -12,6 +12,7 @@ use Rattle.lists.specs.declared.words.Words.{Words}
 use Rattle.message.specs.Number.{digitsInRange}
 use Rattle.message.specs.declared.Message.{Message}
 use Rattle.desk.specs.Sends.{noNumber}
+use Rattle.desk.specs.Outcome.{refusedWith}
 use Rattle.desk.specs.declared.outcome.Outcome.{Outcome}
 use Rattle.desk.specs.declared.Connection.the-variants as Connection
 use Rattle.desk.specs.declared.Keep.the-variants as Keep
@@ -50,9 +51,9 @@ lineView = record { used = used; name = λ r. r .terms .identifier; blank = blan
 abbrev pub recordAt : Desk → ℕ → Record
 recordAt d i = getD (records (d .words)) i blank
 
--- ---- a refusal leaves everything as it was: lines, status, settings, every place
+-- ---- a refusal leaves everything as it was: lines, status, settings, every place; and tells its number and perhaps a reply: no timer
 abbrev pub Same : Desk → Desk → Outcome → Type 0
-Same before after outcome = (outcome .refusal ≡ 0 → ⊥) → after ≡ before
+Same before after outcome = (outcome .refusal ≡ 0 → ⊥) → (after ≡ before) × (outcome ≡ refusedWith (outcome .refusal) (outcome .sending))
 
 pub record RefusedSame : Type 0 where
   pub steps : (d : Desk) (entry : Entry) → Same d (entered d entry .desk) (entered d entry .outcome)

@@ -1,4 +1,4 @@
--- The writer's buffer is the old one wherever the writer refuses.
+-- The writer's buffer is the old one wherever the writer refuses; what a refusal leaves out is told as 0.
 use Prim.Native.Nat.{ℕ}
 use mathlib.Core.Path.{_≡_, refl}
 use mathlib.Core.Bool.{Bool, true, false}
@@ -13,7 +13,7 @@ use Rattle.writer.specs.Write.{room, messageWritten, messageBuffer}
 use Rattle.writer.specs.declared.Written.the-variants.{Wrote, Refused}
 use Rattle.told.specs.Told.{sentWritten, sentBuffer}
 use Rattle.tollherring.specs.Face.{faced}
-use Rattle.tollherring.specs.Claims.{NoRoomNothing}
+use Rattle.tollherring.specs.Claims.{NoRoomNothing, RefusedTold}
 
 refused-stays : (ranged roomy : Bool) (length : ℕ) (put out : List ℕ) (number : ℕ)
     → pick ranged (pick roomy (Wrote length) (Refused 12)) (Refused 2) ≡ Refused number → pick ranged (pick roomy put out) out ≡ out
@@ -29,3 +29,6 @@ sent-stays out (Send l) number e = refused-stays (inRange (messageOf l)) (room o
 pub no-room-nothing : NoRoomNothing
 unfolding faced
 no-room-nothing words after out outcome next number e = rw (e, sent-stays out (outcome .sending) number e)
+
+pub refused-told : RefusedTold
+refused-told number reply length next = refl
