@@ -329,7 +329,7 @@ impl Outcome<'_> {
 
     /// The request that the message is of: after a Look, this tells which was offered.
     pub fn identifier(&self) -> Option<Identifier> {
-        self.message?.get(2..18)?.try_into().ok()
+        core::convert::TryFrom::try_from(self.message?.get(2..18)?).ok()
     }
 }
 
