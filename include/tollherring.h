@@ -7,11 +7,13 @@
  *
  * A step has the same tail everywhere: `out`, `room` and `outcome`. What the step sends, the reply that goes with a refusal too, is written at the front
  * of `out` (TOLLHERRING_MESSAGE_MOST bytes are always enough); the bytes behind it stay as they were. `outcome` is written whole. The call answers the
- * refusal's number, or 0. After a refusal the desk is as it was. Two refusals are the call's own and leave `out` as it was too, and `outcome` then has the
+ * refusal's number, or 0. After a refusal the desk is as it was, and the outcome has no timer, no notice and no word to clear a call: beside the number there
+ * is perhaps a reply to be sent, and after receive `next`. Two refusals are the call's own and leave `out` as it was too, and `outcome` then has the
  * number and zeros: 2 for a number out of range, before anything else is looked at; and 12 where the message has no room, in place of what would have
  * been answered, so that the same input can be handed in again.
  *
- * Whatever numbers and bytes are passed, there is an answer. What the caller owes is only what C itself asks for: every pointer points to as many bytes as
+ * Whatever numbers and bytes are passed, there is an answer, and any words are a desk, garbage too: every call is total, whatever the desk's memory holds,
+ * and touches nothing but what it is lent. What the caller owes is only what C itself asks for: every pointer points to as many bytes as
  * its type or its length says and is not NULL (with length 0 neither); what is written (the desk, `out`, `outcome`, every pointer that is not const) overlaps
  * nothing else that the call is given, while inputs may be the same; one desk is not used by two threads at a time. No call keeps a pointer, allocates, or
  * does input or output.
@@ -26,7 +28,8 @@
 extern "C" {
 #endif
 
-/* ---- the desks: allocated by the host, and not looked into. Words of 64 bits, so that a desk may be copied, or kept in memory, as it is. */
+/* ---- the desks: allocated by the host, and not looked into. Words of 64 bits, so that a desk may be copied, or kept in memory, as it is. A call has an answer on
+ * any words; what it means for requests is known of a desk that was started. */
 
 #define TOLLHERRING_CLERK_WORDS 192
 #define TOLLHERRING_LINE_WORDS 498
@@ -77,7 +80,7 @@ typedef struct tollherring_outcome {
 #define TOLLHERRING_FULL 5            /* the clerk's desk is full: 16 records */
 #define TOLLHERRING_NO_RECORD 6       /* no record with that identifier */
 #define TOLLHERRING_NO_ROW 7          /* the record's state has no row for this input */
-#define TOLLHERRING_CARRIER 8         /* carrier not allowed for this type and record */
+#define TOLLHERRING_CARRIER 8         /* carrier not allowed for this type and record: the table below */
 #define TOLLHERRING_NOT_RUNNING 9     /* that timer isn't running, or is T2 in Ringout, where it is not heeded */
 #define TOLLHERRING_NO_LINE 10        /* no such line */
 #define TOLLHERRING_NOTHING_TO_OFFER 11 /* a Look has nothing to offer: the usual answer, and no fault */
@@ -93,7 +96,27 @@ typedef struct tollherring_outcome {
  *
  * A number is one byte up to 127, and else two: the lowest seven bits with the top bit set, then the rest (300 is AC 02). A number of digits is how many
  * there are, then a byte 0 to 9 for each. What a host needs of a message that it sends: out[0] is its type, out[1] the carrier that it goes in, and the 16
- * bytes from out + 2 on are the identifier of the request, which tells where it goes. */
+ * bytes from out + 2 on are the identifier of the request, which tells where it goes.
+ *
+ * The kinds of request are CCBS, Completion of Calls to Busy Subscribers, and CCNR, Completion of Calls on No Reply. The line desk chooses for each request
+ * that it stores, and for its life, between RET, signalling connection retained, and RLS, signalling connection released. A desk sends a message in the
+ * carrier named here; it takes one in that carrier and in those of the last column, and refuses it in every other with 8, after 2, 3, 6 and 7:
+ *
+ *     type                          to     sent in                                    taken as well in
+ *     1 ccbsRequest, 2 ccnrRequest  line   Setup
+ *     3 result                      clerk  RET Connect, RLS Release Complete          (both: the carrier tells the clerk's desk the choice)
+ *     4 request error               clerk  Release Complete
+ *     5 ccExecPossible              clerk  RET Facility, RLS Setup
+ *     6 ccRingout                   line   Setup
+ *     7 ringout error               clerk  Release Complete
+ *     8 ccSuspend                   line   RET Facility, RLS Release Complete         RLS Connect
+ *     9 ccResume                    line   RET Facility, RLS Setup                    RET Setup
+ *     10 ccCancel                   both   RET Release Complete, RLS Setup; before    (Setup and Release Complete, whatever the choice)
+ *                                          the result came, and as the reply to a
+ *                                          refused message: Release Complete
+ *     11 call alerts                clerk  Alerting                                   Connect
+ *     12 call failed                clerk  Release Complete
+ */
 
 #define TOLLHERRING_MESSAGE_LEAST 18
 #define TOLLHERRING_MESSAGE_MOST 53
@@ -130,7 +153,7 @@ typedef struct tollherring_outcome {
 
 /* ---- the clerk's desk (User A's end) */
 
-/* kinds and preferences of an ask */
+/* kinds and preferences of an ask: retain asks for RET, release for RLS */
 #define TOLLHERRING_CCBS 1
 #define TOLLHERRING_CCNR 2
 #define TOLLHERRING_PREFER_NONE 0

@@ -6,8 +6,8 @@
 //!
 //! Every step is given a buffer and answers an [`Outcome`]: what the host has to send, which timers it starts and stops, what it tells User A. It is a struct
 //! and no `Result`, because a host does the same with each of them: *a refusal may have a message too*, the reply, and `?` would lose it. After a
-//! refusal the desk is as it was. A buffer of [`MESSAGE_MOST`] bytes is always enough; with less room than the message takes, the refusal is
-//! [`Refusal::NoRoom`], and nothing at all was done.
+//! refusal the desk is as it was, and there is no timer, no notice and no word to clear the call. A buffer of [`MESSAGE_MOST`] bytes is always enough; with less
+//! room than the message takes, the refusal is [`Refusal::NoRoom`], and nothing at all was done.
 //!
 //! Take this file into a program as a module, and show rustc the folder of the archive: `rustc --edition 2021 -L target/staticlib main.rs`, or in a build.rs
 //! `println!("cargo:rustc-link-search=native=target/staticlib")`.
@@ -73,9 +73,9 @@ numbered! {
         NoRecord = 6,
         /// The record's state has no row for this input.
         NoRow = 7,
-        /// Carrier not allowed for this type and record.
+        /// Carrier not allowed for this type and record: include/tollherring.h has the table.
         Carrier = 8,
-        /// That timer isn't running.
+        /// That timer isn't running, or is T2 in Ringout, where it is not heeded.
         NotRunning = 9,
         /// No such line.
         NoLine = 10,
@@ -104,7 +104,9 @@ numbered! {
 numbered! {
     /// What a request waits for: a busy line, or one where nobody answers.
     Kind {
+        /// Completion of Calls to Busy Subscribers.
         Ccbs = 1,
+        /// Completion of Calls on No Reply.
         Ccnr = 2,
     }
 }
@@ -194,7 +196,7 @@ numbered! {
 }
 
 numbered! {
-    /// Whether the signalling connection of a request is retained or released.
+    /// Whether the signalling connection of a request is retained (RET) or released (RLS).
     Connection {
         Retained = 1,
         Released = 2,
@@ -295,7 +297,9 @@ impl Timers {
     }
 }
 
-/// What a step does. The host sends the message, stops and starts timers, tells the notice and clears the call, a refusal or not.
+/// What a step does. The host sends the message, stops and starts timers, tells the notice and clears the call. A refusal has no timer, notice or word to
+/// clear the call, only perhaps a message, the reply, and after `receive` perhaps a `next`. Every step has an outcome, whatever the desk holds: any words are
+/// a desk, garbage too, though here they come from `start` alone.
 #[derive(Clone, Copy, PartialEq, Eq, Debug)]
 #[must_use = "what a step sends, the reply to a refused message too, is sent by the host"]
 pub struct Outcome<'o> {
@@ -329,7 +333,7 @@ impl Outcome<'_> {
 
     /// The request that the message is of: after a Look, this tells which was offered.
     pub fn identifier(&self) -> Option<Identifier> {
-        self.message?.get(2..18)?.try_into().ok()
+        core::convert::TryFrom::try_from(self.message?.get(2..18)?).ok()
     }
 }
 
