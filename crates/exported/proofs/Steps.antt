@@ -58,11 +58,10 @@ use Rattle.tollherring.specs.Line.{startWords, lineStartedWords, lineStartedAns
 use Rattle.tollherring.proofs.Claims.{no-room-nothing}
 use Rattle.pair_request.specs.Wires.{Signal, callDied, rejected}
 use Rattle.pair.specs.World as Pair
-use Rattle.pair.specs.World.{World, Event, clerkDoes, lineDoes, clerkIsTold, clerkHears, lineHears, nameOf, has, sentBy, clerkHeard, lineHeard, signalLetter, next, Allowed}
-use Rattle.pair.specs.Meaning.{ClerkHearsBytes, LineHearsBytes}
-use Rattle.pair.proofs.AsBytes.{heard-as-bytes}
+use Rattle.pair.specs.World.{takenUp, World, Event, clerkDoes, lineDoes, clerkIsTold, clerkHears, lineHears, nameOf, has, sentBy, clerkHeard, lineHeard, signalLetter, next, Allowed}
 use Rattle.exported.specs.Calls.{End, clerkEnd, lineEnd, IsStep, done, refused}
-use Rattle.exported.specs.Claims.{ClerkCall, LineCall, askEvent, FaceIsStep, StartsAsRun}
+use Rattle.exported.specs.Claims.{ClerkHearsBytes, LineHearsBytes, ClerkCall, LineCall, askEvent, FaceIsStep, StartsAsRun}
+use Rattle.exported.proofs.Heard.{heard-as-bytes}
 
 -- ---- a step's face: done, or refused for want of room
 faced-step :
@@ -286,11 +285,11 @@ line-unread words out bytes number e = rw e
 abbrev Once : World → Names → Request → Type 0
 Once w names q =
     Fair (AtClerk.Ask names q)
-    × (Pair.done (Clerk.step (w .clerk) (AtClerk.Ask names q) .outcome) ≡ true → has (w .history .takenUp) (names .identifier) ≡ false)
+    × (Pair.done (Clerk.step (w .clerk) (AtClerk.Ask names q) .outcome) ≡ true → has takenUp (names .identifier) (w .history) ≡ false)
 
 -- an ask of values of the code's types, under an identifier that was not taken up
 ask-allowed :
-    (w : World) (a : Asking) → Typed a → askEntry a ≡ ClerkEntered.Given (AtClerk.Ask (askNames a) (askRequest a)) → has (w .history .takenUp) (wordsOf (a .identifier)) ≡ false →
+    (w : World) (a : Asking) → Typed a → askEntry a ≡ ClerkEntered.Given (AtClerk.Ask (askNames a) (askRequest a)) → has takenUp (wordsOf (a .identifier)) (w .history) ≡ false →
     Allowed w (askEvent a)
 unfolding letterOf
 ask-allowed w a typed e fresh =

@@ -21,7 +21,7 @@ use Rattle.pair_request.specs.Listed as RL
 use Rattle.pair_request.proofs.Over.{Over}
 use Rattle.pair_request.proofs.Claims.{acked-was-accepted, TakesUp, accepts-by-request, both-hold-waiting, both-hold-live, quiet-pair, over-now, over-next}
 use Rattle.pair.specs.World.{World, Event, lineHears, clerkHolds, lineHolds, messagesOf, next, Allowed, Run, stop, then, startWorld, Reached, reached}
-use Rattle.pair.specs.Meaning.{Acknowledged, isRequest, Requests, Heads, Stores, Accepted, Agree, Listed, no-record, invoked, wait-answer, suspended, ringout, NoRequest}
+use Rattle.pair.specs.Demand3.{Acknowledged, isRequest, Requests, Heads, Stores, Accepted, Agree, Listed, no-record, invoked, wait-answer, suspended, ringout, NoRequest}
 use Rattle.pair.specs.Demand3.{AcknowledgedWasAccepted, DataAgree, KindAgrees, QuietListed, OverForGood, GoneForGood}
 use Rattle.pair.proofs.Ends.{waitingRecord, liveRecord, clerkRead, lineRead, lineRecord, messageRead, keepRead, connRead}
 use Rattle.pair.proofs.Wires.{messages-hit}

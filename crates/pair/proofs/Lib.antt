@@ -14,5 +14,4 @@ pub mod LineSteps
 pub mod Runs
 pub mod Claims
 pub mod Others
-pub mod AsBytes
 pub mod Demand3

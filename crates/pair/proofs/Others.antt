@@ -4,7 +4,7 @@ use mathlib.Core.Logic.{_⊎_, inl, inr}
 use Rattle.lists.specs.declared.words.Words.{Words}
 use Rattle.pair_request.specs.Reading as R
 use Rattle.pair.specs.World.{World, Event, next}
-use Rattle.pair.specs.Meaning.{About, Drops, Unaltered, same, Untouched}
+use Rattle.pair.specs.Demand3.{About, Drops, Unaltered, same, Untouched}
 use Rattle.pair.specs.Demand3.{NoOtherAltered, NoOtherMessage}
 use Rattle.pair.proofs.Wires.{words?}
 use Rattle.pair.proofs.Sim.{Left, Named, about, loses, Turn, nobody, somebody}

@@ -21,7 +21,7 @@ use Rattle.clerk.specs.declared.entry.Asking.{Asking}
 use Rattle.clerk.specs.declared.entry.Entry.the-variants.{Given}
 use Rattle.clerk_sound.specs.Sound as ClerkSound
 use Rattle.line_table.specs.declared.inputs.Input.the-variants as AtLine
-use Rattle.pair.specs.World.{World, Event, clerkDoes, lineDoes, clerkIsTold, clerkHears, lineHears, dropsUp, dropsDown, has, done, next, Allowed, Run, stop, then, reached}
+use Rattle.pair.specs.World.{Mark, World, Event, clerkDoes, lineDoes, clerkIsTold, clerkHears, lineHears, dropsUp, dropsDown, has, done, next, Allowed, Run, stop, then, reached}
 use Rattle.pair.proofs.Letters.{flags-sent}
 use Rattle.pair_runs.specs.Runs.{play, Row, oneLine, start, EachReached}
 
@@ -83,7 +83,7 @@ fair-told names q e =
 
 -- an ask that is not refused takes up an identifier that was not taken up before
 abbrev pub once : World → Names → Request → Bool
-once w names q = pick (done (Clerk.step (w .clerk) (AtClerk.Ask names q) .outcome)) (not (has (w .history .takenUp) (names .identifier))) true
+once w names q = pick (done (Clerk.step (w .clerk) (AtClerk.Ask names q) .outcome)) (not (has Mark.takenUp (names .identifier) (w .history))) true
 
 pub once-told : (take had : Bool) → pick take (not had) true ≡ true → take ≡ true → had ≡ false
 once-told true true e t = absurd (false≢true e)
@@ -114,7 +114,7 @@ allowed-told w e so =
       asked = λ names q is.
           let parts = both-parts (fair names q) (once w names q) (subst (λ (x : Event). allowed w x ≡ true) is so) in (
             fair-told names q (parts .0),
-            once-told (done (Clerk.step (w .clerk) (AtClerk.Ask names q) .outcome)) (has (w .history .takenUp) (names .identifier)) (parts .1),
+            once-told (done (Clerk.step (w .clerk) (AtClerk.Ask names q) .outcome)) (has Mark.takenUp (names .identifier) (w .history)) (parts .1),
           );
       toClerk = λ l busy is. false≢true (subst (λ (x : Event). allowed w x ≡ true) is so);
       toLine = λ l is. false≢true (subst (λ (x : Event). allowed w x ≡ true) is so);

@@ -23,7 +23,7 @@ use Rattle.line_table.specs.declared.table.State.{State}
 use Rattle.line_table.specs.declared.table.State.the-variants as LineState
 use Rattle.line_records.specs.Records as LineRecords
 use Rattle.pair.specs.World.{World, Event, clerkDoes, lineDoes, clerkIsTold, clerkHears, lineHears, dropsUp, dropsDown, clerkHolds, lineHolds, next, Run, stop, then}
-use Rattle.pair.specs.Meaning.{Accepted, Stores, by-act, by-guard, by-look, About, by-clerk, by-line, by-signal, to-clerk, to-line, Unaltered, same, marked}
+use Rattle.pair.specs.Demand3.{Accepted, Stores, by-act, by-guard, by-look, About, by-clerk, by-signal, to-clerk, to-line, Unaltered, same, marked}
 use Rattle.pair_runs.specs.Refuted as Wrong
 use Rattle.pair_runs.specs.Runs.{play, first, numberB, oneLine, start, asks, lineReports, stored, acknowledged, wentOn, noReply, runOut, deserted, rejection}
 use Rattle.pair_runs.proofs.Allowed.{bytes-told, allowed-told, runs}
@@ -152,9 +152,9 @@ somebody (dropsDown i) = false
 
 about-somebody : {w : World} {e : Event} {identifier : Words} → About w e identifier → somebody e ≡ true
 about-somebody by-clerk = refl
-about-somebody (by-line by-act) = refl
-about-somebody (by-line by-guard) = refl
-about-somebody (by-line (by-look sends)) = refl
+about-somebody by-act = refl
+about-somebody by-guard = refl
+about-somebody (by-look sends) = refl
 about-somebody by-signal = refl
 about-somebody (to-clerk head) = refl
 about-somebody (to-line head) = refl

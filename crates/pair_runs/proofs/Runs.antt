@@ -33,8 +33,8 @@ use Rattle.line_plan.specs.Plan as LinePlan
 use Rattle.line.specs.Start as Start
 use Rattle.line.specs.Entry as LineEntry
 use Rattle.line.specs.Steps as Line
-use Rattle.pair.specs.World.{World, Event, clerkHolds, lineHolds, Reached, reached, stop, messagesOf, has, clerkHeard, lineHeard, next}
-use Rattle.pair.specs.Meaning.{Listed, no-record, invoked, wait-answer, suspended, ringout}
+use Rattle.pair.specs.World.{Mark, World, Event, clerkHolds, lineHolds, Reached, reached, stop, messagesOf, has, clerkHeard, lineHeard, next}
+use Rattle.pair.specs.Demand3.{Listed, no-record, invoked, wait-answer, suspended, ringout}
 use Rattle.pair_request.specs.Wires.{leftOut}
 use Rattle.pair_runs.specs.Runs.{RowsShown, Shown, TableReached, Premises, Unlisted, LeftOut, play, seen, pairs, answers, losses, signals, table, first, oneLine, start, stored, acknowledged, ringing, over}
 use Rattle.pair_runs.proofs.Allowed.{bytes-told, runs, run-told, allRun, each-reached}
@@ -161,7 +161,7 @@ pub not-listed : (c : Held ClerkRecord.Record) (l : Held LineRecord.Record) → 
 not-listed c l apart so = true≢false (sym (listed-together c l so) ∙ apart)
 
 pub unlisted-told :
-    (w : World) (identifier : Words) → has (w .history .dropped) identifier ≡ false → messagesOf identifier (w .up) ≡ [] → messagesOf identifier (w .down) ≡ [] →
+    (w : World) (identifier : Words) → has Mark.dropped identifier (w .history) ≡ false → messagesOf identifier (w .up) ≡ [] → messagesOf identifier (w .down) ≡ [] →
     together (clerkHolds w identifier) (lineHolds w identifier) ≡ false → Unlisted w identifier
 unlisted-told w identifier dropped up down apart =
     record { dropped = dropped; up = up; down = down; unlisted = not-listed (clerkHolds w identifier) (lineHolds w identifier) apart }

@@ -30,8 +30,8 @@ use Rattle.line_table.specs.declared.inputs.Act.the-variants as Far
 use Rattle.line_table.specs.declared.inputs.Input.the-variants as AtLine
 use Rattle.line_table.specs.declared.record.Record as LineRecord
 use Rattle.line_records.specs.Codes as LineCodes
-use Rattle.pair.specs.World.{World, Event, clerkDoes, lineDoes, clerkIsTold, clerkHears, lineHears, dropsUp, dropsDown, clerkHolds, lineHolds, messagesOf, has, next, startWorld, Reached}
-use Rattle.pair.specs.Meaning.{Acknowledged, Listed, NoRequest}
+use Rattle.pair.specs.World.{Mark, World, Event, clerkDoes, lineDoes, clerkIsTold, clerkHears, lineHears, dropsUp, dropsDown, clerkHolds, lineHolds, messagesOf, has, next, startWorld, Reached}
+use Rattle.pair.specs.Demand3.{Acknowledged, Listed, NoRequest}
 use Rattle.pair_request.specs.Wires.{callDied, rejected}
 
 -- events one after the other
@@ -91,9 +91,9 @@ seen w identifier =
     (told (λ (l : LineRecord.Record). keepCode (l .terms .keep)) (lineHolds w identifier))
     (length (messagesOf identifier (w .up)))
     (length (messagesOf identifier (w .down)))
-    (flagCode (has (w .history .dropped) identifier))
-    (flagCode (has (w .history .runOut) identifier))
-    (flagCode (has (w .history .guarded) identifier))
+    (flagCode (has Mark.dropped identifier (w .history)))
+    (flagCode (has Mark.runOut identifier (w .history)))
+    (flagCode (has Mark.guarded identifier (w .history)))
 
 -- ---- the data of the runs
 -- two identifiers, sixteen bytes each
@@ -373,9 +373,9 @@ pub record RunOut : Type 0 where
   pub world : World
   pub reached : Reached world
   pub identifier : Words
-  pub dropped : has (world .history .dropped) identifier ≡ true
-  pub runOut : has (world .history .runOut) identifier ≡ true
-  pub guarded : has (world .history .guarded) identifier ≡ true
+  pub dropped : has Mark.dropped identifier (world .history) ≡ true
+  pub runOut : has Mark.runOut identifier (world .history) ≡ true
+  pub guarded : has Mark.guarded identifier (world .history) ≡ true
   pub request : NoRequest (messagesOf identifier (world .up))
 
 pub record Premises : Type 0 where
@@ -386,7 +386,7 @@ pub record Premises : Type 0 where
 -- ---- what is no event of a run
 -- nothing of a request was dropped or is under way, and yet its pair is not listed
 pub record Unlisted (w : World) (identifier : Words) : Type 0 where
-  pub dropped : has (w .history .dropped) identifier ≡ false
+  pub dropped : has Mark.dropped identifier (w .history) ≡ false
   pub up : messagesOf identifier (w .up) ≡ []
   pub down : messagesOf identifier (w .down) ≡ []
   pub unlisted : Listed (clerkHolds w identifier) (lineHolds w identifier) → ⊥
