@@ -56,7 +56,7 @@ use Rattle.tollherring.specs.Face.{refusedFace, faced}
 use Rattle.tollherring.specs.Clerk.{clerkEntered, clerkBytes, clerkAsked, clerkReceived, clerkActed, clerkReported}
 use Rattle.tollherring.specs.Line.{startWords, lineStartedWords, lineStartedAnswer, lineEntered, lineBytes, lineReceived, lineStatusReported, lineLooked, lineActed, lineGuarded}
 use Rattle.tollherring.proofs.Claims.{no-room-nothing}
-use Rattle.pair_request.specs.Wires.{Signal, callDied, rejected}
+use Rattle.pair_request.specs.Signal.{Signal, callDied, rejected}
 use Rattle.pair.specs.World as Pair
 use Rattle.pair.specs.World.{takenUp, World, Event, clerkDoes, lineDoes, clerkIsTold, clerkHears, lineHears, nameOf, has, sentBy, clerkHeard, lineHeard, signalLetter, next, Allowed}
 use Rattle.exported.specs.Calls.{End, clerkEnd, lineEnd, IsStep, done, refused}

@@ -30,7 +30,7 @@ use Rattle.host_numbers.specs.Given.{askingOf, yes}
 use Rattle.tollherring.specs.Face.{Face, face, refusedFace, faced}
 use Rattle.tollherring.specs.Clerk.{clerkAsked, clerkReceived, clerkActed, clerkReported}
 use Rattle.tollherring.specs.Line.{lineStartedWords, lineStartedAnswer, lineReceived, lineStatusReported, lineLooked, lineActed, lineGuarded}
-use Rattle.pair_request.specs.Wires.{Signal}
+use Rattle.pair_request.specs.Signal.{Signal}
 use Rattle.pair.specs.World.{takenUp, World, Event, clerkDoes, lineDoes, clerkIsTold, clerkHears, lineHears, nameOf, has, sentBy, signalLetter, next, Allowed, startWorld, Reached}
 use Rattle.exported.specs.Calls.{clerkEnd, lineEnd, Puts, IsStep}
 

@@ -55,7 +55,7 @@ use Rattle.clerk.specs.Steps.{made, step}
 use Rattle.clerk.specs.declared.Desk.{Desk}
 use Rattle.clerk.specs.declared.steps.Stepped.{Stepped}
 use Rattle.clerk_sound.specs.Sound.{clerkView, Reached}
-use Rattle.pair_request.specs.Wires.{callDied, rejected}
+use Rattle.pair_request.specs.Signal.{callDied, rejected}
 use Rattle.pair_request.specs.Reading as R
 use Rattle.pair.specs.World.{sentBy, done}
 use Rattle.pair.proofs.Ends.{clerkStateRead, waitingRecord, liveRecord, clerkRead, letterRead, messageRead, dataOf, askRead, ClerkStep}

@@ -22,7 +22,7 @@ use Rattle.clerk.specs.declared.steps.Stepped.{Stepped}
 use Rattle.clerk_sound.specs.Sound as Clerk
 use Rattle.clerk_sound.proofs.Reaching.{others-held}
 use Rattle.places.specs.Places as P
-use Rattle.pair_request.specs.Wires.{Signal, callDied, rejected}
+use Rattle.pair_request.specs.Signal.{Signal, callDied, rejected}
 use Rattle.pair_request.specs.Reading as R
 use Rattle.pair_request.proofs.Effects.{clerk-act-effect, signal-takes, act-plain, clerk-take-effect, take-plain}
 use Rattle.pair_request.proofs.Agree.{agreed, untaken}

@@ -21,7 +21,6 @@ use Rattle.line.specs.declared.Desk.{Desk}
 use Rattle.line.specs.declared.steps.Stepped.{Stepped}
 use Rattle.line_sound.specs.Sound as Line
 use Rattle.line_sound.proofs.Reaching.{others-held}
-use Rattle.pair_request.specs.Wires.{leftOut}
 use Rattle.pair_request.specs.Reading as R
 use Rattle.pair_request.proofs.Effects.{line-act-effect, line-act-plain, line-take-effect, line-take-plain}
 use Rattle.pair_request.proofs.Agree.{agreed, untaken}
@@ -32,7 +31,7 @@ use Rattle.pair.proofs.Letters.{letter-name, clear-kept, sent-name}
 use Rattle.pair.proofs.LineChanges.{policy-kept}
 use Rattle.pair.proofs.LineEnd.{line-hears, line-acts, line-guards, guard-ends}
 use Rattle.pair.proofs.LineLooks.{SentOf, Looked, nothing, offers, line-looks, Reported, line-reports}
-use Rattle.pair.proofs.Wires.{head-own, AllClear, no-message, plain-clear, Worded, quiet, word, LeftOut, nothing-lost, one-lost, left-out}
+use Rattle.pair.proofs.Wires.{head-own, AllClear, no-message, plain-clear, Worded, quiet, word, without, LeftOut, nothing-lost, one-lost, left-out}
 use Rattle.pair.proofs.Grounds.{line-full}
 use Rattle.pair.proofs.Sim.{Sim, Known, Good, Noted, Unnoted, unnoted, noted, unnoted-other, Moves, about, loses, Turned, unmoved, Wired, wired-same, wired-sent, wired-heard, turn-about, turn-none, silent, line-own, lossy, lost-own}
 
@@ -220,7 +219,7 @@ module _ {p : R.Policy} {w : World} (g : Good p w) (known : Known p w) where
       by (nothing-lost e n) = rw (e, n) (unmoved g)
       by (one-lost k n h worded others own) =
           rw n
-          (drop-turn k (leftOut i (w .up)) (w .down) (from-up h) (record { worded = worded; others = others }) (wired-same (g .down))
+          (drop-turn k (without i (w .up)) (w .down) (from-up h) (record { worded = worded; others = others }) (wired-same (g .down))
           (λ m r sim.
           let l = own (m .up) (sim .upClear) (sim .up) in
           (R.losesUp (l .0), (tt, lost-own sim (l .1 .0) (l .1 .1) (sim .down) (sim .downClear)))))
@@ -233,7 +232,7 @@ module _ {p : R.Policy} {w : World} (g : Good p w) (known : Known p w) where
       by (nothing-lost e n) = rw (e, n) (unmoved g)
       by (one-lost k n h worded others own) =
           rw n
-          (drop-turn k (w .up) (leftOut i (w .down)) (from-down h) (wired-same (g .up)) (record { worded = worded; others = others })
+          (drop-turn k (w .up) (without i (w .down)) (from-down h) (wired-same (g .up)) (record { worded = worded; others = others })
           (λ m r sim.
           let l = own (m .down) (sim .downClear) (sim .down) in
           (R.losesDown (l .0), (tt, lost-own sim (sim .up) (sim .upClear) (l .1 .0) (l .1 .1)))))

@@ -12,7 +12,7 @@ use Rattle.clerk_table.specs.declared.{inputs.Input.Input as ClerkInput, record
 use Rattle.line_table.specs.{Record.moved, Search.marks, declared.inputs.Act.Act as LineAct, declared.inputs.Input.Input as LineInput}
 use Rattle.line_table.specs.declared.{record.Record.Record as LineRecord, table.State.State as LineState}
 use Rattle.line.specs.Steps as Line
-use Rattle.pair_request.specs.Wires.{Signal}
+use Rattle.pair_request.specs.Signal.{Signal}
 use Rattle.pair.specs.World.{World, Event, clerkDoes, lineDoes, clerkIsTold, clerkHears, lineHears, dropsUp, dropsDown, clerkHolds, lineHolds, nameOf, messagesOf}
 use Rattle.pair.specs.World.{takenUp, dropped, runOut, guarded, has, next, Allowed, Run, stop, then, startWorld, Reached}
 

@@ -1,5 +1,5 @@
 -- Two desks, two wires that deliver in order or drop, and the history of the run. A step is an input at a desk, as the desk's contract has it, or the drop of a message.
-use Prim.Native.Nat.{ℕ}
+use Prim.Native.Nat.{ℕ, suc}
 use mathlib.Core.{Path._≡_, Bool.Bool, Bool.true, Bool.false, List.List, List.[], List._∷_, List._++_, List.map}
 use lib.{Dec.eqb, ListN.take, ListN.drop}
 use Rattle.lists.specs.{Choice.pick, Lists.both, Words.Bytes, Words.wordsOf, Words.sameWords, declared.words.Words.Words}
@@ -17,7 +17,7 @@ use Rattle.line_records.specs.Records.{records as lineRecords}
 use Rattle.line.specs.{Start.started as lineStarted, declared.Desk.Desk as LineDesk, declared.steps.Stepped.Stepped as LineStepped}
 use Rattle.line.specs.Steps as Line
 use Rattle.line_sound.specs.Sound.{lineView}
-use Rattle.pair_request.specs.Wires.{leftOut, Signal, callDied, rejected}
+use Rattle.pair_request.specs.Signal.{Signal, callDied, rejected}
 
 -- ---- the world
 -- what is noted of an identifier: an ask took it up; a message of it was dropped; a T1 or T2 report of it was taken at the clerk's end; a guard report at the line's
@@ -139,9 +139,9 @@ next w (clerkIsTold signal identifier busy) =
 next w (clerkHears busy) = clerkHeard w busy (w .down)
 next w lineHears = lineHeard w (w .up)
 next w (dropsUp i) =
-    record { clerk = w .clerk; up = leftOut i (w .up); line = w .line; down = w .down; history = lostAt i (w .up) ++ w .history }
+    record { clerk = w .clerk; up = take i (w .up) ++ drop (suc i) (w .up); line = w .line; down = w .down; history = lostAt i (w .up) ++ w .history }
 next w (dropsDown i) =
-    record { clerk = w .clerk; up = w .up; line = w .line; down = leftOut i (w .down); history = lostAt i (w .down) ++ w .history }
+    record { clerk = w .clerk; up = w .up; line = w .line; down = take i (w .down) ++ drop (suc i) (w .down); history = lostAt i (w .down) ++ w .history }
 
 -- ---- runs
 -- an ask is any that the entry makes of values of the code's types (`Fair`), every identifier is taken up by at most one ask that is not refused, and no host makes up

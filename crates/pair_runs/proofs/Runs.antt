@@ -35,13 +35,12 @@ use Rattle.line.specs.Entry as LineEntry
 use Rattle.line.specs.Steps as Line
 use Rattle.pair.specs.World.{Mark, World, Event, clerkHolds, lineHolds, Reached, reached, stop, messagesOf, has, clerkHeard, lineHeard, next}
 use Rattle.pair.specs.Demand3.{Listed, no-record, invoked, wait-answer, suspended, ringout}
-use Rattle.pair_request.specs.Wires.{leftOut}
 use Rattle.pair_runs.specs.Runs.{RowsShown, Shown, TableReached, Premises, Unlisted, LeftOut, play, seen, pairs, answers, losses, signals, table, first, oneLine, start, stored, acknowledged, ringing, over}
 use Rattle.pair_runs.proofs.Allowed.{bytes-told, runs, run-told, allRun, each-reached}
 
 -- all that a run computes with: who names this unfolds every definition on its line
 unfoldable pub all : Bool
-unfolding firstFrom count word octets wordsOf bytesOf sameWords numberAt fieldAt scanAt digitsAt digitsInRange inRange rows putRow turnRow dropRow rowsFit removedRow numberWords letterOf messageOf carrierFits kindOf keepOf connectionOf termsOf held ClerkStep.rowTaken ClerkCodes.stateOf ClerkRecords.recordOf ClerkRecords.records ClerkRecords.meant ClerkRecords.place ClerkRecords.applied ClerkPlan.decided ClerkPlan.planOf ClerkPlan.planFor ClerkEntry.messageEntry Clerk.step Clerk.entered LineStep.rowTaken LineCodes.stateOf LineRecords.recordOf LineRecords.records LineRecords.meant LineRecords.place LineRecords.putRecord LineRecords.turnRecord LineRecords.removed Lines.lineOf Lines.lines Lines.lineAt Lines.overLine Lines.putLine Lines.keeps Lines.retains Lines.withSettings Change.markPlace Change.marked Change.statusStored Change.withReport Change.applied Decide.takesCall Decide.recordDecision Decide.countedDecision Decide.admittedDecision Decide.requestDecision Decide.messageDecision Decide.ownDecision Decide.offerAt Decide.lookDecision Decide.reportDecision Decide.decided LinePlan.planOf LinePlan.planFor Start.goodLine Start.lineTaken Start.takeLines Start.started LineEntry.messageEntry Line.step Line.entered messagesOf has clerkHeard lineHeard leftOut next
+unfolding firstFrom count word octets wordsOf bytesOf sameWords numberAt fieldAt scanAt digitsAt digitsInRange inRange rows putRow turnRow dropRow rowsFit removedRow numberWords letterOf messageOf carrierFits kindOf keepOf connectionOf termsOf held ClerkStep.rowTaken ClerkCodes.stateOf ClerkRecords.recordOf ClerkRecords.records ClerkRecords.meant ClerkRecords.place ClerkRecords.applied ClerkPlan.decided ClerkPlan.planOf ClerkPlan.planFor ClerkEntry.messageEntry Clerk.step Clerk.entered LineStep.rowTaken LineCodes.stateOf LineRecords.recordOf LineRecords.records LineRecords.meant LineRecords.place LineRecords.putRecord LineRecords.turnRecord LineRecords.removed Lines.lineOf Lines.lines Lines.lineAt Lines.overLine Lines.putLine Lines.keeps Lines.retains Lines.withSettings Change.markPlace Change.marked Change.statusStored Change.withReport Change.applied Decide.takesCall Decide.recordDecision Decide.countedDecision Decide.admittedDecision Decide.requestDecision Decide.messageDecision Decide.ownDecision Decide.offerAt Decide.lookDecision Decide.reportDecision Decide.decided LinePlan.planOf LinePlan.planFor Start.goodLine Start.lineTaken Start.takeLines Start.started LineEntry.messageEntry Line.step Line.entered messagesOf has clerkHeard lineHeard next
 all = true
 
 pub pairs-shown : RowsShown pairs

@@ -32,7 +32,7 @@ use Rattle.line_table.specs.declared.record.Record as LineRecord
 use Rattle.line_records.specs.Codes as LineCodes
 use Rattle.pair.specs.World.{Mark, World, Event, clerkDoes, lineDoes, clerkIsTold, clerkHears, lineHears, dropsUp, dropsDown, clerkHolds, lineHolds, messagesOf, has, next, startWorld, Reached}
 use Rattle.pair.specs.Demand3.{Acknowledged, Listed, NoRequest}
-use Rattle.pair_request.specs.Wires.{callDied, rejected}
+use Rattle.pair_request.specs.Signal.{callDied, rejected}
 
 -- events one after the other
 unfoldable pub play : World → List Event → World
