@@ -3,7 +3,7 @@ use Prim.Native.Nat.{ℕ, _≤_}
 use mathlib.Core.Path.{_≡_}
 use mathlib.Core.Bool.{Bool, true, false}
 use mathlib.Core.Logic.{_⊎_}
-use mathlib.Core.List.{List, [], _∷_, _++_}
+use mathlib.Core.List.{List, [], _∷_, _++_, List·Memᴰ as Noted}
 use lib.ListN.{length}
 use Rattle.lists.specs.Parts.{over}
 use Rattle.lists.specs.Words.{wordsOf}
@@ -31,7 +31,7 @@ use Rattle.tollherring.specs.Face.{Face, face, refusedFace, faced}
 use Rattle.tollherring.specs.Clerk.{clerkAsked, clerkReceived, clerkActed, clerkReported}
 use Rattle.tollherring.specs.Line.{lineStartedWords, lineStartedAnswer, lineReceived, lineStatusReported, lineLooked, lineActed, lineGuarded}
 use Rattle.pair_request.specs.Signal.{Signal}
-use Rattle.pair.specs.World.{takenUp, World, Event, clerkDoes, lineDoes, clerkIsTold, clerkHears, lineHears, nameOf, has, sentBy, signalLetter, next, Allowed, startWorld, Reached}
+use Rattle.pair.specs.World.{takenUp, World, Event, clerkDoes, lineDoes, clerkIsTold, clerkHears, lineHears, nameOf, sentBy, signalLetter, next, Allowed, startWorld, Reached}
 use Rattle.exported.specs.Calls.{clerkEnd, lineEnd, Puts, IsStep}
 
 -- ---- what a step puts on a wire, the call writes as its bytes
@@ -83,7 +83,7 @@ pub record Calls (w : World) (out : List ℕ) : Type 0 where
       ClerkCall w (askEvent (askingOf identifier kind numberA numberB service canKeep preference)) out 0
       (clerkAsked (w .clerk .words) out identifier kind numberA numberB service canKeep preference)
   pub askAllowed :
-      (a : Asking) → Typed a → askEntry a ≡ Given (AtClerk.Ask (askNames a) (askRequest a)) → has takenUp (wordsOf (a .identifier)) (w .history) ≡ false →
+      (a : Asking) → Typed a → askEntry a ≡ Given (AtClerk.Ask (askNames a) (askRequest a)) → (Noted (takenUp (wordsOf (a .identifier))) (w .history) → ⊥) →
       Allowed w (askEvent a)
   -- User A's act, and a timer's report
   pub clerkAct :

@@ -2,7 +2,7 @@
 use Prim.Native.Nat.{_/_}
 use mathlib.Core.Path.{_≡_, refl, sym, _∙_, ap, subst}
 use mathlib.Core.Bool.{Bool, true, false}
-use mathlib.Core.List.{List, [], _∷_, _++_}
+use mathlib.Core.List.{List, [], _∷_, _++_, List·Memᴰ as Noted}
 use Rattle.lists.specs.Lists.{both}
 use Rattle.lists.specs.declared.words.Words.{Words}
 use Rattle.message.specs.declared.Message.{Message}
@@ -26,13 +26,14 @@ use Rattle.pair_request.specs.Signal.{Signal, callDied, rejected}
 use Rattle.pair_request.specs.Reading as R
 use Rattle.pair_request.proofs.Effects.{clerk-act-effect, signal-takes, act-plain, clerk-take-effect, take-plain}
 use Rattle.pair_request.proofs.Agree.{agreed, untaken}
-use Rattle.pair.specs.World.{Mark, Note, World, Event, clerkDoes, clerkIsTold, clerkHears, clerkHolds, done, clerkStepped, clerkHeard, clerkNotes, signalLetter, has, Allowed}
+use Rattle.pair.specs.World.{Note, World, Event, clerkDoes, clerkIsTold, clerkHears, clerkHolds, done, clerkStepped, clerkHeard, clerkNotes, signalLetter, Allowed}
 use Rattle.pair.specs.Demand3.{Heads, About, by-clerk, by-signal, to-clerk, same}
 use Rattle.pair.proofs.Ends.{clerkRead, letterRead, messageRead, Clear, dataOf, askRead, ClerkStep}
 use Rattle.pair.proofs.Letters.{letter-name, clear-kept, sent-name, clear-ask}
 use Rattle.pair.proofs.ClerkEnd.{clerk-hears, clerk-acts, clerk-reports, counts, clerk-runs-out, AskStep, refused, stored, clerk-asks}
 use Rattle.pair.proofs.Wires.{head-own, AllClear, no-message, one-more, plain-clear, Worded, quiet, word}
-use Rattle.pair.proofs.Sim.{Sim, Known, Good, Noted, Unnoted, unnoted, noted, unnoted-other, about, Turned, unmoved, wired-same, wired-sent, wired-heard, turn-about, turn-none, silent, clerk-own}
+use Rattle.pair.proofs.Notes.{told-false, Notes, Unnoted, unnoted, unnoted-other, noted-ask, noted-timer}
+use Rattle.pair.proofs.Sim.{Sim, Known, Good, about, Turned, unmoved, wired-same, wired-sent, wired-heard, turn-about, turn-none, silent, clerk-own}
 
 -- ---- what the clerk's end sends about a request: one that was taken up has an identifier that its bytes give back, one that was not is nowhere
 act-clear : {p : R.Policy} {j : Words} {w : World} {n : R.Net} → Sim j w n → R.Reach p n → (x : R.CAct) → AllClear j (R.clerkActs (n .clerk) x .1)
@@ -47,22 +48,22 @@ take-clear : (j : Words) (c : R.Clerk) (m : R.Msg) (busy : Bool) → Clear j m �
 take-clear j c m busy clear = plain-clear j (R.clerkTakes c m busy .1) (take-plain (clerk-take-effect c m busy)) (clear-kept j m clear)
 
 -- ---- the history after a timer's report
-noted-timer : (h : List Note) (j : Words) (timer : Timer) (so : Bool) → Noted (clerkNotes (Input.Timer j timer) so ++ h) h j false (both (counts timer) so) false false
-noted-timer h j T1 so = noted so Mark.runOut j h
-noted-timer h j T2 so = noted so Mark.runOut j h
-noted-timer h j T3 so = unnoted h j
+timer-notes : (h : List Note) (j : Words) (timer : Timer) (so : Bool) → Notes (clerkNotes (Input.Timer j timer) so ++ h) h j false (both (counts timer) so) false false
+timer-notes h j T1 so = noted-timer so j h
+timer-notes h j T2 so = noted-timer so j h
+timer-notes h j T3 so = unnoted h j
 
-unnoted-timer : (h : List Note) (k : Words) (timer : Timer) (so : Bool) (j : Words) → (k ≡ j → ⊥) → Unnoted (clerkNotes (Input.Timer k timer) so ++ h) h j
-unnoted-timer h k T1 so j d = unnoted-other so Mark.runOut k h j d
-unnoted-timer h k T2 so j d = unnoted-other so Mark.runOut k h j d
-unnoted-timer h k T3 so j d = unnoted h j
+timer-others : (h : List Note) (k : Words) (timer : Timer) (so : Bool) (j : Words) → (k ≡ j → ⊥) → Unnoted (clerkNotes (Input.Timer k timer) so ++ h) h j
+timer-others h k T1 so j d = unnoted-other so (Note.runOut k) h j d
+timer-others h k T2 so j d = unnoted-other so (Note.runOut k) h j d
+timer-others h k T3 so j d = unnoted h j
 
 module _ {p : R.Policy} {w : World} (g : Good p w) (known : Known p w) where
   -- ---- an act, a timer's report
   acting :
       {e : Event} (k : Words) (x : R.CAct) (input : Input) (notes : List Note) → About w e k → namesOf input .identifier ≡ k → Clerk.Fair input →
       ((c : R.Clerk) → clerkHolds w k ≡ clerkRead k c → ClerkStep (step (w .clerk) input) k (R.clerkActs c x)) →
-      ((n : R.Net) → Sim k w n → Noted (notes ++ w .history) (w .history) k false (R.runsOut (n .clerk) x) false false) →
+      ((n : R.Net) → Sim k w n → Notes (notes ++ w .history) (w .history) k false (R.runsOut (n .clerk) x) false false) →
       ((j : Words) → (k ≡ j → ⊥) → Unnoted (notes ++ w .history) (w .history) j) → Turned p w e (clerkStepped w (w .down) (step (w .clerk) input) notes)
   unfolding R.next
   acting k x input notes named name fair steps noted unnoted =
@@ -90,9 +91,9 @@ module _ {p : R.Policy} {w : World} (g : Good p w) (known : Known p w) where
       acting k (R.timer timer) (Input.Timer k timer) (clerkNotes (Input.Timer k timer) so) by-clerk refl (Clerk.times k timer)
       (clerk-reports (w .clerk) (g .clerk) k timer)
       (λ n sim.
-      subst (λ t. Noted (clerkNotes (Input.Timer k timer) so ++ h) h k false t false false) (clerk-runs-out (w .clerk) (g .clerk) k timer (n .clerk) (sim .clerk))
-      (noted-timer h k timer so))
-      (unnoted-timer h k timer so)
+      subst (λ t. Notes (clerkNotes (Input.Timer k timer) so ++ h) h k false t false false) (clerk-runs-out (w .clerk) (g .clerk) k timer (n .clerk) (sim .clerk))
+      (timer-notes h k timer so))
+      (timer-others h k timer so)
 
   -- ---- what the call's signalling tells
   told-step :
@@ -117,7 +118,7 @@ module _ {p : R.Policy} {w : World} (g : Good p w) (known : Known p w) where
 
   -- ---- an ask
   module _ (names : Names) (q : Request) (once : Allowed w (clerkDoes (Input.Ask names q))) where
-    allowed : Clerk.Fair (Input.Ask names q) × (done (step (w .clerk) (Input.Ask names q) .outcome) ≡ true → has Mark.takenUp (names .identifier) (w .history) ≡ false)
+    allowed : Clerk.Fair (Input.Ask names q) × (done (step (w .clerk) (Input.Ask names q) .outcome) ≡ true → Noted (Note.takenUp (names .identifier)) (w .history) → ⊥)
     allowed = once .asked names q refl
 
     abbrev asked : Stepped
@@ -131,7 +132,7 @@ module _ {p : R.Policy} {w : World} (g : Good p w) (known : Known p w) where
         R.askStep n (dataOf names q) (q .kind) (q .flags / 2) (n .used) ≡ R.afterAsk n (dataOf names q) (q .kind) (q .flags / 2)
     unfolding R.askStep
     ask-taken so n sim =
-        let fresh : n .used ≡ false = sym (sim .used) ∙ allowed .1 so in
+        let fresh : n .used ≡ false = told-false (n .used) (sim .used) (allowed .1 so) in
         rw fresh
 
     clerk-ask :
@@ -147,11 +148,11 @@ module _ {p : R.Policy} {w : World} (g : Good p w) (known : Known p w) where
         let k = names .identifier in
         let clear : AllClear k (askRead names q ∷ []) = one-more (clear-ask names q (allowed .0)) no-message in
         let notes = clerkNotes (Input.Ask names q) (done (asked .outcome)) in
-        let its : Noted (notes ++ w .history) (w .history) k true false false false =
-        subst (λ b. Noted (clerkNotes (Input.Ask names q) b ++ w .history) (w .history) k true false false false) (sym so) (noted true Mark.takenUp k (w .history)) in
+        let its : Notes (notes ++ w .history) (w .history) k true false false false =
+        subst (λ b. Notes (clerkNotes (Input.Ask names q) b ++ w .history) (w .history) k true false false false) (sym so) (noted-ask k (w .history)) in
         turn-about k (about by-clerk) ask-reached (g .line) (g .policy) (wired-sent (g .up) (s .sends) clear) (wired-same (g .down))
         (others-held (w .clerk) (g .clerk) (Input.Ask names q) (allowed .0)) (λ j d. refl)
-        (unnoted-other (done (asked .outcome)) Mark.takenUp k (w .history))
+        (unnoted-other (done (asked .outcome)) (Note.takenUp k) (w .history))
         (λ n r sim. (
           R.asks (dataOf names q) (q .kind) (q .flags / 2),
           (

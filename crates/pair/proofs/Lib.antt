@@ -3,6 +3,7 @@ pub mod Changes
 pub mod Grounds
 pub mod Letters
 pub mod Wires
+pub mod Notes
 pub mod ClerkEnd
 pub mod LineRows
 pub mod LineChanges

@@ -24,7 +24,7 @@ use Rattle.line_sound.proofs.Reaching.{others-held}
 use Rattle.pair_request.specs.Reading as R
 use Rattle.pair_request.proofs.Effects.{line-act-effect, line-act-plain, line-take-effect, line-take-plain}
 use Rattle.pair_request.proofs.Agree.{agreed, untaken}
-use Rattle.pair.specs.World.{Mark, Note, World, Event, lineDoes, lineHears, dropsUp, dropsDown, lineHolds, done, lineStepped, lineHeard, lineNotes, next, Allowed}
+use Rattle.pair.specs.World.{Note, World, Event, lineDoes, lineHears, dropsUp, dropsDown, lineHolds, done, lineStepped, lineHeard, lineNotes, next, Allowed}
 use Rattle.pair.specs.Demand3.{Heads, About, by-act, by-guard, by-look, to-line, Drops, from-up, from-down, Unaltered, same}
 use Rattle.pair.proofs.Ends.{lineRead, letterRead, messageRead, Clear, lineActRead, policyOf, LineStep}
 use Rattle.pair.proofs.Letters.{letter-name, clear-kept, sent-name}
@@ -33,7 +33,8 @@ use Rattle.pair.proofs.LineEnd.{line-hears, line-acts, line-guards, gua
 use Rattle.pair.proofs.LineLooks.{SentOf, Looked, nothing, offers, line-looks, Reported, line-reports}
 use Rattle.pair.proofs.Wires.{head-own, AllClear, no-message, plain-clear, Worded, quiet, word, without, LeftOut, nothing-lost, one-lost, left-out}
 use Rattle.pair.proofs.Grounds.{line-full}
-use Rattle.pair.proofs.Sim.{Sim, Known, Good, Noted, Unnoted, unnoted, noted, unnoted-other, Moves, about, loses, Turned, unmoved, Wired, wired-same, wired-sent, wired-heard, turn-about, turn-none, silent, line-own, lossy, lost-own}
+use Rattle.pair.proofs.Notes.{Notes, Unnoted, unnoted, unnoted-other, noted-guard}
+use Rattle.pair.proofs.Sim.{Sim, Known, Good, Moves, about, loses, Turned, unmoved, Wired, wired-same, wired-sent, wired-heard, turn-about, turn-none, silent, line-own, lossy, lost-own}
 
 -- ---- what the line's end sends about a request: one that was taken up has an identifier that its bytes give back, one that was not is nowhere
 line-act-clear : {p : R.Policy} {j : Words} {w : World} {n : R.Net} → Sim j w n → R.Reach p n → (x : R.LAct) → AllClear j (R.lineActs (n .line) x .1)
@@ -82,7 +83,7 @@ module _ {p : R.Policy} {w : World} (g : Good p w) (known : Known p w) where
       (k : Words) (x : R.LAct) (input : Input) (notes : List Note) → About w (lineDoes input) k → Line.Fair input →
       ((l : R.Line) (b : Bool) → lineHolds w k ≡ lineRead k b l → LineStep (step (w .line) input) k (R.lineActs l x)) →
       ((j : Words) → (k ≡ j → ⊥) → P.held Line.lineView j (records (step (w .line) input .desk .words)) ≡ lineHolds w j) →
-      ((n : R.Net) → Sim k w n → Noted (notes ++ w .history) (w .history) k false false (R.guardEnds (n .line) x) false) →
+      ((n : R.Net) → Sim k w n → Notes (notes ++ w .history) (w .history) k false false (R.guardEnds (n .line) x) false) →
       ((j : Words) → (k ≡ j → ⊥) → Unnoted (notes ++ w .history) (w .history) j) → Turned p w (lineDoes input) (lineStepped w (w .up) (step (w .line) input) notes)
   unfolding R.next
   acting k x input notes named fair steps others noted unnoted =
@@ -97,7 +98,7 @@ module _ {p : R.Policy} {w : World} (g : Good p w) (known : Known p w) where
   line-act k act =
       acting k (lineActRead act) (Input.Act k act) [] by-act (Line.acts k act) (line-acts (w .line) (g .line) k act)
       (others-held (w .line) (g .line) (Input.Act k act) (Line.acts k act) tt)
-      (λ n sim. subst (λ t. Noted (w .history) (w .history) k false false t false) (sym (act-no-guard (n .line) act)) (unnoted (w .history) k))
+      (λ n sim. subst (λ t. Notes (w .history) (w .history) k false false t false) (sym (act-no-guard (n .line) act)) (unnoted (w .history) k))
       (λ j d. unnoted (w .history) j)
 
   line-guard :
@@ -110,9 +111,9 @@ module _ {p : R.Policy} {w : World} (g : Good p w) (known : Known p w) where
       acting k R.guard (Input.Guard k) (lineNotes (Input.Guard k) so) by-guard (Line.guards k) (line-guards (w .line) (g .line) k)
       (others-held (w .line) (g .line) (Input.Guard k) (Line.guards k) tt)
       (λ n sim.
-      subst (λ t. Noted (lineNotes (Input.Guard k) so ++ h) h k false false t false) (guard-ends (w .line) k (n .line) (sim .active) (sim .line))
-      (noted so Mark.guarded k h))
-      (unnoted-other so Mark.guarded k h)
+      subst (λ t. Notes (lineNotes (Input.Guard k) so ++ h) h k false false t false) (guard-ends (w .line) k (n .line) (sim .active) (sim .line))
+      (noted-guard so k h))
+      (unnoted-other so (Note.guarded k) h)
 
   -- a Look is about the request that it offers
   look-about :
@@ -131,7 +132,7 @@ module _ {p : R.Policy} {w : World} (g : Good p w) (known : Known p w) where
       (unnoted (w .history))
   line-look number (offers k puts steps others) =
       acting k R.offers (Input.Look number) [] (look-about number k _ refl puts) (Line.looks number) steps others
-      (λ n sim. subst (λ t. Noted (w .history) (w .history) k false false t false) (sym (look-no-guard (n .line))) (unnoted (w .history) k))
+      (λ n sim. subst (λ t. Notes (w .history) (w .history) k false false t false) (sym (look-no-guard (n .line))) (unnoted (w .history) k))
       (λ j d. unnoted (w .history) j)
 
   line-report :
@@ -209,7 +210,7 @@ module _ {p : R.Policy} {w : World} (g : Good p w) (known : Known p w) where
       ((n : R.Net) → R.Reach p n → Sim k w n → Moves p w e (lossy w up down k) k n) → Turned p w e (lossy w up down k)
   drop-turn k up down drops wiredUp wiredDown =
       turn-about k (loses drops refl refl) (g .clerk) (g .line) (g .policy) wiredUp wiredDown (λ j d. refl) (λ j d. refl)
-      (unnoted-other true Mark.dropped k (w .history))
+      (unnoted-other true (Note.dropped k) (w .history))
 
   pub drop-up : (i : ℕ) → Turned p w (dropsUp i) (next w (dropsUp i))
   unfolding next R.next

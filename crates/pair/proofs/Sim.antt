@@ -2,7 +2,7 @@
 use mathlib.Core.Path.{_≡_, refl, sym, _∙_, ap, subst}
 use mathlib.Core.Bool.{Bool, true, false}
 use mathlib.Core.List.{List, [], _∷_, _++_, map}
-use Rattle.lists.specs.{Choice.pick, Lists.both, declared.words.Words.Words}
+use Rattle.lists.specs.declared.words.Words.{Words}
 use Rattle.message.specs.declared.Message.{Message}
 use Rattle.desk.specs.declared.outcome.Sending.{Sending}
 use Rattle.desk.specs.declared.outcome.Sending.the-variants as Sending
@@ -14,11 +14,12 @@ use Rattle.line_records.specs.Change.{activated}
 use Rattle.line.specs.declared.steps.Stepped as LineStepped
 use Rattle.line_sound.specs.Sound as LineSound
 use Rattle.pair_request.specs.Reading as R
-use Rattle.pair.specs.World.{Mark, Note, note, World, Event, lineHears, clerkHolds, lineHolds, nameOf, messagesOf, has, sentBy, clerkStepped, lineStepped, next}
+use Rattle.pair.specs.World.{Note, World, Event, lineHears, clerkHolds, lineHolds, nameOf, messagesOf, sentBy, clerkStepped, lineStepped, next}
 use Rattle.pair.specs.Demand3.{Heads, About, Drops, Unaltered, same, marked}
 use Rattle.pair.proofs.Ends.{clerkRead, lineRecord, lineRead, messageRead, Kept, policyOf, ClerkStep, LineStep}
 use Rattle.pair.proofs.Changes.{not-one, the-one}
-use Rattle.pair.proofs.Wires.{messages-append, head-other, AllClear, clear-append, messages-own, messages-other, Worded, worded-append, worded-sent, is, has-own, has-other}
+use Rattle.pair.proofs.Wires.{messages-append, head-other, AllClear, clear-append, messages-own, messages-other, Worded, worded-append, worded-sent}
+use Rattle.pair.proofs.Notes.{Told, Notes, Unnoted, unnoted, noted-drop}
 
 pub record Sim (j : Words) (w : World) (n : R.Net) : Type 0 where
   pub clerk : clerkHolds w j ≡ clerkRead j (n .clerk)
@@ -29,10 +30,10 @@ pub record Sim (j : Words) (w : World) (n : R.Net) : Type 0 where
   pub upClear : AllClear j (n .up)
   pub downClear : AllClear j (n .down)
   pub kept : n .used ≡ true → Kept j
-  pub used : has Mark.takenUp j (w .history) ≡ n .used
-  pub timedOut : has Mark.runOut j (w .history) ≡ n .timedOut
-  pub guarded : has Mark.guarded j (w .history) ≡ n .guarded
-  pub dropped : has Mark.dropped j (w .history) ≡ n .dropped
+  pub used : Told (Note.takenUp j) (w .history) (n .used)
+  pub timedOut : Told (Note.runOut j) (w .history) (n .timedOut)
+  pub guarded : Told (Note.guarded j) (w .history) (n .guarded)
+  pub dropped : Told (Note.dropped j) (w .history) (n .dropped)
 
 -- every identifier of the world has its net
 abbrev pub Known : R.Policy → World → Type 0
@@ -45,40 +46,6 @@ pub record Good (p : R.Policy) (w : World) : Type 0 where
   pub policy : policyOf (w .line .words) ≡ p
   pub up : Worded (w .up)
   pub down : Worded (w .down)
-
--- ---- the history of one identifier after a step: whether it was taken up, ran out, was guarded, lost a message
-pub record Noted (after before : List Note) (j : Words) (u t g x : Bool) : Type 0 where
-  pub takenUp : has Mark.takenUp j after ≡ R.or u (has Mark.takenUp j before)
-  pub runOut : has Mark.runOut j after ≡ R.or t (has Mark.runOut j before)
-  pub guarded : has Mark.guarded j after ≡ R.or g (has Mark.guarded j before)
-  pub dropped : has Mark.dropped j after ≡ R.or x (has Mark.dropped j before)
-
-abbrev pub Unnoted : List Note → List Note → Words → Type 0
-Unnoted after before j = Noted after before j false false false false
-
-pub unnoted : (h : List Note) (j : Words) → Unnoted h h j
-unnoted h j = record { takenUp = refl; runOut = refl; guarded = refl; dropped = refl }
-
--- a note of it, and one of another
-pub noted :
-    (so : Bool) (m : Mark) (j : Words) (h : List Note) →
-    Noted (pick so (note m j ∷ []) [] ++ h) h j (both (is m Mark.takenUp) so) (both (is m Mark.runOut) so) (both (is m Mark.guarded) so) (both (is m Mark.dropped) so)
-noted so m j h =
-    record {
-      takenUp = has-own so Mark.takenUp m j h;
-      runOut = has-own so Mark.runOut m j h;
-      guarded = has-own so Mark.guarded m j h;
-      dropped = has-own so Mark.dropped m j h;
-    }
-
-pub unnoted-other : (so : Bool) (m : Mark) (k : Words) (h : List Note) → (j : Words) → (k ≡ j → ⊥) → Unnoted (pick so (note m k ∷ []) [] ++ h) h j
-unnoted-other so m k h j d =
-    record {
-      takenUp = has-other so Mark.takenUp m k j h d;
-      runOut = has-other so Mark.runOut m k j h d;
-      guarded = has-other so Mark.guarded m k j h d;
-      dropped = has-other so Mark.dropped m k j h d;
-    }
 
 -- ---- what a step makes of a request
 -- of one that it leaves: nothing, except that a busy report may mark its activity
@@ -204,7 +171,7 @@ silent ms s = ap (λ (x : Sending). ms ++ sentBy x) s ∙ append-none ms
 sim-next :
     {j : Words} {w after : World} {n : R.Net} → Sim j w n → {c : R.Clerk} {l : R.Line} {a u t g x : Bool} {up down : List R.Msg} →
     clerkHolds after j ≡ clerkRead j c → (b : Bool) → lineHolds after j ≡ lineRead j b l → messagesOf j (after .up) ≡ map (messageRead j) up → AllClear j up →
-    messagesOf j (after .down) ≡ map (messageRead j) down → AllClear j down → Noted (after .history) (w .history) j u t g x →
+    messagesOf j (after .down) ≡ map (messageRead j) down → AllClear j down → Notes (after .history) (w .history) j u t g x →
     (R.or u (n .used) ≡ true → Kept j) →
     Sim j after
     (record {
@@ -228,10 +195,10 @@ sim-next sim {u = u} {t} {g} {x} clerk b line up upClear down downClear h kept =
       upClear = upClear;
       downClear = downClear;
       kept = kept;
-      used = h .takenUp ∙ ap (R.or u) (sim .used);
-      timedOut = h .runOut ∙ ap (R.or t) (sim .timedOut);
-      guarded = h .guarded ∙ ap (R.or g) (sim .guarded);
-      dropped = h .dropped ∙ ap (R.or x) (sim .dropped);
+      used = h .takenUp _ (sim .used);
+      timedOut = h .runOut _ (sim .timedOut);
+      guarded = h .guarded _ (sim .guarded);
+      dropped = h .dropped _ (sim .dropped);
     }
 
 -- one that is left has the same net
@@ -253,7 +220,7 @@ left-sim {j = j} {n = n} left sim =
 pub clerk-own :
     {j : Words} {w : World} {n : R.Net} → Sim j w n → {rest : List Message} {left : List R.Msg} → messagesOf j rest ≡ map (messageRead j) left → AllClear j left →
     {step : ClerkStepped.Stepped} (notes : List Note) {answer : R.CAnswer} → ClerkStep step j answer → AllClear j (answer .1) →
-    {u t : Bool} → Noted (notes ++ w .history) (w .history) j u t false false → (R.or u (n .used) ≡ true → Kept j) →
+    {u t : Bool} → Notes (notes ++ w .history) (w .history) j u t false false → (R.or u (n .used) ≡ true → Kept j) →
     Sim j (clerkStepped w rest step notes) (R.afterClerk n left u t answer)
 clerk-own {j} {w} {n} sim e c {step} notes {answer} s clear h kept =
     sim-next sim (s .itself) (sim .active) (sim .line) (wire-own j (w .up) (sentBy (step .outcome .sending)) (n .up) (answer .1) (sim .up) (s .sends) clear)
@@ -263,17 +230,17 @@ clerk-own {j} {w} {n} sim e c {step} notes {answer} s clear h kept =
 pub line-own :
     {j : Words} {w : World} {n : R.Net} → Sim j w n → {rest : List Message} {left : List R.Msg} → messagesOf j rest ≡ map (messageRead j) left → AllClear j left →
     {step : LineStepped.Stepped} (notes : List Note) {answer : R.LAnswer} → LineStep step j answer → AllClear j (answer .1) →
-    {g : Bool} → Noted (notes ++ w .history) (w .history) j false false g false → Sim j (lineStepped w rest step notes) (R.afterLine n left g answer)
+    {g : Bool} → Notes (notes ++ w .history) (w .history) j false false g false → Sim j (lineStepped w rest step notes) (R.afterLine n left g answer)
 line-own {j} {w} {n} sim e c {step} notes {answer} s clear h =
     sim-next sim (sim .clerk) (s .active) (s .itself) e c (wire-own j (w .down) (sentBy (step .outcome .sending)) (n .down) (answer .1) (sim .down) (s .sends) clear)
     (clear-append (sim .downClear) clear) h (sim .kept)
 
 -- a drop, by what is left of the wires
 abbrev pub lossy : World → List Message → List Message → Words → World
-lossy w up down k = record { clerk = w .clerk; up = up; line = w .line; down = down; history = note Mark.dropped k ∷ w .history }
+lossy w up down k = record { clerk = w .clerk; up = up; line = w .line; down = down; history = Note.dropped k ∷ w .history }
 
 pub lost-own :
     {j : Words} {w : World} {n : R.Net} → Sim j w n → {up down : List Message} {u d : List R.Msg} → messagesOf j up ≡ map (messageRead j) u → AllClear j u →
     messagesOf j down ≡ map (messageRead j) d → AllClear j d → Sim j (lossy w up down j) (R.lost n u d)
 lost-own {j} {w} sim e c f b =
-    sim-next sim (sim .clerk) (sim .active) (sim .line) e c f b (noted true Mark.dropped j (w .history)) (sim .kept)
+    sim-next sim (sim .clerk) (sim .active) (sim .line) e c f b (noted-drop j (w .history)) (sim .kept)

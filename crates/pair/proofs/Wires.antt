@@ -1,18 +1,18 @@
--- Wires and histories for one identifier: the messages of a request among those of all, and what a note adds.
+-- Wires for one identifier: the messages of a request among those of all.
 use Prim.Native.Nat.{ℕ, zero, suc}
 use mathlib.Core.Path.{_≡_, refl, sym, _∙_, ap, subst}
 use mathlib.Core.Bool.{Bool, true, false}
 use mathlib.Core.Logic.{_⊎_, inl, inr}
 use mathlib.Core.List.{List, [], _∷_, _++_, map}
-use lib.{Dec.eqb, ListN.take, ListN.drop}
+use lib.ListN.{take, drop}
 use native.Mathlib.Omega.{arith}
-use Rattle.lists.specs.{Choice.pick, Lists.both, Words.sameWords}
+use Rattle.lists.specs.Words.{sameWords}
 use Rattle.lists.specs.declared.words.Words.{Words}
 use Rattle.lists.proofs.WordsLaws.{same-words-true, same-words-false, words-same, words-differ}
 use Rattle.message.specs.declared.Message.{Message}
-use Rattle.pair_request.specs.Reading.{Msg, leftOut, or}
+use Rattle.pair_request.specs.Reading.{Msg, leftOut}
 use Rattle.pair_request.specs.Listed.{NoReq}
-use Rattle.pair.specs.World.{Mark, dropped, Note, note, nameOf, messagesOf, markNumber, has, lostAt}
+use Rattle.pair.specs.World.{dropped, nameOf, messagesOf, lostAt}
 use Rattle.pair.specs.Demand3.{Heads}
 use Rattle.pair.proofs.Ends.{messageRead, Clear, Kept}
 use Rattle.pair.proofs.Letters.{clear-kept, clear-plain, sent-name}
@@ -122,7 +122,7 @@ without i ms = take i ms ++ drop (suc i) ms
 pub data LeftOut (i : ℕ) (ms : List Message) : Type 0 where
   nothing-lost : without i ms ≡ ms → lostAt i ms ≡ [] → LeftOut i ms
   one-lost :
-      (k : Words) → lostAt i ms ≡ note dropped k ∷ [] → Heads (drop i ms) k → Worded (without i ms) →
+      (k : Words) → lostAt i ms ≡ dropped k ∷ [] → Heads (drop i ms) k → Worded (without i ms) →
       ((j : Words) → (k ≡ j → ⊥) → messagesOf j (without i ms) ≡ messagesOf j ms) →
       ((cs : List Msg) → AllClear k cs → messagesOf k ms ≡ map (messageRead k) cs →
       (n : ℕ) × ((messagesOf k (without i ms) ≡ map (messageRead k) (leftOut n cs)) × AllClear k (leftOut n cs))) →
@@ -166,26 +166,3 @@ left-out (suc i) (m ∷ ms) (word x c clear others) = go (left-out i ms others)
         by cs all e (inr d) =
             let l = own cs all (sym (messages-miss k m ms d) ∙ e) in
             (l .0, (messages-miss k m (without i ms) d ∙ l .1 .0, l .1 .1))
-
--- ---- histories
--- whether a note's mark is one
-abbrev pub is : Mark → Mark → Bool
-is m mark = eqb (markNumber m) (markNumber mark)
-
-noted-or : (b had : Bool) → pick b true had ≡ or (both b true) had
-noted-or true had = refl
-noted-or false had = refl
-
-unnoted-or : (b had : Bool) → had ≡ or (both b false) had
-unnoted-or true had = refl
-unnoted-or false had = refl
-
-pub has-own : (so : Bool) (mark m : Mark) (x : Words) (notes : List Note) → has mark x (pick so (note m x ∷ []) [] ++ notes) ≡ or (both (is m mark) so) (has mark x notes)
-unfolding has
-has-own true mark m x notes = rw (words-same x x refl) (noted-or (is m mark) (has mark x notes))
-has-own false mark m x notes = unnoted-or (is m mark) (has mark x notes)
-
-pub has-other : (so : Bool) (mark m : Mark) (x j : Words) (notes : List Note) → (x ≡ j → ⊥) → has mark j (pick so (note m x ∷ []) [] ++ notes) ≡ has mark j notes
-unfolding has
-has-other true mark m x j notes h = rw (words-differ x j h)
-has-other false mark m x j notes h = refl

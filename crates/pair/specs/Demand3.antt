@@ -1,7 +1,7 @@
 -- Demand 3: what is claimed of two desks and two wires that deliver in order or drop, in every run. Each claim is a type; its proof has its name.
 -- What the words of a claim mean stands before it, and World.antt says what can happen.
 use Prim.Native.Nat.{ℕ}
-use mathlib.Core.{Path._≡_, Bool.Bool, Bool.true, Bool.false, Logic._⊎_, List.List, List.[], List._∷_}
+use mathlib.Core.{Path._≡_, Bool.Bool, Bool.true, Bool.false, Logic._⊎_, List.List, List.[], List._∷_, List.List·Memᴰ as Noted}
 use lib.{Dec.ltb, ListN.drop}
 use Rattle.lists.specs.{Words.Bytes, declared.words.Words.Words}
 use Rattle.message.specs.{Format.typeNumber, declared.Message.Message, declared.Body.Body}
@@ -14,7 +14,7 @@ use Rattle.line_table.specs.declared.{record.Record.Record as LineRecord, table
 use Rattle.line.specs.Steps as Line
 use Rattle.pair_request.specs.Signal.{Signal}
 use Rattle.pair.specs.World.{World, Event, clerkDoes, lineDoes, clerkIsTold, clerkHears, lineHears, dropsUp, dropsDown, clerkHolds, lineHolds, nameOf, messagesOf}
-use Rattle.pair.specs.World.{takenUp, dropped, runOut, guarded, has, next, Allowed, Run, stop, then, startWorld, Reached}
+use Rattle.pair.specs.World.{takenUp, dropped, runOut, guarded, next, Allowed, Run, stop, then, startWorld, Reached}
 
 -- ---- 1. what the clerk's end holds as acknowledged was accepted earlier at the line's end
 -- acknowledged: the connection choice is not empty
@@ -59,8 +59,7 @@ pub record Agree (c : ClerkRecord) (l : LineRecord) : Type 0 where
 
 abbrev pub DataAgree : Type 0
 DataAgree =
-    (w : World) → Reached w → (identifier : Words) (c : ClerkRecord) (l : LineRecord) →
-    clerkHolds w identifier ≡ one c → lineHolds w identifier ≡ one l → Agree c l
+    (w : World) → Reached w → (identifier : Words) (c : ClerkRecord) (l : LineRecord) → clerkHolds w identifier ≡ one c → lineHolds w identifier ≡ one l → Agree c l
 
 -- and so does the kind, which the demand does not name
 abbrev pub KindAgrees : Type 0
@@ -80,7 +79,7 @@ pub data Listed : Held ClerkRecord → Held LineRecord → Type 0 where
 -- none of its messages was dropped or is under way
 abbrev pub QuietListed : Type 0
 QuietListed =
-    (w : World) → Reached w → (identifier : Words) → has dropped identifier (w .history) ≡ false →
+    (w : World) → Reached w → (identifier : Words) → (Noted (dropped identifier) (w .history) → ⊥) →
     messagesOf identifier (w .up) ≡ [] → messagesOf identifier (w .down) ≡ [] → Listed (clerkHolds w identifier) (lineHolds w identifier)
 
 -- ---- 4. run-out timers mean nobody holds it
@@ -92,13 +91,13 @@ NoRequest (m ∷ ms) = (isRequest (m .body) ≡ false) × NoRequest ms
 -- a T1 or T2 report was taken at the clerk's end and a guard report at the line's, its request message is no longer under way: now and in any later world
 abbrev pub OverForGood : Type 0
 OverForGood =
-    (w : World) → Reached w → (identifier : Words) → has runOut identifier (w .history) ≡ true → has guarded identifier (w .history) ≡ true →
+    (w : World) → Reached w → (identifier : Words) → Noted (runOut identifier) (w .history) → Noted (guarded identifier) (w .history) →
     NoRequest (messagesOf identifier (w .up)) → (later : World) → Run w later → (clerkHolds later identifier ≡ none) × (lineHolds later identifier ≡ none)
 
 -- and a request that was taken up, is held by neither end and has no request message under way is not held again
 abbrev pub GoneForGood : Type 0
 GoneForGood =
-    (w : World) → Reached w → (identifier : Words) → has takenUp identifier (w .history) ≡ true → clerkHolds w identifier ≡ none → lineHolds w identifier ≡ none →
+    (w : World) → Reached w → (identifier : Words) → Noted (takenUp identifier) (w .history) → clerkHolds w identifier ≡ none → lineHolds w identifier ≡ none →
     NoRequest (messagesOf identifier (w .up)) → (later : World) → Run w later → (clerkHolds later identifier ≡ none) × (lineHolds later identifier ≡ none)
 
 -- ---- 5. no step alters another request

@@ -1,8 +1,8 @@
 -- Two desks, two wires that deliver in order or drop, and the history of the run. A step is an input at a desk, as the desk's contract has it, or the drop of a message.
 use Prim.Native.Nat.{ℕ, suc}
-use mathlib.Core.{Path._≡_, Bool.Bool, Bool.true, Bool.false, List.List, List.[], List._∷_, List._++_, List.map}
+use mathlib.Core.{Path._≡_, Bool.Bool, Bool.true, Bool.false, List.List, List.[], List._∷_, List._++_, List.map, List.List·Memᴰ as Noted}
 use lib.{Dec.eqb, ListN.take, ListN.drop}
-use Rattle.lists.specs.{Choice.pick, Lists.both, Words.Bytes, Words.wordsOf, Words.sameWords, declared.words.Words.Words}
+use Rattle.lists.specs.{Choice.pick, Words.Bytes, Words.wordsOf, Words.sameWords, declared.words.Words.Words}
 use Rattle.message.specs.declared.{Message.Message, Body.the-variants.RequestError, Body.the-variants.CallFailed, Carrier.the-variants.ReleaseComplete}
 use Rattle.desk.specs.{Letter.messageOf, Sends.plainLetter, declared.letter.Letter.Letter, declared.outcome.Outcome.Outcome, declared.outcome.Sending.Sending}
 use Rattle.terms.specs.declared.request.{Names.Names, Request.Request}
@@ -21,11 +21,9 @@ use Rattle.pair_request.specs.Signal.{Signal, callDied, rejected}
 
 -- ---- the world
 -- what is noted of an identifier: an ask took it up; a message of it was dropped; a T1 or T2 report of it was taken at the clerk's end; a guard report at the line's
-pub data Mark : Type 0 where
-  takenUp dropped runOut guarded : Mark
-
+-- (that a note is in the history, `Noted`, is mathlib's membership of a list)
 pub data Note : Type 0 where
-  note : Mark → Words → Note
+  takenUp dropped runOut guarded : Words → Note
 
 -- `up` is the wire to the line's end, `down` the one to the clerk's; messages arrive from the front
 pub record World : Type 0 where
@@ -51,17 +49,6 @@ unfoldable pub messagesOf : Words → List Message → List Message
 messagesOf identifier [] = []
 messagesOf identifier (m ∷ ms) = pick (sameWords (nameOf m) identifier) (m ∷ messagesOf identifier ms) (messagesOf identifier ms)
 
--- whether a history has a mark of an identifier; marks are told apart by a number
-abbrev pub markNumber : Mark → ℕ
-markNumber takenUp = 0
-markNumber dropped = 1
-markNumber runOut = 2
-markNumber guarded = 3
-
-unfoldable pub has : Mark → Words → List Note → Bool
-has mark identifier [] = false
-has mark identifier (note m x ∷ notes) = pick (both (sameWords x identifier) (eqb (markNumber m) (markNumber mark))) true (has mark identifier notes)
-
 -- ---- the steps
 pub data Event : Type 0 where
   -- what a host puts in at an end: at the clerk's an ask, User A's act, a timer's report; at the line's a line report, a Look, an act, the guard's report
@@ -86,17 +73,17 @@ done outcome = eqb (outcome .refusal) 0
 
 -- what is noted of an input, if it is done (`so`): an ask takes up an identifier; a timer of the demand, which T3 is not, or a guard has run out
 abbrev pub clerkNotes : ClerkInput → Bool → List Note
-clerkNotes (ClerkInput.Ask names q) so = pick so (note takenUp (names .identifier) ∷ []) []
+clerkNotes (ClerkInput.Ask names q) so = pick so (takenUp (names .identifier) ∷ []) []
 clerkNotes (ClerkInput.Message l busy) so = []
 clerkNotes (ClerkInput.Act identifier act) so = []
-clerkNotes (ClerkInput.Timer identifier Timer.T1) so = pick so (note runOut identifier ∷ []) []
-clerkNotes (ClerkInput.Timer identifier Timer.T2) so = pick so (note runOut identifier ∷ []) []
+clerkNotes (ClerkInput.Timer identifier Timer.T1) so = pick so (runOut identifier ∷ []) []
+clerkNotes (ClerkInput.Timer identifier Timer.T2) so = pick so (runOut identifier ∷ []) []
 clerkNotes (ClerkInput.Timer identifier Timer.T3) so = []
 
 abbrev pub lineNotes : LineInput → Bool → List Note
 lineNotes (LineInput.Message l) so = []
 lineNotes (LineInput.Act identifier act) so = []
-lineNotes (LineInput.Guard identifier) so = pick so (note guarded identifier ∷ []) []
+lineNotes (LineInput.Guard identifier) so = pick so (guarded identifier ∷ []) []
 lineNotes (LineInput.Report number busy) so = []
 lineNotes (LineInput.Look number) so = []
 
@@ -125,7 +112,7 @@ signalLetter rejected identifier = plainLetter identifier ReleaseComplete (Reque
 
 -- the note of the message at a place of a wire; behind its end there is none
 abbrev pub lostAt : ℕ → List Message → List Note
-lostAt i wire = map (λ m. note dropped (nameOf m)) (take 1 (drop i wire))
+lostAt i wire = map (λ m. dropped (nameOf m)) (take 1 (drop i wire))
 
 unfoldable pub next : World → Event → World
 next w (clerkDoes input) =
@@ -149,8 +136,7 @@ next w (dropsDown i) =
 pub record Allowed (w : World) (e : Event) : Type 0 where
   pub asked :
       (names : Names) (q : Request) → e ≡ clerkDoes (ClerkInput.Ask names q) →
-      Fair (ClerkInput.Ask names q)
-      × (done (Clerk.step (w .clerk) (ClerkInput.Ask names q) .outcome) ≡ true → has takenUp (names .identifier) (w .history) ≡ false)
+      Fair (ClerkInput.Ask names q) × (done (Clerk.step (w .clerk) (ClerkInput.Ask names q) .outcome) ≡ true → Noted (takenUp (names .identifier)) (w .history) → ⊥)
   pub toClerk : (l : Letter) (busy : Bool) → e ≡ clerkDoes (ClerkInput.Message l busy) → ⊥
   pub toLine : (l : Letter) → e ≡ lineDoes (LineInput.Message l) → ⊥
 

@@ -1,7 +1,7 @@
 -- The table holds: each row computes to what it says, and ends in a world of a run.
 use mathlib.Core.Path.{_≡_, refl, sym, _∙_, ap}
 use mathlib.Core.Bool.{Bool, true, false, true≢false, false≢true}
-use mathlib.Core.List.{List, []}
+use mathlib.Core.List.{List, [], List·Memᴰ·head, List·Memᴰ·tail}
 use Rattle.lists.specs.Lists.{firstFrom, count}
 use Rattle.lists.specs.declared.words.Words.{Words}
 use Rattle.lists.specs.Words.{word, octets, wordsOf, bytesOf, sameWords}
@@ -33,10 +33,10 @@ use Rattle.line_plan.specs.Plan as LinePlan
 use Rattle.line.specs.Start as Start
 use Rattle.line.specs.Entry as LineEntry
 use Rattle.line.specs.Steps as Line
-use Rattle.pair.specs.World.{Mark, World, Event, clerkHolds, lineHolds, Reached, reached, stop, messagesOf, has, clerkHeard, lineHeard, next}
+use Rattle.pair.specs.World.{Note, World, Event, clerkHolds, lineHolds, Reached, reached, stop, messagesOf, clerkHeard, lineHeard, next}
 use Rattle.pair.specs.Demand3.{Listed, no-record, invoked, wait-answer, suspended, ringout}
-use Rattle.pair_runs.specs.Runs.{RowsShown, Shown, TableReached, Premises, Unlisted, LeftOut, play, seen, pairs, answers, losses, signals, table, first, oneLine, start, stored, acknowledged, ringing, over}
-use Rattle.pair_runs.proofs.Allowed.{bytes-told, runs, run-told, allRun, each-reached}
+use Rattle.pair_runs.specs.Runs.{has, RowsShown, Shown, TableReached, Premises, Unlisted, LeftOut, play, seen, pairs, answers, losses, signals, table, first, oneLine, start, stored, acknowledged, ringing, over}
+use Rattle.pair_runs.proofs.Allowed.{bytes-told, has-not, runs, run-told, allRun, each-reached}
 
 -- all that a run computes with: who names this unfolds every definition on its line
 unfoldable pub all : Bool
@@ -134,9 +134,9 @@ premises =
         world = left;
         reached = reach false over refl;
         identifier = wordsOf first;
-        dropped = refl;
-        runOut = refl;
-        guarded = refl;
+        dropped = List·Memᴰ·head refl;
+        runOut = List·Memᴰ·tail (List·Memᴰ·tail (List·Memᴰ·tail (List·Memᴰ·head refl)));
+        guarded = List·Memᴰ·tail (List·Memᴰ·head refl);
         request = tt;
       };
     }
@@ -160,10 +160,10 @@ pub not-listed : (c : Held ClerkRecord.Record) (l : Held LineRecord.Record) → 
 not-listed c l apart so = true≢false (sym (listed-together c l so) ∙ apart)
 
 pub unlisted-told :
-    (w : World) (identifier : Words) → has Mark.dropped identifier (w .history) ≡ false → messagesOf identifier (w .up) ≡ [] → messagesOf identifier (w .down) ≡ [] →
+    (w : World) (identifier : Words) → has (Note.dropped identifier) (w .history) ≡ false → messagesOf identifier (w .up) ≡ [] → messagesOf identifier (w .down) ≡ [] →
     together (clerkHolds w identifier) (lineHolds w identifier) ≡ false → Unlisted w identifier
 unlisted-told w identifier dropped up down apart =
-    record { dropped = dropped; up = up; down = down; unlisted = not-listed (clerkHolds w identifier) (lineHolds w identifier) apart }
+    record { dropped = has-not (Note.dropped identifier) (w .history) dropped; up = up; down = down; unlisted = not-listed (clerkHolds w identifier) (lineHolds w identifier) apart }
 
 pub left-out : (retain : Bool) → LeftOut retain
 unfolding play runs all

@@ -2,7 +2,7 @@
 use Prim.Native.Nat.{ℕ}
 use mathlib.Core.Path.{_≡_}
 use mathlib.Core.Bool.{Bool, true, false}
-use mathlib.Core.List.{List, []}
+use mathlib.Core.List.{List, [], List·Memᴰ as Noted}
 use Rattle.lists.specs.Words.{Bytes}
 use Rattle.lists.specs.declared.words.Words.{Words}
 use Rattle.places.specs.Places.{none, one}
@@ -12,7 +12,7 @@ use Rattle.clerk_table.specs.declared.table.State.the-variants as ClerkState
 use Rattle.clerk_table.specs.declared.table.Timer.the-variants.{T2}
 use Rattle.line_table.specs.declared.inputs.Input.the-variants as AtLine
 use Rattle.line_table.specs.declared.record.Record as LineRecord
-use Rattle.pair.specs.World.{Mark, World, Event, clerkDoes, lineDoes, clerkHolds, lineHolds, messagesOf, has, next, Allowed, Run, startWorld, Reached}
+use Rattle.pair.specs.World.{takenUp, dropped, runOut, guarded, World, Event, clerkDoes, lineDoes, clerkHolds, lineHolds, messagesOf, next, Allowed, Run, startWorld, Reached}
 use Rattle.pair.specs.Demand3.{Accepted, Listed, NoRequest, About, Untouched}
 
 -- ---- 1. without "acknowledged"
@@ -41,7 +41,7 @@ QuietThoughDropped =
 -- Wait-Answer stands with Await, the suspended mark not set
 abbrev pub AnswerUnmarked : Type 0
 AnswerUnmarked =
-    (w : World) → Reached w → (identifier : Words) → has Mark.dropped identifier (w .history) ≡ false →
+    (w : World) → Reached w → (identifier : Words) → (Noted (dropped identifier) (w .history) → ⊥) →
     messagesOf identifier (w .up) ≡ [] → messagesOf identifier (w .down) ≡ [] →
     (c : ClerkRecord.Record) (l : LineRecord.Record) → clerkHolds w identifier ≡ one c → lineHolds w identifier ≡ one l →
     c .state ≡ ClerkState.WaitAnswer → l .suspended ≡ false
@@ -49,13 +49,13 @@ AnswerUnmarked =
 -- ---- 4. without the guard's report
 abbrev pub OverUnguarded : Type 0
 OverUnguarded =
-    (w : World) → Reached w → (identifier : Words) → has Mark.runOut identifier (w .history) ≡ true → NoRequest (messagesOf identifier (w .up)) →
+    (w : World) → Reached w → (identifier : Words) → Noted (runOut identifier) (w .history) → NoRequest (messagesOf identifier (w .up)) →
     (later : World) → Run w later → (clerkHolds later identifier ≡ none) × (lineHolds later identifier ≡ none)
 
 -- with a T2 report that is taken or refused (mend M1)
 abbrev pub OverByRefusedT2 : Type 0
 OverByRefusedT2 =
-    (w : World) → Reached w → (identifier : Words) → has Mark.guarded identifier (w .history) ≡ true → NoRequest (messagesOf identifier (w .up)) →
+    (w : World) → Reached w → (identifier : Words) → Noted (guarded identifier) (w .history) → NoRequest (messagesOf identifier (w .up)) →
     (later : World) → Run (next w (clerkDoes (AtClerk.Timer identifier T2))) later → (clerkHolds later identifier ≡ none) × (lineHolds later identifier ≡ none)
 
 -- without "was taken up"; without "no request message under way"
@@ -67,7 +67,7 @@ GoneBeforeTakenUp =
 
 abbrev pub GoneThoughUnderWay : Type 0
 GoneThoughUnderWay =
-    (w : World) → Reached w → (identifier : Words) → has Mark.takenUp identifier (w .history) ≡ true → clerkHolds w identifier ≡ none → lineHolds w identifier ≡ none →
+    (w : World) → Reached w → (identifier : Words) → Noted (takenUp identifier) (w .history) → clerkHolds w identifier ≡ none → lineHolds w identifier ≡ none →
     (later : World) → Run w later → (clerkHolds later identifier ≡ none) × (lineHolds later identifier ≡ none)
 
 -- ---- 5. a Look is about no request
