@@ -57,7 +57,6 @@ use Rattle.tollherring.specs.Clerk.{clerkEntered, clerkBytes, clerkAsked, clerk
 use Rattle.tollherring.specs.Line.{startWords, lineStartedWords, lineStartedAnswer, lineEntered, lineBytes, lineReceived, lineStatusReported, lineLooked, lineActed, lineGuarded}
 use Rattle.tollherring.proofs.Claims.{no-room-nothing}
 use Rattle.pair_request.specs.Signal.{Signal, callDied, rejected}
-use Rattle.pair.specs.World as Pair
 use Rattle.pair.specs.World.{takenUp, World, Event, clerkDoes, lineDoes, clerkIsTold, clerkHears, lineHears, nameOf, sentBy, clerkHeard, lineHeard, signalLetter, next, Allowed}
 use Rattle.exported.specs.Calls.{End, clerkEnd, lineEnd, IsStep, done, refused}
 use Rattle.exported.specs.Claims.{ClerkHearsBytes, LineHearsBytes, ClerkCall, LineCall, askEvent, FaceIsStep, StartsAsRun}
@@ -285,7 +284,7 @@ line-unread words out bytes number e = rw e
 abbrev Once : World → Names → Request → Type 0
 Once w names q =
     Fair (AtClerk.Ask names q)
-    × (Pair.done (Clerk.step (w .clerk) (AtClerk.Ask names q) .outcome) ≡ true → Noted (takenUp (names .identifier)) (w .history) → ⊥)
+    × (Clerk.step (w .clerk) (AtClerk.Ask names q) .outcome .refusal ≡ 0 → Noted (takenUp (names .identifier)) (w .history) → ⊥)
 
 -- an ask of values of the code's types, under an identifier that was not taken up
 ask-allowed :

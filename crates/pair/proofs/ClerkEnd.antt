@@ -57,8 +57,8 @@ use Rattle.clerk.specs.declared.steps.Stepped.{Stepped}
 use Rattle.clerk_sound.specs.Sound.{clerkView, Reached}
 use Rattle.pair_request.specs.Signal.{callDied, rejected}
 use Rattle.pair_request.specs.Reading as R
-use Rattle.pair.specs.World.{sentBy, done}
-use Rattle.pair.proofs.Ends.{clerkStateRead, waitingRecord, liveRecord, clerkRead, letterRead, messageRead, dataOf, askRead, ClerkStep}
+use Rattle.pair.specs.World.{sentBy}
+use Rattle.pair.proofs.Ends.{done, clerkStateRead, waitingRecord, liveRecord, clerkRead, letterRead, messageRead, dataOf, askRead, ClerkStep}
 use Rattle.pair.proofs.Changes.{Own, stays, turns-found, stores, removes, Its, own-held, not-one, the-one, pick-ap}
 use Rattle.pair.proofs.Grounds.{clerk-placed, clerk-full}
 use Rattle.pair.proofs.Letters.{letter-name, ask-letter}

@@ -3,6 +3,7 @@ use Prim.Native.Nat.{_/_}
 use mathlib.Core.Path.{_≡_, refl, sym, _∙_, ap, subst}
 use mathlib.Core.Bool.{Bool, true, false}
 use mathlib.Core.List.{List, [], _∷_, _++_, List·Memᴰ as Noted}
+use borrow.Author.Tests.{eqb-true}
 use Rattle.lists.specs.Lists.{both}
 use Rattle.lists.specs.declared.words.Words.{Words}
 use Rattle.message.specs.declared.Message.{Message}
@@ -26,9 +27,9 @@ use Rattle.pair_request.specs.Signal.{Signal, callDied, rejected}
 use Rattle.pair_request.specs.Reading as R
 use Rattle.pair_request.proofs.Effects.{clerk-act-effect, signal-takes, act-plain, clerk-take-effect, take-plain}
 use Rattle.pair_request.proofs.Agree.{agreed, untaken}
-use Rattle.pair.specs.World.{Note, World, Event, clerkDoes, clerkIsTold, clerkHears, clerkHolds, done, clerkStepped, clerkHeard, clerkNotes, signalLetter, Allowed}
+use Rattle.pair.specs.World.{Note, World, Event, clerkDoes, clerkIsTold, clerkHears, clerkHolds, clerkStepped, clerkHeard, clerkNotes, signalLetter, Allowed}
 use Rattle.pair.specs.Demand3.{Heads, About, by-clerk, by-signal, to-clerk, same}
-use Rattle.pair.proofs.Ends.{clerkRead, letterRead, messageRead, Clear, dataOf, askRead, ClerkStep}
+use Rattle.pair.proofs.Ends.{done, clerkRead, letterRead, messageRead, Clear, dataOf, askRead, ClerkStep}
 use Rattle.pair.proofs.Letters.{letter-name, clear-kept, sent-name, clear-ask}
 use Rattle.pair.proofs.ClerkEnd.{clerk-hears, clerk-acts, clerk-reports, counts, clerk-runs-out, AskStep, refused, stored, clerk-asks}
 use Rattle.pair.proofs.Wires.{head-own, AllClear, no-message, one-more, plain-clear, Worded, quiet, word}
@@ -118,7 +119,7 @@ module _ {p : R.Policy} {w : World} (g : Good p w) (known : Known p w) where
 
   -- ---- an ask
   module _ (names : Names) (q : Request) (once : Allowed w (clerkDoes (Input.Ask names q))) where
-    allowed : Clerk.Fair (Input.Ask names q) × (done (step (w .clerk) (Input.Ask names q) .outcome) ≡ true → Noted (Note.takenUp (names .identifier)) (w .history) → ⊥)
+    allowed : Clerk.Fair (Input.Ask names q) × (step (w .clerk) (Input.Ask names q) .outcome .refusal ≡ 0 → Noted (Note.takenUp (names .identifier)) (w .history) → ⊥)
     allowed = once .asked names q refl
 
     abbrev asked : Stepped
@@ -132,7 +133,7 @@ module _ {p : R.Policy} {w : World} (g : Good p w) (known : Known p w) where
         R.askStep n (dataOf names q) (q .kind) (q .flags / 2) (n .used) ≡ R.afterAsk n (dataOf names q) (q .kind) (q .flags / 2)
     unfolding R.askStep
     ask-taken so n sim =
-        let fresh : n .used ≡ false = told-false (n .used) (sim .used) (allowed .1 so) in
+        let fresh : n .used ≡ false = told-false (n .used) (sim .used) (allowed .1 (eqb-true (asked .outcome .refusal) 0 so)) in
         rw fresh
 
     clerk-ask :

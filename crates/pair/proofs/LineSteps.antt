@@ -24,9 +24,9 @@ use Rattle.line_sound.proofs.Reaching.{others-held}
 use Rattle.pair_request.specs.Reading as R
 use Rattle.pair_request.proofs.Effects.{line-act-effect, line-act-plain, line-take-effect, line-take-plain}
 use Rattle.pair_request.proofs.Agree.{agreed, untaken}
-use Rattle.pair.specs.World.{Note, World, Event, lineDoes, lineHears, dropsUp, dropsDown, lineHolds, done, lineStepped, lineHeard, lineNotes, next, Allowed}
+use Rattle.pair.specs.World.{Note, World, Event, lineDoes, lineHears, dropsUp, dropsDown, lineHolds, lineStepped, lineHeard, lineNotes, next, Allowed}
 use Rattle.pair.specs.Demand3.{Heads, About, by-act, by-guard, by-look, to-line, Drops, from-up, from-down, Unaltered, same}
-use Rattle.pair.proofs.Ends.{lineRead, letterRead, messageRead, Clear, lineActRead, policyOf, LineStep}
+use Rattle.pair.proofs.Ends.{done, lineRead, letterRead, messageRead, Clear, lineActRead, policyOf, LineStep}
 use Rattle.pair.proofs.Letters.{letter-name, clear-kept, sent-name}
 use Rattle.pair.proofs.LineChanges.{policy-kept}
 use Rattle.pair.proofs.LineEnd.{line-hears, line-acts, line-guards, guard-ends}

@@ -125,13 +125,10 @@ pub data Unaltered : Event → Held LineRecord → Held LineRecord → Type 0 wh
       {number : Words} (r : LineRecord) → marks number r ≡ true →
       Unaltered (lineDoes (LineInput.Report number true)) (one r) (one (moved r (r .state) true (r .suspended)))
 
-pub record Untouched (w : World) (e : Event) (identifier : Words) : Type 0 where
-  pub clerk : clerkHolds (next w e) identifier ≡ clerkHolds w identifier
-  pub line : Unaltered e (lineHolds w identifier) (lineHolds (next w e) identifier)
-
 abbrev pub NoOtherAltered : Type 0
 NoOtherAltered =
-    (w : World) → Reached w → (e : Event) → Allowed w e → (identifier : Words) → (About w e identifier → ⊥) → Untouched w e identifier
+    (w : World) → Reached w → (e : Event) → Allowed w e → (identifier : Words) → (About w e identifier → ⊥) →
+    (clerkHolds (next w e) identifier ≡ clerkHolds w identifier) × Unaltered e (lineHolds w identifier) (lineHolds (next w e) identifier)
 
 -- a step that drops one of its messages
 pub data Drops (w : World) : Event → Words → Type 0 where

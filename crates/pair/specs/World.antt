@@ -4,7 +4,7 @@ use mathlib.Core.{Path._≡_, Bool.Bool, Bool.true, Bool.false, List.List, List.
 use lib.{Dec.eqb, ListN.take, ListN.drop}
 use Rattle.lists.specs.{Choice.pick, Words.Bytes, Words.wordsOf, Words.sameWords, declared.words.Words.Words}
 use Rattle.message.specs.declared.{Message.Message, Body.the-variants.RequestError, Body.the-variants.CallFailed, Carrier.the-variants.ReleaseComplete}
-use Rattle.desk.specs.{Letter.messageOf, Sends.plainLetter, declared.letter.Letter.Letter, declared.outcome.Outcome.Outcome, declared.outcome.Sending.Sending}
+use Rattle.desk.specs.{Letter.messageOf, Sends.plainLetter, declared.letter.Letter.Letter, declared.outcome.Sending.Sending}
 use Rattle.terms.specs.declared.request.{Names.Names, Request.Request}
 use Rattle.places.specs.Places.{Held, held}
 use Rattle.clerk_table.specs.declared.{inputs.Input.Input as ClerkInput, record.Record.Record as ClerkRecord, table.Timer.Timer}
@@ -67,11 +67,7 @@ abbrev pub sentBy : Sending → List Message
 sentBy Sending.Nothing = []
 sentBy (Sending.Send l) = messageOf l ∷ []
 
--- a step that is not refused
-abbrev pub done : Outcome → Bool
-done outcome = eqb (outcome .refusal) 0
-
--- what is noted of an input, if it is done (`so`): an ask takes up an identifier; a timer of the demand, which T3 is not, or a guard has run out
+-- what is noted of an input, if it is not refused (`so`): an ask takes up an identifier; a timer of the demand, which T3 is not, or a guard has run out
 abbrev pub clerkNotes : ClerkInput → Bool → List Note
 clerkNotes (ClerkInput.Ask names q) so = pick so (takenUp (names .identifier) ∷ []) []
 clerkNotes (ClerkInput.Message l busy) so = []
@@ -117,12 +113,11 @@ lostAt i wire = map (λ m. dropped (nameOf m)) (take 1 (drop i wire))
 unfoldable pub next : World → Event → World
 next w (clerkDoes input) =
     let step = Clerk.step (w .clerk) input in
-    clerkStepped w (w .down) step (clerkNotes input (done (step .outcome)))
+    clerkStepped w (w .down) step (clerkNotes input (eqb (step .outcome .refusal) 0))
 next w (lineDoes input) =
     let step = Line.step (w .line) input in
-    lineStepped w (w .up) step (lineNotes input (done (step .outcome)))
-next w (clerkIsTold signal identifier busy) =
-    clerkStepped w (w .down) (Clerk.step (w .clerk) (ClerkInput.Message (signalLetter signal identifier) busy)) []
+    lineStepped w (w .up) step (lineNotes input (eqb (step .outcome .refusal) 0))
+next w (clerkIsTold signal identifier busy) = clerkStepped w (w .down) (Clerk.step (w .clerk) (ClerkInput.Message (signalLetter signal identifier) busy)) []
 next w (clerkHears busy) = clerkHeard w busy (w .down)
 next w lineHears = lineHeard w (w .up)
 next w (dropsUp i) =
@@ -136,7 +131,7 @@ next w (dropsDown i) =
 pub record Allowed (w : World) (e : Event) : Type 0 where
   pub asked :
       (names : Names) (q : Request) → e ≡ clerkDoes (ClerkInput.Ask names q) →
-      Fair (ClerkInput.Ask names q) × (done (Clerk.step (w .clerk) (ClerkInput.Ask names q) .outcome) ≡ true → Noted (takenUp (names .identifier)) (w .history) → ⊥)
+      Fair (ClerkInput.Ask names q) × (Clerk.step (w .clerk) (ClerkInput.Ask names q) .outcome .refusal ≡ 0 → Noted (takenUp (names .identifier)) (w .history) → ⊥)
   pub toClerk : (l : Letter) (busy : Bool) → e ≡ clerkDoes (ClerkInput.Message l busy) → ⊥
   pub toLine : (l : Letter) → e ≡ lineDoes (LineInput.Message l) → ⊥
 
@@ -146,8 +141,7 @@ pub data Run (first : World) : World → Type 0 where
 
 -- two desks started empty, the line desk with any lines and settings; where these are refused, a desk without lines
 abbrev pub startWorld : List ℕ → Bool → Bool → World
-startWorld given keep retain =
-    record { clerk = Clerk.startedDesk; up = []; line = lineStarted given keep retain .desk; down = []; history = [] }
+startWorld given keep retain = record { clerk = Clerk.startedDesk; up = []; line = lineStarted given keep retain .desk; down = []; history = [] }
 
 -- a world of a run from the start
 pub data Reached (w : World) : Type 0 where

@@ -21,7 +21,7 @@ use Rattle.clerk.specs.declared.entry.Asking.{Asking}
 use Rattle.clerk.specs.declared.entry.Entry.the-variants.{Given}
 use Rattle.clerk_sound.specs.Sound as ClerkSound
 use Rattle.line_table.specs.declared.inputs.Input.the-variants as AtLine
-use Rattle.pair.specs.World.{Note, takenUp, World, Event, clerkDoes, lineDoes, clerkIsTold, clerkHears, lineHears, dropsUp, dropsDown, done, next, Allowed, Run, stop, then, reached}
+use Rattle.pair.specs.World.{Note, takenUp, World, Event, clerkDoes, lineDoes, clerkIsTold, clerkHears, lineHears, dropsUp, dropsDown, next, Allowed, Run, stop, then, reached}
 use Rattle.pair.proofs.Letters.{flags-sent}
 use Rattle.pair_runs.specs.Runs.{play, kindOf, whose, has, Row, oneLine, start, EachReached}
 
@@ -96,7 +96,7 @@ has-not n h e m = false≢true (sym e ∙ has-noted n h m)
 
 -- an ask that is not refused takes up an identifier that was not taken up before
 abbrev pub once : World → Names → Request → Bool
-once w names q = pick (done (Clerk.step (w .clerk) (AtClerk.Ask names q) .outcome)) (not (has (takenUp (names .identifier)) (w .history))) true
+once w names q = pick (eqb (Clerk.step (w .clerk) (AtClerk.Ask names q) .outcome .refusal) 0) (not (has (takenUp (names .identifier)) (w .history))) true
 
 pub once-told : (take had : Bool) → pick take (not had) true ≡ true → take ≡ true → had ≡ false
 once-told true true e t = absurd (false≢true e)
@@ -128,7 +128,7 @@ allowed-told w e so =
           let parts = both-parts (fair names q) (once w names q) (subst (λ (x : Event). allowed w x ≡ true) is so) in (
             fair-told names q (parts .0),
             λ so. has-not (takenUp (names .identifier)) (w .history)
-                (once-told (done (Clerk.step (w .clerk) (AtClerk.Ask names q) .outcome)) (has (takenUp (names .identifier)) (w .history)) (parts .1) so),
+                (once-told (eqb (Clerk.step (w .clerk) (AtClerk.Ask names q) .outcome .refusal) 0) (has (takenUp (names .identifier)) (w .history)) (parts .1) (eq-eqb _ 0 so)),
           );
       toClerk = λ l busy is. false≢true (subst (λ (x : Event). allowed w x ≡ true) is so);
       toLine = λ l is. false≢true (subst (λ (x : Event). allowed w x ≡ true) is so);

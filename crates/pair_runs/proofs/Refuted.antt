@@ -177,7 +177,7 @@ state-unaltered (marked r so) = refl
 pub look-alters-nothing : Wrong.LookAltersNothing → ⊥
 unfolding play runs all
 look-alters-nothing wrong =
-    true≢false (state-unaltered (wrong (at acknowledged) (reach false acknowledged refl) (numberWords numberB) (wordsOf first) .line))
+    true≢false (state-unaltered (wrong (at acknowledged) (reach false acknowledged refl) (numberWords numberB) (wordsOf first) .1))
 
 abbrev active : Held LineRecord.Record → Bool
 active none = false

@@ -13,7 +13,7 @@ use Rattle.clerk_table.specs.declared.table.Timer.the-variants.{T2}
 use Rattle.line_table.specs.declared.inputs.Input.the-variants as AtLine
 use Rattle.line_table.specs.declared.record.Record as LineRecord
 use Rattle.pair.specs.World.{takenUp, dropped, runOut, guarded, World, Event, clerkDoes, lineDoes, clerkHolds, lineHolds, messagesOf, next, Allowed, Run, startWorld, Reached}
-use Rattle.pair.specs.Demand3.{Accepted, Listed, NoRequest, About, Untouched}
+use Rattle.pair.specs.Demand3.{Accepted, Listed, NoRequest, About, Unaltered}
 
 -- ---- 1. without "acknowledged"
 abbrev pub AcceptedThoughWaiting : Type 0
@@ -72,7 +72,10 @@ GoneThoughUnderWay =
 
 -- ---- 5. a Look is about no request
 abbrev pub LookAltersNothing : Type 0
-LookAltersNothing = (w : World) → Reached w → (number identifier : Words) → Untouched w (lineDoes (AtLine.Look number)) identifier
+LookAltersNothing =
+    (w : World) → Reached w → (number identifier : Words) →
+    let e = lineDoes (AtLine.Look number) in
+    (clerkHolds (next w e) identifier ≡ clerkHolds w identifier) × Unaltered e (lineHolds w identifier) (lineHolds (next w e) identifier)
 
 -- without the exception of a busy report
 abbrev pub ReportMarksNothing : Type 0
