@@ -1,7 +1,7 @@
 -- The run of demand 3 is what a host makes by its calls. Each claim is a type; its proof has its name.
 use Prim.Native.Nat.{ℕ, _≤_}
 use mathlib.Core.Path.{_≡_}
-use mathlib.Core.Bool.{Bool, true, false}
+use mathlib.Core.Bool.{Bool, true}
 use mathlib.Core.Logic.{_⊎_}
 use mathlib.Core.List.{List, [], _∷_, _++_, List·Memᴰ as Noted}
 use lib.ListN.{length}

@@ -34,16 +34,12 @@ use Rattle.pair.proofs.Letters.{letter-name, clear-kept, sent-name, cle
 use Rattle.pair.proofs.ClerkEnd.{clerk-hears, clerk-acts, clerk-reports, counts, clerk-runs-out, AskStep, refused, stored, clerk-asks}
 use Rattle.pair.proofs.Wires.{head-own, AllClear, no-message, one-more, plain-clear, Worded, quiet, word}
 use Rattle.pair.proofs.Notes.{told-false, Notes, Unnoted, unnoted, unnoted-other, noted-ask, noted-timer}
-use Rattle.pair.proofs.Sim.{Sim, Known, Good, about, Turned, unmoved, wired-same, wired-sent, wired-heard, turn-about, turn-none, silent, clerk-own}
+use Rattle.pair.proofs.Sim.{Sim, Known, Good, about, Turned, unmoved, plain-sent, wired-same, wired-sent, wired-heard, turn-about, turn-none, silent, clerk-own}
 
--- ---- what the clerk's end sends about a request: one that was taken up has an identifier that its bytes give back, one that was not is nowhere
+-- ---- what the clerk's end sends about a request
 act-clear : {p : R.Policy} {j : Words} {w : World} {n : R.Net} → Sim j w n → R.Reach p n → (x : R.CAct) → AllClear j (R.clerkActs (n .clerk) x .1)
 unfolding R.clerkActs
-act-clear {j} {n} sim r x = go (n .used) refl
-  where
-    go : (b : Bool) → n .used ≡ b → AllClear j (R.clerkActs (n .clerk) x .1)
-    go true e = plain-clear j (R.clerkActs (n .clerk) x .1) (act-plain (clerk-act-effect (n .clerk) x)) (sim .kept e)
-    go false e = subst (λ c. AllClear j (R.clerkActs c x .1)) (sym (untaken (agreed r) e .0)) no-message
+act-clear {n = n} sim r x = plain-sent sim (act-plain (clerk-act-effect (n .clerk) x)) (λ e. ap (λ c. R.clerkActs c x .1) (untaken (agreed r) e .0))
 
 take-clear : (j : Words) (c : R.Clerk) (m : R.Msg) (busy : Bool) → Clear j m → AllClear j (R.clerkTakes c m busy .1)
 take-clear j c m busy clear = plain-clear j (R.clerkTakes c m busy .1) (take-plain (clerk-take-effect c m busy)) (clear-kept j m clear)

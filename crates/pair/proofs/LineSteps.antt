@@ -31,19 +31,15 @@ use Rattle.pair.proofs.Letters.{letter-name, clear-kept, sent-name}
 use Rattle.pair.proofs.LineChanges.{policy-kept}
 use Rattle.pair.proofs.LineEnd.{line-hears, line-acts, line-guards, guard-ends}
 use Rattle.pair.proofs.LineLooks.{SentOf, Looked, nothing, offers, line-looks, Reported, line-reports}
-use Rattle.pair.proofs.Wires.{head-own, AllClear, no-message, plain-clear, Worded, quiet, word, without, LeftOut, nothing-lost, one-lost, left-out}
+use Rattle.pair.proofs.Wires.{head-own, AllClear, plain-clear, Worded, quiet, word, without, LeftOut, nothing-lost, one-lost, left-out}
 use Rattle.pair.proofs.Grounds.{line-full}
 use Rattle.pair.proofs.Notes.{Notes, Unnoted, unnoted, unnoted-other, noted-guard}
-use Rattle.pair.proofs.Sim.{Sim, Known, Good, Moves, about, loses, Turned, unmoved, Wired, wired-same, wired-sent, wired-heard, turn-about, turn-none, silent, line-own, lossy, lost-own}
+use Rattle.pair.proofs.Sim.{Sim, Known, Good, Moves, about, loses, Turned, unmoved, plain-sent, Wired, wired-same, wired-sent, wired-heard, turn-about, turn-none, silent, line-own, lossy, lost-own}
 
--- ---- what the line's end sends about a request: one that was taken up has an identifier that its bytes give back, one that was not is nowhere
+-- ---- what the line's end sends about a request
 line-act-clear : {p : R.Policy} {j : Words} {w : World} {n : R.Net} → Sim j w n → R.Reach p n → (x : R.LAct) → AllClear j (R.lineActs (n .line) x .1)
 unfolding R.lineActs
-line-act-clear {j} {n} sim r x = go (n .used) refl
-  where
-    go : (b : Bool) → n .used ≡ b → AllClear j (R.lineActs (n .line) x .1)
-    go true e = plain-clear j (R.lineActs (n .line) x .1) (line-act-plain (line-act-effect (n .line) x)) (sim .kept e)
-    go false e = subst (λ l. AllClear j (R.lineActs l x .1)) (sym (untaken (agreed r) e .1)) no-message
+line-act-clear {n = n} sim r x = plain-sent sim (line-act-plain (line-act-effect (n .line) x)) (λ e. ap (λ l. R.lineActs l x .1) (untaken (agreed r) e .1))
 
 take-clear : (p : R.Policy) (j : Words) (l : R.Line) (m : R.Msg) (x : R.Word) → Clear j m → AllClear j (R.lineTakes p l m x .1)
 take-clear p j l m x clear = plain-clear j (R.lineTakes p l m x .1) (line-take-plain (line-take-effect p l m x)) (clear-kept j m clear)

@@ -14,11 +14,12 @@ use Rattle.line_records.specs.Change.{activated}
 use Rattle.line.specs.declared.steps.Stepped as LineStepped
 use Rattle.line_sound.specs.Sound as LineSound
 use Rattle.pair_request.specs.Reading as R
+use Rattle.pair_request.specs.Listed.{NoReq}
 use Rattle.pair.specs.World.{Note, World, Event, lineHears, clerkHolds, lineHolds, nameOf, messagesOf, sentBy, clerkStepped, lineStepped, next}
 use Rattle.pair.specs.Demand3.{Heads, About, Drops, Unaltered, same, marked}
 use Rattle.pair.proofs.Ends.{clerkRead, lineRecord, lineRead, messageRead, Kept, policyOf, ClerkStep, LineStep}
 use Rattle.pair.proofs.Changes.{not-one, the-one}
-use Rattle.pair.proofs.Wires.{messages-append, head-other, AllClear, clear-append, messages-own, messages-other, Worded, worded-append, worded-sent}
+use Rattle.pair.proofs.Wires.{messages-append, head-other, AllClear, no-message, plain-clear, clear-append, messages-own, messages-other, Worded, worded-append, worded-sent}
 use Rattle.pair.proofs.Notes.{Told, Notes, Unnoted, unnoted, noted-drop}
 
 pub record Sim (j : Words) (w : World) (n : R.Net) : Type 0 where
@@ -162,6 +163,14 @@ turn-none g clerk line policy up down clerks lines notes = (
 
 pub unmoved : {p : R.Policy} {w : World} {e : Event} → Good p w → Turned p w e w
 unmoved {w = w} g = turn-none g (g .clerk) (g .line) (g .policy) refl refl (λ j. refl) (λ j. same) (unnoted (w .history))
+
+-- what is sent about a request: one that was taken up has an identifier that its bytes give back, one that was not is nowhere
+pub plain-sent : {j : Words} {w : World} {n : R.Net} {ms : List R.Msg} → Sim j w n → NoReq ms → (n .used ≡ false → ms ≡ []) → AllClear j ms
+plain-sent {j} {n = n} {ms} sim plain nowhere = go (n .used) refl
+  where
+    go : (b : Bool) → n .used ≡ b → AllClear j ms
+    go true e = plain-clear j ms plain (sim .kept e)
+    go false e = subst (AllClear j) (sym (nowhere e)) no-message
 
 -- nothing is sent
 pub silent : {sending : Sending} (ms : List Message) → sending ≡ Sending.Nothing → ms ++ sentBy sending ≡ ms

@@ -1,6 +1,6 @@
 -- Two desks, two wires that deliver in order or drop, and the history of the run. A step is an input at a desk, as the desk's contract has it, or the drop of a message.
 use Prim.Native.Nat.{ℕ, suc}
-use mathlib.Core.{Path._≡_, Bool.Bool, Bool.true, Bool.false, List.List, List.[], List._∷_, List._++_, List.map, List.List·Memᴰ as Noted}
+use mathlib.Core.{Path._≡_, Bool.Bool, List.List, List.[], List._∷_, List._++_, List.map, List.List·Memᴰ as Noted}
 use lib.{Dec.eqb, ListN.take, ListN.drop}
 use Rattle.lists.specs.{Choice.pick, Words.Bytes, Words.wordsOf, Words.sameWords, declared.words.Words.Words}
 use Rattle.message.specs.declared.{Message.Message, Body.the-variants.RequestError, Body.the-variants.CallFailed, Carrier.the-variants.ReleaseComplete}

@@ -1,7 +1,7 @@
 -- Wrong claims: demand 3's with a premise left out or a word altered. A run of Runs.antt refutes each, so what was left out is needed.
 use Prim.Native.Nat.{ℕ}
 use mathlib.Core.Path.{_≡_}
-use mathlib.Core.Bool.{Bool, true, false}
+use mathlib.Core.Bool.{Bool, false}
 use mathlib.Core.List.{List, [], List·Memᴰ as Noted}
 use Rattle.lists.specs.Words.{Bytes}
 use Rattle.lists.specs.declared.words.Words.{Words}
