@@ -13,8 +13,8 @@ use Rattle.line_table.specs.{Record.moved, Search.marks, declared.inputs.Act.Ac
 use Rattle.line_table.specs.declared.{record.Record.Record as LineRecord, table.State.State as LineState}
 use Rattle.line.specs.Steps as Line
 use Rattle.pair_request.specs.Signal.{Signal}
-use Rattle.pair.specs.World.{World, Event, clerkDoes, lineDoes, clerkIsTold, clerkHears, lineHears, dropsUp, dropsDown, clerkHolds, lineHolds, nameOf, messagesOf}
-use Rattle.pair.specs.World.{takenUp, dropped, runOut, guarded, next, Allowed, Run, stop, then, startWorld, Reached}
+use Rattle.pair.specs.World.{World, Event, clerkDoes, lineDoes, clerkIsTold, clerkHears, lineHears, dropsUp, dropsDown, clerkHolds, lineHolds}
+use Rattle.pair.specs.World.{nameOf, messagesOf, takenUp, dropped, runOut, guarded, next, Allowed, Run, stop, then, startWorld, Reached}
 
 -- ---- 1. what the clerk's end holds as acknowledged was accepted earlier at the line's end
 -- acknowledged: the connection choice is not empty
