@@ -2,7 +2,7 @@
 use Prim.Native.Nat.{ℕ}
 use mathlib.Core.Path.{_≡_, refl, sym, _∙_, ap, subst}
 use mathlib.Core.Bool.{Bool, true, false}
-use mathlib.Core.List.{List, _∷_, _++_}
+use mathlib.Core.List.{List, _∷_, _++_, List·Memᴰ as Noted}
 use lib.ListN.{length}
 use lib.Dec.{ltb, eqb}
 use native.Mathlib.Omega.{arith}
@@ -56,13 +56,11 @@ use Rattle.tollherring.specs.Face.{refusedFace, faced}
 use Rattle.tollherring.specs.Clerk.{clerkEntered, clerkBytes, clerkAsked, clerkReceived, clerkActed, clerkReported}
 use Rattle.tollherring.specs.Line.{startWords, lineStartedWords, lineStartedAnswer, lineEntered, lineBytes, lineReceived, lineStatusReported, lineLooked, lineActed, lineGuarded}
 use Rattle.tollherring.proofs.Claims.{no-room-nothing}
-use Rattle.pair_request.specs.Wires.{Signal, callDied, rejected}
-use Rattle.pair.specs.World as Pair
-use Rattle.pair.specs.World.{World, Event, clerkDoes, lineDoes, clerkIsTold, clerkHears, lineHears, nameOf, has, sentBy, clerkHeard, lineHeard, signalLetter, next, Allowed}
-use Rattle.pair.specs.Meaning.{ClerkHearsBytes, LineHearsBytes}
-use Rattle.pair.proofs.AsBytes.{heard-as-bytes}
+use Rattle.pair_request.specs.Signal.{Signal, callDied, rejected}
+use Rattle.pair.specs.World.{takenUp, World, Event, clerkDoes, lineDoes, clerkIsTold, clerkHears, lineHears, nameOf, sentBy, clerkHeard, lineHeard, signalLetter, next, Allowed}
 use Rattle.exported.specs.Calls.{End, clerkEnd, lineEnd, IsStep, done, refused}
-use Rattle.exported.specs.Claims.{ClerkCall, LineCall, askEvent, FaceIsStep, StartsAsRun}
+use Rattle.exported.specs.Claims.{ClerkHearsBytes, LineHearsBytes, ClerkCall, LineCall, askEvent, FaceIsStep, StartsAsRun}
+use Rattle.exported.proofs.Heard.{heard-as-bytes}
 
 -- ---- a step's face: done, or refused for want of room
 faced-step :
@@ -286,11 +284,11 @@ line-unread words out bytes number e = rw e
 abbrev Once : World → Names → Request → Type 0
 Once w names q =
     Fair (AtClerk.Ask names q)
-    × (Pair.done (Clerk.step (w .clerk) (AtClerk.Ask names q) .outcome) ≡ true → has (w .history .takenUp) (names .identifier) ≡ false)
+    × (Clerk.step (w .clerk) (AtClerk.Ask names q) .outcome .refusal ≡ 0 → Noted (takenUp (names .identifier)) (w .history) → ⊥)
 
 -- an ask of values of the code's types, under an identifier that was not taken up
 ask-allowed :
-    (w : World) (a : Asking) → Typed a → askEntry a ≡ ClerkEntered.Given (AtClerk.Ask (askNames a) (askRequest a)) → has (w .history .takenUp) (wordsOf (a .identifier)) ≡ false →
+    (w : World) (a : Asking) → Typed a → askEntry a ≡ ClerkEntered.Given (AtClerk.Ask (askNames a) (askRequest a)) → (Noted (takenUp (wordsOf (a .identifier))) (w .history) → ⊥) →
     Allowed w (askEvent a)
 unfolding letterOf
 ask-allowed w a typed e fresh =

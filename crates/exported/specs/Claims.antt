@@ -1,9 +1,9 @@
 -- The run of demand 3 is what a host makes by its calls. Each claim is a type; its proof has its name.
 use Prim.Native.Nat.{ℕ, _≤_}
 use mathlib.Core.Path.{_≡_}
-use mathlib.Core.Bool.{true, false}
+use mathlib.Core.Bool.{Bool, true}
 use mathlib.Core.Logic.{_⊎_}
-use mathlib.Core.List.{List, [], _∷_, _++_}
+use mathlib.Core.List.{List, [], _∷_, _++_, List·Memᴰ as Noted}
 use lib.ListN.{length}
 use Rattle.lists.specs.Parts.{over}
 use Rattle.lists.specs.Words.{wordsOf}
@@ -18,18 +18,20 @@ use Rattle.told.specs.Told.{toldOf}
 use Rattle.clerk_table.specs.declared.inputs.Act as ClerkAct
 use Rattle.clerk_table.specs.declared.inputs.Input.the-variants as AtClerk
 use Rattle.clerk_table.specs.declared.table.Timer.{Timer}
+use Rattle.clerk.specs.Steps as Clerk
 use Rattle.clerk.specs.Entry.{askNames, askRequest, askEntry}
 use Rattle.clerk.specs.declared.entry.Asking.{Asking}
 use Rattle.clerk.specs.declared.entry.Entry.the-variants.{Given}
 use Rattle.clerk_sound.specs.Sound.{Typed}
 use Rattle.line_table.specs.declared.inputs.Act as LineAct
 use Rattle.line_table.specs.declared.inputs.Input.the-variants as AtLine
+use Rattle.line.specs.Steps as Line
 use Rattle.host_numbers.specs.Given.{askingOf, yes}
 use Rattle.tollherring.specs.Face.{Face, face, refusedFace, faced}
 use Rattle.tollherring.specs.Clerk.{clerkAsked, clerkReceived, clerkActed, clerkReported}
 use Rattle.tollherring.specs.Line.{lineStartedWords, lineStartedAnswer, lineReceived, lineStatusReported, lineLooked, lineActed, lineGuarded}
-use Rattle.pair_request.specs.Wires.{Signal}
-use Rattle.pair.specs.World.{World, Event, clerkDoes, lineDoes, clerkIsTold, clerkHears, lineHears, nameOf, has, sentBy, signalLetter, next, Allowed, startWorld, Reached}
+use Rattle.pair_request.specs.Signal.{Signal}
+use Rattle.pair.specs.World.{takenUp, World, Event, clerkDoes, lineDoes, clerkIsTold, clerkHears, lineHears, nameOf, sentBy, signalLetter, next, Allowed, startWorld, Reached}
 use Rattle.exported.specs.Calls.{clerkEnd, lineEnd, Puts, IsStep}
 
 -- ---- what a step puts on a wire, the call writes as its bytes
@@ -46,6 +48,21 @@ abbrev pub SentAsBytes : Type 0
 SentAsBytes =
     (w : World) → Reached w → (e : Event) → Allowed w e → (m : Message) →
     Puts (clerkEnd w) (clerkEnd (next w e)) m ⊎ Puts (lineEnd w) (lineEnd (next w e)) m → AsBytes m
+
+-- ---- a delivery may as well be of bytes: those that the writer makes of a message, whatever follows them
+abbrev pub ClerkHearsBytes : World → Bool → List ℕ → List Message → Type 0
+ClerkHearsBytes w busy rest [] = Unit
+ClerkHearsBytes w busy rest (m ∷ ms) =
+    Clerk.receivedBytes (w .clerk) (messageBytes m ++ rest) busy ≡ Clerk.withNext (Clerk.received (w .clerk) m busy) (length (messageBytes m))
+
+abbrev pub LineHearsBytes : World → List ℕ → List Message → Type 0
+LineHearsBytes w rest [] = Unit
+LineHearsBytes w rest (m ∷ ms) =
+    Line.receivedBytes (w .line) (messageBytes m ++ rest) ≡ Line.withNext (Line.received (w .line) m) (length (messageBytes m))
+
+abbrev pub HeardAsBytes : Type 0
+HeardAsBytes =
+    (w : World) → Reached w → (busy : Bool) (rest : List ℕ) → ClerkHearsBytes w busy rest (w .down) × LineHearsBytes w rest (w .up)
 
 -- ---- a call is a step of `next`, or leaves the desk and the buffer as they were
 -- a call at an end is the step of an event
@@ -66,7 +83,7 @@ pub record Calls (w : World) (out : List ℕ) : Type 0 where
       ClerkCall w (askEvent (askingOf identifier kind numberA numberB service canKeep preference)) out 0
       (clerkAsked (w .clerk .words) out identifier kind numberA numberB service canKeep preference)
   pub askAllowed :
-      (a : Asking) → Typed a → askEntry a ≡ Given (AtClerk.Ask (askNames a) (askRequest a)) → has (w .history .takenUp) (wordsOf (a .identifier)) ≡ false →
+      (a : Asking) → Typed a → askEntry a ≡ Given (AtClerk.Ask (askNames a) (askRequest a)) → (Noted (takenUp (wordsOf (a .identifier))) (w .history) → ⊥) →
       Allowed w (askEvent a)
   -- User A's act, and a timer's report
   pub clerkAct :

@@ -21,11 +21,12 @@ use Rattle.pair_request.specs.Listed as RL
 use Rattle.pair_request.proofs.Over.{Over}
 use Rattle.pair_request.proofs.Claims.{acked-was-accepted, TakesUp, accepts-by-request, both-hold-waiting, both-hold-live, quiet-pair, over-now, over-next}
 use Rattle.pair.specs.World.{World, Event, lineHears, clerkHolds, lineHolds, messagesOf, next, Allowed, Run, stop, then, startWorld, Reached, reached}
-use Rattle.pair.specs.Meaning.{Acknowledged, isRequest, Requests, Heads, Stores, Accepted, Agree, Listed, no-record, invoked, wait-answer, suspended, ringout, NoRequest}
+use Rattle.pair.specs.Demand3.{Acknowledged, isRequest, Requests, Heads, Stores, Accepted, Agree, Listed, no-record, invoked, wait-answer, suspended, ringout, NoRequest}
 use Rattle.pair.specs.Demand3.{AcknowledgedWasAccepted, DataAgree, KindAgrees, QuietListed, OverForGood, GoneForGood}
 use Rattle.pair.proofs.Ends.{waitingRecord, liveRecord, clerkRead, lineRead, lineRecord, messageRead, keepRead, connRead}
 use Rattle.pair.proofs.Wires.{messages-hit}
 use Rattle.pair.proofs.Changes.{not-one, the-one}
+use Rattle.pair.proofs.Notes.{told-false}
 use Rattle.pair.proofs.Sim.{Sim, Known, Good, Hearing}
 use Rattle.pair.proofs.Runs.{Follows, stays, moves, step-world, follows-reach, startPolicy, good-start, start-sim, known-start, run-good}
 
@@ -183,7 +184,7 @@ quiet-listed w reach j d u v =
     let k = known-world w reach .1 .1 j in
     let n = k .0 in
     let sim = k .1 .1 in
-    let q = quiet-pair (k .1 .0) (sym (sim .dropped) ∙ d) (quiet-wire j (n .up) (sym (sim .up) ∙ u)) (quiet-wire j (n .down) (sym (sim .down) ∙ v)) in
+    let q = quiet-pair (k .1 .0) (told-false (n .dropped) (sim .dropped) d) (quiet-wire j (n .up) (sym (sim .up) ∙ u)) (quiet-wire j (n .down) (sym (sim .down) ∙ v)) in
     subst (λ x. Listed x (lineHolds w j)) (sym (sim .clerk))
     (subst (λ x. Listed (clerkRead j (n .clerk)) x) (sym (sim .line)) (listed-read j (sim .active) q))
 
@@ -217,7 +218,7 @@ pub over-for-good : OverForGood
 over-for-good w reach j t u none later run =
     let k = known-world w reach .1 .1 j in
     let sim = k .1 .1 in
-    stays-over w reach j (over-now (k .1 .0) (sym (sim .timedOut) ∙ t) (sym (sim .guarded) ∙ u)) later run
+    stays-over w reach j (over-now (k .1 .0) (sim .timedOut .no t) (sim .guarded .no u)) later run
 
 -- nothing held is read as no record, and a wire without a request as one
 clerk-absent : (j : Words) (c : R.Clerk) → clerkRead j c ≡ P.none → c ≡ R.absent
@@ -255,7 +256,7 @@ gone-for-good w reach j t c l none later run =
     let sim = k .1 .1 in
     stays-over w reach j
     (record {
-      was-used = sym (sim .used) ∙ t;
+      was-used = sim .used .no t;
       clerk-none = clerk-absent j (n .clerk) (sym (sim .clerk) ∙ c);
       line-none = line-absent j (sim .active) (n .line) (sym (sim .line) ∙ l);
       no-request = no-request j (n .up) (subst NoRequest (sim .up) none);

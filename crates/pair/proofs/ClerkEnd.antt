@@ -55,10 +55,10 @@ use Rattle.clerk.specs.Steps.{made, step}
 use Rattle.clerk.specs.declared.Desk.{Desk}
 use Rattle.clerk.specs.declared.steps.Stepped.{Stepped}
 use Rattle.clerk_sound.specs.Sound.{clerkView, Reached}
-use Rattle.pair_request.specs.Wires.{callDied, rejected}
+use Rattle.pair_request.specs.Signal.{callDied, rejected}
 use Rattle.pair_request.specs.Reading as R
-use Rattle.pair.specs.World.{sentBy, done, counts}
-use Rattle.pair.proofs.Ends.{clerkStateRead, waitingRecord, liveRecord, clerkRead, letterRead, messageRead, dataOf, askRead, ClerkStep}
+use Rattle.pair.specs.World.{sentBy}
+use Rattle.pair.proofs.Ends.{done, clerkStateRead, waitingRecord, liveRecord, clerkRead, letterRead, messageRead, dataOf, askRead, ClerkStep}
 use Rattle.pair.proofs.Changes.{Own, stays, turns-found, stores, removes, Its, own-held, not-one, the-one, pick-ap}
 use Rattle.pair.proofs.Grounds.{clerk-placed, clerk-full}
 use Rattle.pair.proofs.Letters.{letter-name, ask-letter}
@@ -395,6 +395,12 @@ module _ (j : Words) (rs : List Record) where
     found-acts (R.live t kind s) (At i) e h = done-says (R.live t kind s) i (liveRecord j t kind s) e h (live-acts j i t kind s x refusal)
 
 -- ---- timers that run out
+-- T3 is no timer of the demand
+abbrev pub counts : Timer → Bool
+counts T1 = true
+counts T2 = true
+counts T3 = false
+
 abbrev ranOut : Timer → Plan → Bool
 ranOut timer plan = both (counts timer) (done (plan .outcome))
 

@@ -2,7 +2,8 @@
 use Prim.Native.Nat.{_/_}
 use mathlib.Core.Path.{_≡_, refl, sym, _∙_, ap, subst}
 use mathlib.Core.Bool.{Bool, true, false}
-use mathlib.Core.List.{List, [], _∷_}
+use mathlib.Core.List.{List, [], _∷_, _++_, List·Memᴰ as Noted}
+use borrow.Author.Tests.{eqb-true}
 use Rattle.lists.specs.Lists.{both}
 use Rattle.lists.specs.declared.words.Words.{Words}
 use Rattle.message.specs.declared.Message.{Message}
@@ -13,6 +14,7 @@ use Rattle.clerk_table.specs.declared.inputs.Act.{Act}
 use Rattle.clerk_table.specs.declared.inputs.Input.{Input}
 use Rattle.clerk_table.specs.declared.inputs.Input.the-variants as Input
 use Rattle.clerk_table.specs.declared.table.Timer.{Timer}
+use Rattle.clerk_table.specs.declared.table.Timer.the-variants.{T1, T2, T3}
 use Rattle.clerk_records.specs.Records as ClerkRecords
 use Rattle.clerk.specs.Entry.{messageEntry}
 use Rattle.clerk.specs.Steps.{step, entered, received}
@@ -21,62 +23,57 @@ use Rattle.clerk.specs.declared.steps.Stepped.{Stepped}
 use Rattle.clerk_sound.specs.Sound as Clerk
 use Rattle.clerk_sound.proofs.Reaching.{others-held}
 use Rattle.places.specs.Places as P
-use Rattle.pair_request.specs.Wires.{Signal, callDied, rejected}
+use Rattle.pair_request.specs.Signal.{Signal, callDied, rejected}
 use Rattle.pair_request.specs.Reading as R
 use Rattle.pair_request.proofs.Effects.{clerk-act-effect, signal-takes, act-plain, clerk-take-effect, take-plain}
 use Rattle.pair_request.proofs.Agree.{agreed, untaken}
-use Rattle.pair.specs.World.{World, History, Event, clerkDoes, clerkIsTold, clerkHears, clerkHolds, done, counts, clerkStepped, clerkHeard, clerkNotes, withTakenUp, withRunOut, signalLetter, has, Allowed}
-use Rattle.pair.specs.Meaning.{Heads, About, by-clerk, by-signal, to-clerk, same}
-use Rattle.pair.proofs.Ends.{clerkRead, letterRead, messageRead, Clear, dataOf, askRead, ClerkStep}
+use Rattle.pair.specs.World.{Note, World, Event, clerkDoes, clerkIsTold, clerkHears, clerkHolds, clerkStepped, clerkHeard, clerkNotes, signalLetter, Allowed}
+use Rattle.pair.specs.Demand3.{Heads, About, by-clerk, by-signal, to-clerk, same}
+use Rattle.pair.proofs.Ends.{done, clerkRead, letterRead, messageRead, Clear, dataOf, askRead, ClerkStep}
 use Rattle.pair.proofs.Letters.{letter-name, clear-kept, sent-name, clear-ask}
-use Rattle.pair.proofs.ClerkEnd.{clerk-hears, clerk-acts, clerk-reports, clerk-runs-out, AskStep, refused, stored, clerk-asks}
-use Rattle.pair.proofs.Wires.{head-own, AllClear, no-message, one-more, plain-clear, Worded, quiet, word, has-own, has-other}
-use Rattle.pair.proofs.Sim.{Sim, Known, Good, Noted, Unnoted, unnoted, about, Turned, unmoved, wired-same, wired-sent, wired-heard, turn-about, turn-none, silent, clerk-own}
+use Rattle.pair.proofs.ClerkEnd.{clerk-hears, clerk-acts, clerk-reports, counts, clerk-runs-out, AskStep, refused, stored, clerk-asks}
+use Rattle.pair.proofs.Wires.{head-own, AllClear, no-message, one-more, plain-clear, Worded, quiet, word}
+use Rattle.pair.proofs.Notes.{told-false, Notes, Unnoted, unnoted, unnoted-other, noted-ask, noted-timer}
+use Rattle.pair.proofs.Sim.{Sim, Known, Good, about, Turned, unmoved, plain-sent, wired-same, wired-sent, wired-heard, turn-about, turn-none, silent, clerk-own}
 
--- ---- what the clerk's end sends about a request: one that was taken up has an identifier that its bytes give back, one that was not is nowhere
+-- ---- what the clerk's end sends about a request
 act-clear : {p : R.Policy} {j : Words} {w : World} {n : R.Net} → Sim j w n → R.Reach p n → (x : R.CAct) → AllClear j (R.clerkActs (n .clerk) x .1)
 unfolding R.clerkActs
-act-clear {j} {n} sim r x = go (n .used) refl
-  where
-    go : (b : Bool) → n .used ≡ b → AllClear j (R.clerkActs (n .clerk) x .1)
-    go true e = plain-clear j (R.clerkActs (n .clerk) x .1) (act-plain (clerk-act-effect (n .clerk) x)) (sim .kept e)
-    go false e = subst (λ c. AllClear j (R.clerkActs c x .1)) (sym (untaken (agreed r) e .0)) no-message
+act-clear {n = n} sim r x = plain-sent sim (act-plain (clerk-act-effect (n .clerk) x)) (λ e. ap (λ c. R.clerkActs c x .1) (untaken (agreed r) e .0))
 
 take-clear : (j : Words) (c : R.Clerk) (m : R.Msg) (busy : Bool) → Clear j m → AllClear j (R.clerkTakes c m busy .1)
 take-clear j c m busy clear = plain-clear j (R.clerkTakes c m busy .1) (take-plain (clerk-take-effect c m busy)) (clear-kept j m clear)
 
--- ---- the history after an ask, a timer's report
-noted-ask : (h : History) (j : Words) → Noted (withTakenUp h true j) h j true false false false
-noted-ask h j = record { takenUp = has-own true j (h .takenUp); runOut = refl; guarded = refl; dropped = refl }
+-- ---- the history after a timer's report
+timer-notes : (h : List Note) (j : Words) (timer : Timer) (so : Bool) → Notes (clerkNotes (Input.Timer j timer) so ++ h) h j false (both (counts timer) so) false false
+timer-notes h j T1 so = noted-timer so j h
+timer-notes h j T2 so = noted-timer so j h
+timer-notes h j T3 so = unnoted h j
 
-unnoted-ask : (h : History) (k j : Words) (so : Bool) → (k ≡ j → ⊥) → Unnoted (withTakenUp h so k) h j
-unnoted-ask h k j so d = record { takenUp = has-other so k j (h .takenUp) d; runOut = refl; guarded = refl; dropped = refl }
-
-noted-timer : (h : History) (j : Words) (so : Bool) → Noted (withRunOut h so j) h j false so false false
-noted-timer h j so = record { takenUp = refl; runOut = has-own so j (h .runOut); guarded = refl; dropped = refl }
-
-unnoted-timer : (h : History) (k j : Words) (so : Bool) → (k ≡ j → ⊥) → Unnoted (withRunOut h so k) h j
-unnoted-timer h k j so d = record { takenUp = refl; runOut = has-other so k j (h .runOut) d; guarded = refl; dropped = refl }
+timer-others : (h : List Note) (k : Words) (timer : Timer) (so : Bool) (j : Words) → (k ≡ j → ⊥) → Unnoted (clerkNotes (Input.Timer k timer) so ++ h) h j
+timer-others h k T1 so j d = unnoted-other so (Note.runOut k) h j d
+timer-others h k T2 so j d = unnoted-other so (Note.runOut k) h j d
+timer-others h k T3 so j d = unnoted h j
 
 module _ {p : R.Policy} {w : World} (g : Good p w) (known : Known p w) where
   -- ---- an act, a timer's report
   acting :
-      {e : Event} (k : Words) (x : R.CAct) (input : Input) (history : History) → About w e k → namesOf input .identifier ≡ k → Clerk.Fair input →
+      {e : Event} (k : Words) (x : R.CAct) (input : Input) (notes : List Note) → About w e k → namesOf input .identifier ≡ k → Clerk.Fair input →
       ((c : R.Clerk) → clerkHolds w k ≡ clerkRead k c → ClerkStep (step (w .clerk) input) k (R.clerkActs c x)) →
-      ((n : R.Net) → Sim k w n → Noted history (w .history) k false (R.runsOut (n .clerk) x) false false) →
-      ((j : Words) → (k ≡ j → ⊥) → Unnoted history (w .history) j) → Turned p w e (clerkStepped w (w .down) (step (w .clerk) input) history)
+      ((n : R.Net) → Sim k w n → Notes (notes ++ w .history) (w .history) k false (R.runsOut (n .clerk) x) false false) →
+      ((j : Words) → (k ≡ j → ⊥) → Unnoted (notes ++ w .history) (w .history) j) → Turned p w e (clerkStepped w (w .down) (step (w .clerk) input) notes)
   unfolding R.next
-  acting k x input history named name fair steps noted unnoted =
+  acting k x input notes named name fair steps noted unnoted =
       let its = known k .1 .1 in
       let s = steps (known k .0 .clerk) (its .clerk) in
       turn-about k (about named) (Clerk.steps fair (g .clerk)) (g .line) (g .policy) (wired-sent (g .up) (s .sends) (act-clear its (known k .1 .0) x))
       (wired-same (g .down)) (λ j d. others-held (w .clerk) (g .clerk) input fair j (λ q. d (sym name ∙ q))) (λ j d. refl) unnoted
       (λ n r sim.
-      (R.clerkDoes x, (tt, clerk-own sim (sim .down) (sim .downClear) (steps (n .clerk) (sim .clerk)) (act-clear sim r x) (noted n sim) (sim .kept))))
+      (R.clerkDoes x, (tt, clerk-own sim (sim .down) (sim .downClear) notes (steps (n .clerk) (sim .clerk)) (act-clear sim r x) (noted n sim) (sim .kept))))
 
-  clerk-act : (k : Words) (act : Act) → Turned p w (clerkDoes (Input.Act k act)) (clerkStepped w (w .down) (step (w .clerk) (Input.Act k act)) (w .history))
+  clerk-act : (k : Words) (act : Act) → Turned p w (clerkDoes (Input.Act k act)) (clerkStepped w (w .down) (step (w .clerk) (Input.Act k act)) [])
   clerk-act k act =
-      acting k (R.act act) (Input.Act k act) (w .history) by-clerk refl (Clerk.acts k act) (clerk-acts (w .clerk) (g .clerk) k act)
+      acting k (R.act act) (Input.Act k act) [] by-clerk refl (Clerk.acts k act) (clerk-acts (w .clerk) (g .clerk) k act)
       (λ n sim. unnoted (w .history) k)
       (λ j d. unnoted (w .history) j)
 
@@ -84,15 +81,16 @@ module _ {p : R.Policy} {w : World} (g : Good p w) (known : Known p w) where
       (k : Words) (timer : Timer) →
       Turned p w (clerkDoes (Input.Timer k timer))
       (clerkStepped w (w .down) (step (w .clerk) (Input.Timer k timer))
-      (withRunOut (w .history) (both (counts timer) (done (step (w .clerk) (Input.Timer k timer) .outcome))) k))
+      (clerkNotes (Input.Timer k timer) (done (step (w .clerk) (Input.Timer k timer) .outcome))))
   clerk-timer k timer =
       let h = w .history in
-      let so = both (counts timer) (done (step (w .clerk) (Input.Timer k timer) .outcome)) in
-      acting k (R.timer timer) (Input.Timer k timer) (withRunOut h so k) by-clerk refl (Clerk.times k timer)
+      let so = done (step (w .clerk) (Input.Timer k timer) .outcome) in
+      acting k (R.timer timer) (Input.Timer k timer) (clerkNotes (Input.Timer k timer) so) by-clerk refl (Clerk.times k timer)
       (clerk-reports (w .clerk) (g .clerk) k timer)
       (λ n sim.
-      subst (λ t. Noted (withRunOut h so k) h k false t false false) (clerk-runs-out (w .clerk) (g .clerk) k timer (n .clerk) (sim .clerk)) (noted-timer h k so))
-      (λ j d. unnoted-timer h k j so d)
+      subst (λ t. Notes (clerkNotes (Input.Timer k timer) so ++ h) h k false t false false) (clerk-runs-out (w .clerk) (g .clerk) k timer (n .clerk) (sim .clerk))
+      (timer-notes h k timer so))
+      (timer-others h k timer so)
 
   -- ---- what the call's signalling tells
   told-step :
@@ -109,15 +107,15 @@ module _ {p : R.Policy} {w : World} (g : Good p w) (known : Known p w) where
 
   pub clerk-told :
       (x : Signal) (k : Words) (busy : Bool) →
-      Turned p w (clerkIsTold x k busy) (clerkStepped w (w .down) (step (w .clerk) (Input.Message (signalLetter x k) busy)) (w .history))
+      Turned p w (clerkIsTold x k busy) (clerkStepped w (w .down) (step (w .clerk) (Input.Message (signalLetter x k) busy)) [])
   clerk-told x k busy =
-      acting k (R.signal x) (Input.Message (signalLetter x k) busy) (w .history) by-signal (signal-name x k) (Clerk.hears (signalLetter x k) busy) (told-step k x busy)
+      acting k (R.signal x) (Input.Message (signalLetter x k) busy) [] by-signal (signal-name x k) (Clerk.hears (signalLetter x k) busy) (told-step k x busy)
       (λ n sim. unnoted (w .history) k)
       (λ j d. unnoted (w .history) j)
 
   -- ---- an ask
   module _ (names : Names) (q : Request) (once : Allowed w (clerkDoes (Input.Ask names q))) where
-    allowed : Clerk.Fair (Input.Ask names q) × (done (step (w .clerk) (Input.Ask names q) .outcome) ≡ true → has (w .history .takenUp) (names .identifier) ≡ false)
+    allowed : Clerk.Fair (Input.Ask names q) × (step (w .clerk) (Input.Ask names q) .outcome .refusal ≡ 0 → Noted (Note.takenUp (names .identifier)) (w .history) → ⊥)
     allowed = once .asked names q refl
 
     abbrev asked : Stepped
@@ -131,39 +129,40 @@ module _ {p : R.Policy} {w : World} (g : Good p w) (known : Known p w) where
         R.askStep n (dataOf names q) (q .kind) (q .flags / 2) (n .used) ≡ R.afterAsk n (dataOf names q) (q .kind) (q .flags / 2)
     unfolding R.askStep
     ask-taken so n sim =
-        let fresh : n .used ≡ false = sym (sim .used) ∙ allowed .1 so in
+        let fresh : n .used ≡ false = told-false (n .used) (sim .used) (allowed .1 (eqb-true (asked .outcome .refusal) 0 so)) in
         rw fresh
 
     clerk-ask :
         AskStep (w .clerk) names q asked →
-        Turned p w (clerkDoes (Input.Ask names q)) (clerkStepped w (w .down) asked (withTakenUp (w .history) (done (asked .outcome)) (names .identifier)))
+        Turned p w (clerkDoes (Input.Ask names q)) (clerkStepped w (w .down) asked (clerkNotes (Input.Ask names q) (done (asked .outcome))))
     unfolding R.next
     clerk-ask (refused so d s) =
         turn-none g ask-reached (g .line) (g .policy) (silent (w .up) s) refl
         (λ j. ap (λ (x : Desk). P.held Clerk.clerkView j (ClerkRecords.records (x .words))) d)
         (λ j. same)
-        (λ j. subst (λ b. Unnoted (withTakenUp (w .history) b (names .identifier)) (w .history) j) (sym so) (unnoted (w .history) j))
+        (λ j. subst (λ b. Unnoted (clerkNotes (Input.Ask names q) b ++ w .history) (w .history) j) (sym so) (unnoted (w .history) j))
     clerk-ask (stored so s) =
         let k = names .identifier in
         let clear : AllClear k (askRead names q ∷ []) = one-more (clear-ask names q (allowed .0)) no-message in
-        let noted : Noted (withTakenUp (w .history) (done (asked .outcome)) k) (w .history) k true false false false =
-        subst (λ b. Noted (withTakenUp (w .history) b k) (w .history) k true false false false) (sym so) (noted-ask (w .history) k) in
+        let notes = clerkNotes (Input.Ask names q) (done (asked .outcome)) in
+        let its : Notes (notes ++ w .history) (w .history) k true false false false =
+        subst (λ b. Notes (clerkNotes (Input.Ask names q) b ++ w .history) (w .history) k true false false false) (sym so) (noted-ask k (w .history)) in
         turn-about k (about by-clerk) ask-reached (g .line) (g .policy) (wired-sent (g .up) (s .sends) clear) (wired-same (g .down))
         (others-held (w .clerk) (g .clerk) (Input.Ask names q) (allowed .0)) (λ j d. refl)
-        (λ j d. unnoted-ask (w .history) k j (done (asked .outcome)) d)
+        (unnoted-other (done (asked .outcome)) (Note.takenUp k) (w .history))
         (λ n r sim. (
           R.asks (dataOf names q) (q .kind) (q .flags / 2),
           (
             tt,
-            subst (Sim k (clerkStepped w (w .down) asked (withTakenUp (w .history) (done (asked .outcome)) k))) (sym (ask-taken so n sim))
-                (clerk-own sim (sim .down) (sim .downClear) s clear noted (λ e. clear-kept k (askRead names q) (clear-ask names q (allowed .0)))),
+            subst (Sim k (clerkStepped w (w .down) asked notes)) (sym (ask-taken so n sim))
+                (clerk-own sim (sim .down) (sim .downClear) notes s clear its (λ e. clear-kept k (askRead names q) (clear-ask names q (allowed .0)))),
           ),
         ))
 
   -- ---- every input that a host gives
   pub clerk-does :
       (input : Input) → Allowed w (clerkDoes input) →
-      Turned p w (clerkDoes input) (clerkStepped w (w .down) (step (w .clerk) input) (clerkNotes (w .history) input (done (step (w .clerk) input .outcome))))
+      Turned p w (clerkDoes input) (clerkStepped w (w .down) (step (w .clerk) input) (clerkNotes input (done (step (w .clerk) input .outcome))))
   clerk-does (Input.Ask names q) allowed = clerk-ask names q allowed (clerk-asks (w .clerk) (g .clerk) names q)
   clerk-does (Input.Message l busy) never = absurd (never .toClerk l busy refl)
   clerk-does (Input.Act k act) allowed = clerk-act k act
@@ -203,8 +202,8 @@ module _ {p : R.Policy} {w : World} (g : Good p w) (known : Known p w) where
         R.clerkGets busy,
         (
           tt,
-          subst (λ y. Sim k (clerkStepped w rest (received (w .clerk) (messageRead k c) busy) (w .history)) (R.clerkGetStep n busy y)) (sym (h .whole))
-              (clerk-own sim (h .tail) (h .others) (hears-step busy k (h .code) (h .same) (h .clear) (n .clerk) (sim .clerk))
+          subst (λ y. Sim k (clerkStepped w rest (received (w .clerk) (messageRead k c) busy) []) (R.clerkGetStep n busy y)) (sym (h .whole))
+              (clerk-own sim (h .tail) (h .others) [] (hears-step busy k (h .code) (h .same) (h .clear) (n .clerk) (sim .clerk))
               (take-clear k (n .clerk) (h .code) busy (h .clear)) (unnoted (w .history) k) (sim .kept)),
         ),
       ))

@@ -2,7 +2,6 @@
 use Rattle.pair.specs.Demand3.{Demand3}
 use Rattle.pair.proofs.Claims.{acknowledged-was-accepted, data-agree, kind-agrees, quiet-listed, over-for-good, gone-for-good}
 use Rattle.pair.proofs.Others.{no-other-altered, no-other-message}
-use Rattle.pair.proofs.AsBytes.{heard-as-bytes}
 
 pub demand-3 : Demand3
 demand-3 =
@@ -15,5 +14,4 @@ demand-3 =
       goneForGood = gone-for-good;
       noOtherAltered = no-other-altered;
       noOtherMessage = no-other-message;
-      heardAsBytes = heard-as-bytes;
     }

@@ -3,6 +3,7 @@ use Prim.Native.Nat.{ℕ, _/_}
 use mathlib.Core.Path.{_≡_}
 use mathlib.Core.Bool.{Bool, true, false}
 use mathlib.Core.List.{List, map}
+use lib.Dec.{eqb}
 use Rattle.lists.specs.Choice.{pick}
 use Rattle.lists.specs.Words.{wordsOf, bytesOf}
 use Rattle.lists.specs.declared.words.Words.{Words}
@@ -18,6 +19,7 @@ use Rattle.desk.specs.declared.Connection.the-variants as Connection
 use Rattle.desk.specs.declared.Keep.{Keep}
 use Rattle.desk.specs.declared.Keep.the-variants as Keep
 use Rattle.desk.specs.declared.letter.Letter.{Letter}
+use Rattle.desk.specs.declared.outcome.Outcome.{Outcome}
 use Rattle.terms.specs.Request.{canKeepSent, requestLetter}
 use Rattle.terms.specs.declared.Terms.{Terms}
 use Rattle.terms.specs.declared.request.Names.{Names}
@@ -41,6 +43,10 @@ use Rattle.line.specs.declared.steps.Stepped as LineStepped
 use Rattle.line_sound.specs.Sound.{lineView}
 use Rattle.pair_request.specs.Reading as R
 use Rattle.pair.specs.World.{sentBy}
+
+-- a step that is not refused
+abbrev pub done : Outcome → Bool
+done outcome = eqb (outcome .refusal) 0
 
 -- ---- choices and states
 abbrev pub keepRead : Bool → Keep

@@ -1,8 +1,8 @@
 -- What the laws of each desk give to a world: a reached desk has its records placed and all its words, a step leaves the requests that it does not name, and a started desk holds nothing.
-use Prim.Native.Nat.{ℕ, suc}
-use mathlib.Core.Path.{_≡_, refl, _∙_, ap}
-use mathlib.Core.Bool.{Bool, false}
-use mathlib.Core.List.{List, [], _∷_}
+use Prim.Native.Nat.{ℕ}
+use mathlib.Core.Path.{_≡_, _∙_, ap}
+use mathlib.Core.Bool.{Bool}
+use mathlib.Core.List.{List}
 use lib.ListN.{length}
 use Rattle.lists.specs.declared.words.Words.{Words}
 use Rattle.places.specs.Places as P

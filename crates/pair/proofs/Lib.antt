@@ -3,6 +3,7 @@ pub mod Changes
 pub mod Grounds
 pub mod Letters
 pub mod Wires
+pub mod Notes
 pub mod ClerkEnd
 pub mod LineRows
 pub mod LineChanges
@@ -14,5 +15,4 @@ pub mod LineSteps
 pub mod Runs
 pub mod Claims
 pub mod Others
-pub mod AsBytes
 pub mod Demand3

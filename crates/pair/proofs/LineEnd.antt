@@ -53,8 +53,7 @@ use Rattle.line.specs.Steps.{made, step}
 use Rattle.line.specs.declared.Desk.{Desk}
 use Rattle.line_sound.specs.Sound.{lineView, Reached}
 use Rattle.pair_request.specs.Reading as R
-use Rattle.pair.specs.World.{done}
-use Rattle.pair.proofs.Ends.{keepRead, lineRecord, lineRead, namesRead, requestRead, letterRead, lineActRead, policyOf, LineStep}
+use Rattle.pair.proofs.Ends.{done, keepRead, lineRecord, lineRead, namesRead, requestRead, letterRead, lineActRead, policyOf, LineStep}
 use Rattle.pair.proofs.Changes.{stays, stores, not-one, pick-ap}
 use Rattle.pair.proofs.LineRows.{Answers, wordOf, nothing-done, recordMessage, rowPlan, record-found, record-missed, ownRow, own-missed, act-found, guard-found, request-stored, request-denied}
 use Rattle.pair.proofs.LineChanges.{OwnChange, found-read, own-row, Does, plan-step, missed-does, found-does}

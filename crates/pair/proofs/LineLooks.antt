@@ -12,7 +12,7 @@ use Rattle.lists.specs.declared.Found.the-variants.{At, Nothing}
 use Rattle.lists.specs.declared.words.Words.{Words}
 use Rattle.lists.proofs.Choice.{pick-elim}
 use Rattle.lists.proofs.Lists.{both-parts, first-holds}
-use Rattle.desk.specs.declared.outcome.Sending.the-variants as Sending
+use Rattle.desk.specs.declared.outcome.Sending.{Sending}
 use Rattle.desk.specs.declared.sends.Sends.the-variants as Sends
 use Rattle.places.specs.Places as P
 use Rattle.places.proofs.Holding.{meant-own, held-put-other, held-change}
@@ -42,7 +42,7 @@ use Rattle.line_sound.specs.Sound.{lineView, Reached}
 use Rattle.line_sound.proofs.Changes.{marking-used, marking-name}
 use Rattle.pair_request.specs.Reading as R
 use Rattle.pair.specs.World.{lineDoes}
-use Rattle.pair.specs.Meaning.{Sends, Unaltered, same, marked}
+use Rattle.pair.specs.Demand3.{Unaltered, same, marked}
 use Rattle.pair.proofs.Ends.{lineRead, LineStep}
 use Rattle.pair.proofs.Grounds.{line-placed, line-full}
 use Rattle.pair.proofs.LineRows.{offer-found}
@@ -87,11 +87,16 @@ fits-invoked : (number : Words) (r : Record) → fits number r ≡ true → invo
 fits-invoked number r e =
     both-parts (invoked (r .state)) (sameWords (r .terms .numberB) number) (both-parts (marks number r) (fitsKind (r .terms .kind) (r .active)) e .0) .0
 
+-- what is sent is of a request
+abbrev pub SentOf : Sending → Words → Type 0
+SentOf Sending.Nothing j = ⊥
+SentOf (Sending.Send l) j = l .identifier ≡ j
+
 -- nothing is offered, or one request is
 pub data Looked (d : Desk) (number : Words) (after : Stepped) : Type 0 where
   nothing : after .desk ≡ d → after .outcome .sending ≡ Sending.Nothing → Looked d number after
   offers :
-      (j : Words) → Sends (after .outcome .sending) j →
+      (j : Words) → SentOf (after .outcome .sending) j →
       ((l : R.Line) (b : Bool) → P.held lineView j (records (d .words)) ≡ lineRead j b l → LineStep after j (R.lineActs l R.offers)) →
       ((other : Words) → (j ≡ other → ⊥) →
       P.held lineView other (records (after .desk .words)) ≡ P.held lineView other (records (d .words))) → Looked d number after

@@ -2,11 +2,12 @@
 use Prim.Native.Nat.{ℕ}
 use mathlib.Core.Path.{_≡_, refl, sym, _∙_, ap, subst}
 use mathlib.Core.Bool.{Bool, true, false}
-use mathlib.Core.List.{List, [], _∷_}
+use mathlib.Core.List.{List, [], _∷_, _++_}
 use Rattle.lists.specs.declared.words.Words.{Words}
 use Rattle.lists.proofs.WordsLaws.{length-bytesOf, bytes-bytesOf}
 use Rattle.message.specs.declared.Message.{Message}
 use Rattle.desk.specs.Letter.{messageOf}
+use Rattle.desk.specs.declared.outcome.Sending.{Sending}
 use Rattle.places.specs.Places as P
 use Rattle.line_table.specs.declared.inputs.Act.{Act}
 use Rattle.line_table.specs.declared.inputs.Act.the-variants as Act
@@ -20,39 +21,28 @@ use Rattle.line.specs.declared.Desk.{Desk}
 use Rattle.line.specs.declared.steps.Stepped.{Stepped}
 use Rattle.line_sound.specs.Sound as Line
 use Rattle.line_sound.proofs.Reaching.{others-held}
-use Rattle.pair_request.specs.Wires.{leftOut}
 use Rattle.pair_request.specs.Reading as R
 use Rattle.pair_request.proofs.Effects.{line-act-effect, line-act-plain, line-take-effect, line-take-plain}
 use Rattle.pair_request.proofs.Agree.{agreed, untaken}
-use Rattle.pair.specs.World.{World, History, Event, lineDoes, lineHears, dropsUp, dropsDown, lineHolds, done, lineStepped, lineHeard, lineNotes, next, withGuarded, Allowed}
-use Rattle.pair.specs.Meaning.{Heads, About, by-act, by-guard, by-look, by-line, to-line, Drops, from-up, from-down, Unaltered, same}
-use Rattle.pair.proofs.Ends.{lineRead, letterRead, messageRead, Clear, lineActRead, policyOf, LineStep}
+use Rattle.pair.specs.World.{Note, World, Event, lineDoes, lineHears, dropsUp, dropsDown, lineHolds, lineStepped, lineHeard, lineNotes, next, Allowed}
+use Rattle.pair.specs.Demand3.{Heads, About, by-act, by-guard, by-look, to-line, Drops, from-up, from-down, Unaltered, same}
+use Rattle.pair.proofs.Ends.{done, lineRead, letterRead, messageRead, Clear, lineActRead, policyOf, LineStep}
 use Rattle.pair.proofs.Letters.{letter-name, clear-kept, sent-name}
 use Rattle.pair.proofs.LineChanges.{policy-kept}
 use Rattle.pair.proofs.LineEnd.{line-hears, line-acts, line-guards, guard-ends}
-use Rattle.pair.proofs.LineLooks.{Looked, nothing, offers, line-looks, Reported, line-reports}
-use Rattle.pair.proofs.Wires.{head-own, AllClear, no-message, plain-clear, Worded, quiet, word, LeftOut, nothing-lost, one-lost, left-out, has-own, has-other}
+use Rattle.pair.proofs.LineLooks.{SentOf, Looked, nothing, offers, line-looks, Reported, line-reports}
+use Rattle.pair.proofs.Wires.{head-own, AllClear, plain-clear, Worded, quiet, word, without, LeftOut, nothing-lost, one-lost, left-out}
 use Rattle.pair.proofs.Grounds.{line-full}
-use Rattle.pair.proofs.Sim.{Sim, Known, Good, Noted, Unnoted, unnoted, Moves, about, loses, Turned, unmoved, Wired, wired-same, wired-sent, wired-heard, turn-about, turn-none, silent, line-own, lossy, lost-own}
+use Rattle.pair.proofs.Notes.{Notes, Unnoted, unnoted, unnoted-other, noted-guard}
+use Rattle.pair.proofs.Sim.{Sim, Known, Good, Moves, about, loses, Turned, unmoved, plain-sent, Wired, wired-same, wired-sent, wired-heard, turn-about, turn-none, silent, line-own, lossy, lost-own}
 
--- ---- what the line's end sends about a request: one that was taken up has an identifier that its bytes give back, one that was not is nowhere
+-- ---- what the line's end sends about a request
 line-act-clear : {p : R.Policy} {j : Words} {w : World} {n : R.Net} → Sim j w n → R.Reach p n → (x : R.LAct) → AllClear j (R.lineActs (n .line) x .1)
 unfolding R.lineActs
-line-act-clear {j} {n} sim r x = go (n .used) refl
-  where
-    go : (b : Bool) → n .used ≡ b → AllClear j (R.lineActs (n .line) x .1)
-    go true e = plain-clear j (R.lineActs (n .line) x .1) (line-act-plain (line-act-effect (n .line) x)) (sim .kept e)
-    go false e = subst (λ l. AllClear j (R.lineActs l x .1)) (sym (untaken (agreed r) e .1)) no-message
+line-act-clear {n = n} sim r x = plain-sent sim (line-act-plain (line-act-effect (n .line) x)) (λ e. ap (λ l. R.lineActs l x .1) (untaken (agreed r) e .1))
 
 take-clear : (p : R.Policy) (j : Words) (l : R.Line) (m : R.Msg) (x : R.Word) → Clear j m → AllClear j (R.lineTakes p l m x .1)
 take-clear p j l m x clear = plain-clear j (R.lineTakes p l m x .1) (line-take-plain (line-take-effect p l m x)) (clear-kept j m clear)
-
--- ---- the history after a guard's report
-noted-guard : (h : History) (j : Words) (so : Bool) → Noted (withGuarded h so j) h j false false so false
-noted-guard h j so = record { takenUp = refl; runOut = refl; guarded = has-own so j (h .guarded); dropped = refl }
-
-unnoted-guard : (h : History) (k j : Words) (so : Bool) → (k ≡ j → ⊥) → Unnoted (withGuarded h so k) h j
-unnoted-guard h k j so d = record { takenUp = refl; runOut = refl; guarded = has-other so k j (h .guarded) d; dropped = refl }
 
 -- an act and a Look are no guard
 act-no-guard : (l : R.Line) (act : Act) → R.guardEnds l (lineActRead act) ≡ false
@@ -86,56 +76,64 @@ module _ {p : R.Policy} {w : World} (g : Good p w) (known : Known p w) where
 
   -- ---- an act, the guard's report, an offer
   acting :
-      (k : Words) (x : R.LAct) (input : Input) (history : History) → About w (lineDoes input) k → Line.Fair input →
+      (k : Words) (x : R.LAct) (input : Input) (notes : List Note) → About w (lineDoes input) k → Line.Fair input →
       ((l : R.Line) (b : Bool) → lineHolds w k ≡ lineRead k b l → LineStep (step (w .line) input) k (R.lineActs l x)) →
       ((j : Words) → (k ≡ j → ⊥) → P.held Line.lineView j (records (step (w .line) input .desk .words)) ≡ lineHolds w j) →
-      ((n : R.Net) → Sim k w n → Noted history (w .history) k false false (R.guardEnds (n .line) x) false) →
-      ((j : Words) → (k ≡ j → ⊥) → Unnoted history (w .history) j) → Turned p w (lineDoes input) (lineStepped w (w .up) (step (w .line) input) history)
+      ((n : R.Net) → Sim k w n → Notes (notes ++ w .history) (w .history) k false false (R.guardEnds (n .line) x) false) →
+      ((j : Words) → (k ≡ j → ⊥) → Unnoted (notes ++ w .history) (w .history) j) → Turned p w (lineDoes input) (lineStepped w (w .up) (step (w .line) input) notes)
   unfolding R.next
-  acting k x input history named fair steps others noted unnoted =
+  acting k x input notes named fair steps others noted unnoted =
       let its = known k .1 .1 in
       let s = steps (known k .0 .line) (its .active) (its .line) in
       turn-about k (about named) (g .clerk) (Line.steps fair (g .line)) (policy-step input) (wired-same (g .up))
       (wired-sent (g .down) (s .sends) (line-act-clear its (known k .1 .0) x)) (λ j d. refl) others unnoted
       (λ n r sim.
-      (R.lineDoes x, (tt, line-own sim (sim .up) (sim .upClear) (steps (n .line) (sim .active) (sim .line)) (line-act-clear sim r x) (noted n sim))))
+      (R.lineDoes x, (tt, line-own sim (sim .up) (sim .upClear) notes (steps (n .line) (sim .active) (sim .line)) (line-act-clear sim r x) (noted n sim))))
 
-  line-act : (k : Words) (act : Act) → Turned p w (lineDoes (Input.Act k act)) (lineStepped w (w .up) (step (w .line) (Input.Act k act)) (w .history))
+  line-act : (k : Words) (act : Act) → Turned p w (lineDoes (Input.Act k act)) (lineStepped w (w .up) (step (w .line) (Input.Act k act)) [])
   line-act k act =
-      acting k (lineActRead act) (Input.Act k act) (w .history) (by-line by-act) (Line.acts k act) (line-acts (w .line) (g .line) k act)
+      acting k (lineActRead act) (Input.Act k act) [] by-act (Line.acts k act) (line-acts (w .line) (g .line) k act)
       (others-held (w .line) (g .line) (Input.Act k act) (Line.acts k act) tt)
-      (λ n sim. subst (λ t. Noted (w .history) (w .history) k false false t false) (sym (act-no-guard (n .line) act)) (unnoted (w .history) k))
+      (λ n sim. subst (λ t. Notes (w .history) (w .history) k false false t false) (sym (act-no-guard (n .line) act)) (unnoted (w .history) k))
       (λ j d. unnoted (w .history) j)
 
   line-guard :
       (k : Words) →
       Turned p w (lineDoes (Input.Guard k))
-      (lineStepped w (w .up) (step (w .line) (Input.Guard k)) (withGuarded (w .history) (done (step (w .line) (Input.Guard k) .outcome)) k))
+      (lineStepped w (w .up) (step (w .line) (Input.Guard k)) (lineNotes (Input.Guard k) (done (step (w .line) (Input.Guard k) .outcome))))
   line-guard k =
       let h = w .history in
       let so = done (step (w .line) (Input.Guard k) .outcome) in
-      acting k R.guard (Input.Guard k) (withGuarded h so k) (by-line by-guard) (Line.guards k) (line-guards (w .line) (g .line) k)
+      acting k R.guard (Input.Guard k) (lineNotes (Input.Guard k) so) by-guard (Line.guards k) (line-guards (w .line) (g .line) k)
       (others-held (w .line) (g .line) (Input.Guard k) (Line.guards k) tt)
       (λ n sim.
-      subst (λ t. Noted (withGuarded h so k) h k false false t false) (guard-ends (w .line) k (n .line) (sim .active) (sim .line)) (noted-guard h k so))
-      (λ j d. unnoted-guard h k j so d)
+      subst (λ t. Notes (lineNotes (Input.Guard k) so ++ h) h k false false t false) (guard-ends (w .line) k (n .line) (sim .active) (sim .line))
+      (noted-guard so k h))
+      (unnoted-other so (Note.guarded k) h)
+
+  -- a Look is about the request that it offers
+  look-about :
+      (number k : Words) (sending : Sending) → step (w .line) (Input.Look number) .outcome .sending ≡ sending → SentOf sending k →
+      About w (lineDoes (Input.Look number)) k
+  look-about number k Sending.Nothing e sends = absurd sends
+  look-about number k (Sending.Send l) e sends = subst (About w (lineDoes (Input.Look number))) sends (by-look e)
 
   line-look :
       (number : Words) → Looked (w .line) number (step (w .line) (Input.Look number)) →
-      Turned p w (lineDoes (Input.Look number)) (lineStepped w (w .up) (step (w .line) (Input.Look number)) (w .history))
+      Turned p w (lineDoes (Input.Look number)) (lineStepped w (w .up) (step (w .line) (Input.Look number)) [])
   line-look number (nothing d s) =
       turn-none g (g .clerk) (Line.steps (Line.looks number) (g .line)) (policy-step (Input.Look number)) refl (silent (w .down) s)
       (λ j. refl)
       (λ j. subst (λ (x : Desk). Unaltered (lineDoes (Input.Look number)) (lineHolds w j) (P.held Line.lineView j (records (x .words)))) (sym d) same)
       (unnoted (w .history))
   line-look number (offers k puts steps others) =
-      acting k R.offers (Input.Look number) (w .history) (by-line (by-look puts)) (Line.looks number) steps others
-      (λ n sim. subst (λ t. Noted (w .history) (w .history) k false false t false) (sym (look-no-guard (n .line))) (unnoted (w .history) k))
+      acting k R.offers (Input.Look number) [] (look-about number k _ refl puts) (Line.looks number) steps others
+      (λ n sim. subst (λ t. Notes (w .history) (w .history) k false false t false) (sym (look-no-guard (n .line))) (unnoted (w .history) k))
       (λ j d. unnoted (w .history) j)
 
   line-report :
       (number : Words) (busy : Bool) → Reported (w .line) number busy (step (w .line) (Input.Report number busy)) →
-      Turned p w (lineDoes (Input.Report number busy)) (lineStepped w (w .up) (step (w .line) (Input.Report number busy)) (w .history))
+      Turned p w (lineDoes (Input.Report number busy)) (lineStepped w (w .up) (step (w .line) (Input.Report number busy)) [])
   line-report number busy s =
       turn-none g (g .clerk) (Line.steps (Line.reports number busy) (g .line)) (policy-step (Input.Report number busy)) refl (silent (w .down) (s .silent))
       (λ j. refl) (s .unaltered) (unnoted (w .history))
@@ -143,7 +141,7 @@ module _ {p : R.Policy} {w : World} (g : Good p w) (known : Known p w) where
   -- ---- every input that a host gives
   pub line-does :
       (input : Input) → Allowed w (lineDoes input) →
-      Turned p w (lineDoes input) (lineStepped w (w .up) (step (w .line) input) (lineNotes (w .history) input (done (step (w .line) input .outcome))))
+      Turned p w (lineDoes input) (lineStepped w (w .up) (step (w .line) input) (lineNotes input (done (step (w .line) input .outcome))))
   line-does (Input.Message l) never = absurd (never .toLine l refl)
   line-does (Input.Act k act) allowed = line-act k act
   line-does (Input.Guard k) allowed = line-guard k
@@ -196,8 +194,8 @@ module _ {p : R.Policy} {w : World} (g : Good p w) (known : Known p w) where
         R.lineGets (t .0),
         (
           (refl, head),
-          subst (λ y. Sim k (lineStepped w rest (received (w .line) (messageRead k c)) (w .history)) (R.lineGetStep p n (t .0) y)) (sym (h .whole))
-              (line-own sim (h .tail) (h .others) (t .1 (n .line) (sim .active) (sim .line)) (take-clear p k (n .line) (h .code) (t .0) (h .clear))
+          subst (λ y. Sim k (lineStepped w rest (received (w .line) (messageRead k c)) []) (R.lineGetStep p n (t .0) y)) (sym (h .whole))
+              (line-own sim (h .tail) (h .others) [] (t .1 (n .line) (sim .active) (sim .line)) (take-clear p k (n .line) (h .code) (t .0) (h .clear))
               (unnoted (w .history) k)),
         ),
       ))
@@ -208,7 +206,7 @@ module _ {p : R.Policy} {w : World} (g : Good p w) (known : Known p w) where
       ((n : R.Net) → R.Reach p n → Sim k w n → Moves p w e (lossy w up down k) k n) → Turned p w e (lossy w up down k)
   drop-turn k up down drops wiredUp wiredDown =
       turn-about k (loses drops refl refl) (g .clerk) (g .line) (g .policy) wiredUp wiredDown (λ j d. refl) (λ j d. refl)
-      (λ j d. record { takenUp = refl; runOut = refl; guarded = refl; dropped = has-other true k j (w .history .dropped) d })
+      (unnoted-other true (Note.dropped k) (w .history))
 
   pub drop-up : (i : ℕ) → Turned p w (dropsUp i) (next w (dropsUp i))
   unfolding next R.next
@@ -218,7 +216,7 @@ module _ {p : R.Policy} {w : World} (g : Good p w) (known : Known p w) where
       by (nothing-lost e n) = rw (e, n) (unmoved g)
       by (one-lost k n h worded others own) =
           rw n
-          (drop-turn k (leftOut i (w .up)) (w .down) (from-up h) (record { worded = worded; others = others }) (wired-same (g .down))
+          (drop-turn k (without i (w .up)) (w .down) (from-up h) (record { worded = worded; others = others }) (wired-same (g .down))
           (λ m r sim.
           let l = own (m .up) (sim .upClear) (sim .up) in
           (R.losesUp (l .0), (tt, lost-own sim (l .1 .0) (l .1 .1) (sim .down) (sim .downClear)))))
@@ -231,7 +229,7 @@ module _ {p : R.Policy} {w : World} (g : Good p w) (known : Known p w) where
       by (nothing-lost e n) = rw (e, n) (unmoved g)
       by (one-lost k n h worded others own) =
           rw n
-          (drop-turn k (w .up) (leftOut i (w .down)) (from-down h) (wired-same (g .up)) (record { worded = worded; others = others })
+          (drop-turn k (w .up) (without i (w .down)) (from-down h) (wired-same (g .up)) (record { worded = worded; others = others })
           (λ m r sim.
           let l = own (m .down) (sim .downClear) (sim .down) in
           (R.losesDown (l .0), (tt, lost-own sim (sim .up) (sim .upClear) (l .1 .0) (l .1 .1)))))

@@ -3,21 +3,24 @@ use mathlib.Core.Path.{_≡_, sym, subst}
 use mathlib.Core.Logic.{_⊎_, inl, inr}
 use Rattle.lists.specs.declared.words.Words.{Words}
 use Rattle.pair_request.specs.Reading as R
-use Rattle.pair.specs.World.{World, Event, next}
-use Rattle.pair.specs.Meaning.{About, Drops, Unaltered, same, Untouched}
+use Rattle.pair.specs.World.{World, Event, clerkHolds, lineHolds, next}
+use Rattle.pair.specs.Demand3.{About, Drops, Unaltered, same}
 use Rattle.pair.specs.Demand3.{NoOtherAltered, NoOtherMessage}
 use Rattle.pair.proofs.Wires.{words?}
 use Rattle.pair.proofs.Sim.{Left, Named, about, loses, Turn, nobody, somebody}
 use Rattle.pair.proofs.Runs.{turned}
 use Rattle.pair.proofs.Claims.{known-world}
 
+abbrev Untouched : World → Event → Words → Type 0
+Untouched w e j = (clerkHolds (next w e) j ≡ clerkHolds w j) × Unaltered e (lineHolds w j) (lineHolds (next w e) j)
+
 left-untouched : {w : World} {e : Event} {j : Words} → Left w e (next w e) j → Untouched w e j
-left-untouched left = record { clerk = left .clerk; line = left .line }
+left-untouched left = (left .clerk, left .line)
 
 -- a request that is named, where the step is not about it: it loses a message and keeps its records
 named-untouched : {w : World} {e : Event} {j : Words} → Named w e (next w e) j → (About w e j → ⊥) → Untouched w e j
 named-untouched (about a) h = absurd (h a)
-named-untouched {w} {e} (loses d clerk line) h = record { clerk = clerk; line = subst (Unaltered e _) (sym line) same }
+named-untouched {w} {e} (loses d clerk line) h = (clerk, subst (Unaltered e _) (sym line) same)
 
 named-left : {w : World} {e : Event} {after : World} {j : Words} {A : Type 0} → Named w e after j → (About w e j → ⊥) → (Drops w e j → ⊥) → A
 named-left (about a) h d = absurd (h a)

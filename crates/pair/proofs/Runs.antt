@@ -10,9 +10,10 @@ use Rattle.clerk_sound.specs.Sound as ClerkSound
 use Rattle.line.specs.Start.{started}
 use Rattle.line_sound.specs.Sound as LineSound
 use Rattle.pair_request.specs.Reading as R
-use Rattle.pair.specs.World.{World, Event, clerkDoes, lineDoes, clerkIsTold, clerkHears, lineHears, dropsUp, dropsDown, messagesOf, has, next, Allowed, Run, stop, then, startWorld}
+use Rattle.pair.specs.World.{World, Event, clerkDoes, lineDoes, clerkIsTold, clerkHears, lineHears, dropsUp, dropsDown, messagesOf, next, Allowed, Run, stop, then, startWorld}
 use Rattle.pair.proofs.Ends.{policyOf}
 use Rattle.pair.proofs.Wires.{words?, no-message, quiet}
+use Rattle.pair.proofs.Notes.{told-none}
 use Rattle.pair.proofs.Grounds.{clerk-started, line-started}
 use Rattle.pair.proofs.Sim.{Sim, Known, Good, Hearing, Moves, Turn, nobody, somebody, Turned, left-sim}
 use Rattle.pair.proofs.ClerkSteps.{clerk-does, clerk-told, clerk-hear}
@@ -72,7 +73,7 @@ good-start given keep retain b =
     record { clerk = ClerkSound.starts; line = LineSound.starts given keep retain b; policy = refl; up = quiet; down = quiet }
 
 pub start-sim : (given : List ℕ) (keep retain : Bool) (j : Words) → Sim j (startWorld given keep retain) R.start
-unfolding messagesOf has
+unfolding messagesOf
 start-sim given keep retain j =
     record {
       clerk = clerk-started j;
@@ -83,10 +84,10 @@ start-sim given keep retain j =
       upClear = no-message;
       downClear = no-message;
       kept = λ e. absurd (false≢true e);
-      used = refl;
-      timedOut = refl;
-      guarded = refl;
-      dropped = refl;
+      used = told-none _;
+      timedOut = told-none _;
+      guarded = told-none _;
+      dropped = told-none _;
     }
 
 pub known-start : (given : List ℕ) (keep retain : Bool) → Known (startPolicy given keep retain) (startWorld given keep retain)

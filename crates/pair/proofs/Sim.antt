@@ -14,11 +14,13 @@ use Rattle.line_records.specs.Change.{activated}
 use Rattle.line.specs.declared.steps.Stepped as LineStepped
 use Rattle.line_sound.specs.Sound as LineSound
 use Rattle.pair_request.specs.Reading as R
-use Rattle.pair.specs.World.{World, History, Event, lineHears, clerkHolds, lineHolds, nameOf, messagesOf, has, sentBy, withDropped, clerkStepped, lineStepped, next}
-use Rattle.pair.specs.Meaning.{Heads, About, Drops, Unaltered, same, marked}
+use Rattle.pair_request.specs.Listed.{NoReq}
+use Rattle.pair.specs.World.{Note, World, Event, lineHears, clerkHolds, lineHolds, nameOf, messagesOf, sentBy, clerkStepped, lineStepped, next}
+use Rattle.pair.specs.Demand3.{Heads, About, Drops, Unaltered, same, marked}
 use Rattle.pair.proofs.Ends.{clerkRead, lineRecord, lineRead, messageRead, Kept, policyOf, ClerkStep, LineStep}
 use Rattle.pair.proofs.Changes.{not-one, the-one}
-use Rattle.pair.proofs.Wires.{messages-append, head-other, AllClear, clear-append, messages-own, messages-other, Worded, worded-append, worded-sent, has-own}
+use Rattle.pair.proofs.Wires.{messages-append, head-other, AllClear, no-message, plain-clear, clear-append, messages-own, messages-other, Worded, worded-append, worded-sent}
+use Rattle.pair.proofs.Notes.{Told, Notes, Unnoted, unnoted, noted-drop}
 
 pub record Sim (j : Words) (w : World) (n : R.Net) : Type 0 where
   pub clerk : clerkHolds w j ≡ clerkRead j (n .clerk)
@@ -29,10 +31,10 @@ pub record Sim (j : Words) (w : World) (n : R.Net) : Type 0 where
   pub upClear : AllClear j (n .up)
   pub downClear : AllClear j (n .down)
   pub kept : n .used ≡ true → Kept j
-  pub used : has (w .history .takenUp) j ≡ n .used
-  pub timedOut : has (w .history .runOut) j ≡ n .timedOut
-  pub guarded : has (w .history .guarded) j ≡ n .guarded
-  pub dropped : has (w .history .dropped) j ≡ n .dropped
+  pub used : Told (Note.takenUp j) (w .history) (n .used)
+  pub timedOut : Told (Note.runOut j) (w .history) (n .timedOut)
+  pub guarded : Told (Note.guarded j) (w .history) (n .guarded)
+  pub dropped : Told (Note.dropped j) (w .history) (n .dropped)
 
 -- every identifier of the world has its net
 abbrev pub Known : R.Policy → World → Type 0
@@ -45,19 +47,6 @@ pub record Good (p : R.Policy) (w : World) : Type 0 where
   pub policy : policyOf (w .line .words) ≡ p
   pub up : Worded (w .up)
   pub down : Worded (w .down)
-
--- ---- the history of one identifier after a step: whether it was taken up, ran out, was guarded, lost a message
-pub record Noted (after before : History) (j : Words) (u t g x : Bool) : Type 0 where
-  pub takenUp : has (after .takenUp) j ≡ R.or u (has (before .takenUp) j)
-  pub runOut : has (after .runOut) j ≡ R.or t (has (before .runOut) j)
-  pub guarded : has (after .guarded) j ≡ R.or g (has (before .guarded) j)
-  pub dropped : has (after .dropped) j ≡ R.or x (has (before .dropped) j)
-
-abbrev pub Unnoted : History → History → Words → Type 0
-Unnoted after before j = Noted after before j false false false false
-
-pub unnoted : (h : History) (j : Words) → Unnoted h h j
-unnoted h j = record { takenUp = refl; runOut = refl; guarded = refl; dropped = refl }
 
 -- ---- what a step makes of a request
 -- of one that it leaves: nothing, except that a busy report may mark its activity
@@ -175,6 +164,14 @@ turn-none g clerk line policy up down clerks lines notes = (
 pub unmoved : {p : R.Policy} {w : World} {e : Event} → Good p w → Turned p w e w
 unmoved {w = w} g = turn-none g (g .clerk) (g .line) (g .policy) refl refl (λ j. refl) (λ j. same) (unnoted (w .history))
 
+-- what is sent about a request: one that was taken up has an identifier that its bytes give back, one that was not is nowhere
+pub plain-sent : {j : Words} {w : World} {n : R.Net} {ms : List R.Msg} → Sim j w n → NoReq ms → (n .used ≡ false → ms ≡ []) → AllClear j ms
+plain-sent {j} {n = n} {ms} sim plain nowhere = go (n .used) refl
+  where
+    go : (b : Bool) → n .used ≡ b → AllClear j ms
+    go true e = plain-clear j ms plain (sim .kept e)
+    go false e = subst (AllClear j) (sym (nowhere e)) no-message
+
 -- nothing is sent
 pub silent : {sending : Sending} (ms : List Message) → sending ≡ Sending.Nothing → ms ++ sentBy sending ≡ ms
 silent ms s = ap (λ (x : Sending). ms ++ sentBy x) s ∙ append-none ms
@@ -183,7 +180,7 @@ silent ms s = ap (λ (x : Sending). ms ++ sentBy x) s ∙ append-none ms
 sim-next :
     {j : Words} {w after : World} {n : R.Net} → Sim j w n → {c : R.Clerk} {l : R.Line} {a u t g x : Bool} {up down : List R.Msg} →
     clerkHolds after j ≡ clerkRead j c → (b : Bool) → lineHolds after j ≡ lineRead j b l → messagesOf j (after .up) ≡ map (messageRead j) up → AllClear j up →
-    messagesOf j (after .down) ≡ map (messageRead j) down → AllClear j down → Noted (after .history) (w .history) j u t g x →
+    messagesOf j (after .down) ≡ map (messageRead j) down → AllClear j down → Notes (after .history) (w .history) j u t g x →
     (R.or u (n .used) ≡ true → Kept j) →
     Sim j after
     (record {
@@ -207,10 +204,10 @@ sim-next sim {u = u} {t} {g} {x} clerk b line up upClear down downClear h kept =
       upClear = upClear;
       downClear = downClear;
       kept = kept;
-      used = h .takenUp ∙ ap (R.or u) (sim .used);
-      timedOut = h .runOut ∙ ap (R.or t) (sim .timedOut);
-      guarded = h .guarded ∙ ap (R.or g) (sim .guarded);
-      dropped = h .dropped ∙ ap (R.or x) (sim .dropped);
+      used = h .takenUp _ (sim .used);
+      timedOut = h .runOut _ (sim .timedOut);
+      guarded = h .guarded _ (sim .guarded);
+      dropped = h .dropped _ (sim .dropped);
     }
 
 -- one that is left has the same net
@@ -231,30 +228,28 @@ left-sim {j = j} {n = n} left sim =
 -- the one that a step of the clerk's desk is about
 pub clerk-own :
     {j : Words} {w : World} {n : R.Net} → Sim j w n → {rest : List Message} {left : List R.Msg} → messagesOf j rest ≡ map (messageRead j) left → AllClear j left →
-    {step : ClerkStepped.Stepped} {history : History} {answer : R.CAnswer} → ClerkStep step j answer → AllClear j (answer .1) →
-    {u t : Bool} → Noted history (w .history) j u t false false → (R.or u (n .used) ≡ true → Kept j) →
-    Sim j (clerkStepped w rest step history) (R.afterClerk n left u t answer)
-clerk-own {j} {w} {n} sim e c {step} {answer = answer} s clear h kept =
+    {step : ClerkStepped.Stepped} (notes : List Note) {answer : R.CAnswer} → ClerkStep step j answer → AllClear j (answer .1) →
+    {u t : Bool} → Notes (notes ++ w .history) (w .history) j u t false false → (R.or u (n .used) ≡ true → Kept j) →
+    Sim j (clerkStepped w rest step notes) (R.afterClerk n left u t answer)
+clerk-own {j} {w} {n} sim e c {step} notes {answer} s clear h kept =
     sim-next sim (s .itself) (sim .active) (sim .line) (wire-own j (w .up) (sentBy (step .outcome .sending)) (n .up) (answer .1) (sim .up) (s .sends) clear)
     (clear-append (sim .upClear) clear) e c h kept
 
 -- of the line desk
 pub line-own :
     {j : Words} {w : World} {n : R.Net} → Sim j w n → {rest : List Message} {left : List R.Msg} → messagesOf j rest ≡ map (messageRead j) left → AllClear j left →
-    {step : LineStepped.Stepped} {history : History} {answer : R.LAnswer} → LineStep step j answer → AllClear j (answer .1) →
-    {g : Bool} → Noted history (w .history) j false false g false → Sim j (lineStepped w rest step history) (R.afterLine n left g answer)
-line-own {j} {w} {n} sim e c {step} {answer = answer} s clear h =
+    {step : LineStepped.Stepped} (notes : List Note) {answer : R.LAnswer} → LineStep step j answer → AllClear j (answer .1) →
+    {g : Bool} → Notes (notes ++ w .history) (w .history) j false false g false → Sim j (lineStepped w rest step notes) (R.afterLine n left g answer)
+line-own {j} {w} {n} sim e c {step} notes {answer} s clear h =
     sim-next sim (sim .clerk) (s .active) (s .itself) e c (wire-own j (w .down) (sentBy (step .outcome .sending)) (n .down) (answer .1) (sim .down) (s .sends) clear)
     (clear-append (sim .downClear) clear) h (sim .kept)
 
 -- a drop, by what is left of the wires
 abbrev pub lossy : World → List Message → List Message → Words → World
-lossy w up down k = record { clerk = w .clerk; up = up; line = w .line; down = down; history = withDropped (w .history) (k ∷ []) }
+lossy w up down k = record { clerk = w .clerk; up = up; line = w .line; down = down; history = Note.dropped k ∷ w .history }
 
 pub lost-own :
     {j : Words} {w : World} {n : R.Net} → Sim j w n → {up down : List Message} {u d : List R.Msg} → messagesOf j up ≡ map (messageRead j) u → AllClear j u →
     messagesOf j down ≡ map (messageRead j) d → AllClear j d → Sim j (lossy w up down j) (R.lost n u d)
 lost-own {j} {w} sim e c f b =
-    let noted : Noted (withDropped (w .history) (j ∷ [])) (w .history) j false false false true =
-    record { takenUp = refl; runOut = refl; guarded = refl; dropped = has-own true j (w .history .dropped) } in
-    sim-next sim (sim .clerk) (sim .active) (sim .line) e c f b noted (sim .kept)
+    sim-next sim (sim .clerk) (sim .active) (sim .line) e c f b (noted-drop j (w .history)) (sim .kept)

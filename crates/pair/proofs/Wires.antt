@@ -1,20 +1,19 @@
--- Wires and histories for one identifier: the messages of a request among those of all, and what a note adds.
+-- Wires for one identifier: the messages of a request among those of all.
 use Prim.Native.Nat.{ℕ, zero, suc}
 use mathlib.Core.Path.{_≡_, refl, sym, _∙_, ap, subst}
 use mathlib.Core.Bool.{Bool, true, false}
 use mathlib.Core.Logic.{_⊎_, inl, inr}
 use mathlib.Core.List.{List, [], _∷_, _++_, map}
-use lib.ListN.{drop}
+use lib.ListN.{take, drop}
 use native.Mathlib.Omega.{arith}
 use Rattle.lists.specs.Words.{sameWords}
 use Rattle.lists.specs.declared.words.Words.{Words}
 use Rattle.lists.proofs.WordsLaws.{same-words-true, same-words-false, words-same, words-differ}
 use Rattle.message.specs.declared.Message.{Message}
-use Rattle.pair_request.specs.Reading.{Msg, or}
+use Rattle.pair_request.specs.Reading.{Msg, leftOut}
 use Rattle.pair_request.specs.Listed.{NoReq}
-use Rattle.pair_request.specs.Wires.{leftOut}
-use Rattle.pair.specs.World.{nameOf, messagesOf, has, note, lostAt}
-use Rattle.pair.specs.Meaning.{Heads}
+use Rattle.pair.specs.World.{dropped, nameOf, messagesOf, lostAt}
+use Rattle.pair.specs.Demand3.{Heads}
 use Rattle.pair.proofs.Ends.{messageRead, Clear, Kept}
 use Rattle.pair.proofs.Letters.{clear-kept, clear-plain, sent-name}
 
@@ -117,13 +116,16 @@ worded-sent no-message = quiet
 worded-sent {j} (one-more {m} c h) = word j m c (worded-sent h)
 
 -- ---- a message left out of a wire: of its request's messages one is, of every other's none; or there was no message at that place
+abbrev pub without : ℕ → List Message → List Message
+without i ms = take i ms ++ drop (suc i) ms
+
 pub data LeftOut (i : ℕ) (ms : List Message) : Type 0 where
-  nothing-lost : leftOut i ms ≡ ms → lostAt i ms ≡ [] → LeftOut i ms
+  nothing-lost : without i ms ≡ ms → lostAt i ms ≡ [] → LeftOut i ms
   one-lost :
-      (k : Words) → lostAt i ms ≡ k ∷ [] → Heads (drop i ms) k → Worded (leftOut i ms) →
-      ((j : Words) → (k ≡ j → ⊥) → messagesOf j (leftOut i ms) ≡ messagesOf j ms) →
+      (k : Words) → lostAt i ms ≡ dropped k ∷ [] → Heads (drop i ms) k → Worded (without i ms) →
+      ((j : Words) → (k ≡ j → ⊥) → messagesOf j (without i ms) ≡ messagesOf j ms) →
       ((cs : List Msg) → AllClear k cs → messagesOf k ms ≡ map (messageRead k) cs →
-      (n : ℕ) × ((messagesOf k (leftOut i ms) ≡ map (messageRead k) (leftOut n cs)) × AllClear k (leftOut n cs))) →
+      (n : ℕ) × ((messagesOf k (without i ms) ≡ map (messageRead k) (leftOut n cs)) × AllClear k (leftOut n cs))) →
       LeftOut i ms
 
 abbrev Lost : Words → List Message → List Msg → Type 0
@@ -148,7 +150,6 @@ under j m left ms e = go (words? (nameOf m) j)
     go (inr h) = messages-miss j m left h ∙ e ∙ sym (messages-miss j m ms h)
 
 pub left-out : (i : ℕ) (ms : List Message) → Worded ms → LeftOut i ms
-unfolding leftOut
 left-out zero [] quiet = nothing-lost refl refl
 left-out (suc i) [] quiet = nothing-lost refl refl
 left-out zero (m ∷ ms) (word x c clear others) =
@@ -157,22 +158,11 @@ left-out (suc i) (m ∷ ms) (word x c clear others) = go (left-out i ms others)
   where
     go : LeftOut i ms → LeftOut (suc i) (m ∷ ms)
     go (nothing-lost e n) = nothing-lost (ap (λ x. m ∷ x) e) n
-    go (one-lost k n h worded other own) = one-lost k n h (word x c clear worded) (λ j d. under j m (leftOut i ms) ms (other j d)) (λ cs all e. by cs all e (words? (nameOf m) k))
+    go (one-lost k n h worded other own) = one-lost k n h (word x c clear worded) (λ j d. under j m (without i ms) ms (other j d)) (λ cs all e. by cs all e (words? (nameOf m) k))
       where
         by :
-            (cs : List Msg) → AllClear k cs → messagesOf k (m ∷ ms) ≡ map (messageRead k) cs → (nameOf m ≡ k) ⊎ (nameOf m ≡ k → ⊥) → Lost k (m ∷ leftOut i ms) cs
-        by cs all e (inl name) = let h = head-own refl name all e in later-lost (leftOut i ms) h name (own (h .left) (h .others) (h .tail))
+            (cs : List Msg) → AllClear k cs → messagesOf k (m ∷ ms) ≡ map (messageRead k) cs → (nameOf m ≡ k) ⊎ (nameOf m ≡ k → ⊥) → Lost k (m ∷ without i ms) cs
+        by cs all e (inl name) = let h = head-own refl name all e in later-lost (without i ms) h name (own (h .left) (h .others) (h .tail))
         by cs all e (inr d) =
             let l = own cs all (sym (messages-miss k m ms d) ∙ e) in
-            (l .0, (messages-miss k m (leftOut i ms) d ∙ l .1 .0, l .1 .1))
-
--- ---- histories
-pub has-own : (so : Bool) (x : Words) (xs : List Words) → has (note so x xs) x ≡ or so (has xs x)
-unfolding has
-has-own true x xs = rw (words-same x x refl)
-has-own false x xs = refl
-
-pub has-other : (so : Bool) (x j : Words) (xs : List Words) → (x ≡ j → ⊥) → has (note so x xs) j ≡ has xs j
-unfolding has
-has-other true x j xs h = rw (words-differ x j h)
-has-other false x j xs h = refl
+            (l .0, (messages-miss k m (without i ms) d ∙ l .1 .0, l .1 .1))

@@ -1,3 +1,2 @@
 pub mod World
-pub mod Meaning
 pub mod Demand3

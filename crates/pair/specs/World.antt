@@ -1,69 +1,44 @@
 -- Two desks, two wires that deliver in order or drop, and the history of the run. A step is an input at a desk, as the desk's contract has it, or the drop of a message.
-use Prim.Native.Nat.{ℕ}
-use mathlib.Core.Path.{_≡_}
-use mathlib.Core.Bool.{Bool, true, false}
-use mathlib.Core.List.{List, [], _∷_, _++_, map}
-use lib.Dec.{eqb}
-use lib.ListN.{take, drop}
-use Rattle.lists.specs.Choice.{pick}
-use Rattle.lists.specs.Lists.{both}
-use Rattle.lists.specs.Words.{Bytes, wordsOf, sameWords}
-use Rattle.lists.specs.declared.words.Words.{Words}
-use Rattle.message.specs.declared.Message.{Message}
-use Rattle.message.specs.declared.Body.the-variants.{RequestError, CallFailed}
-use Rattle.message.specs.declared.Carrier.the-variants.{ReleaseComplete}
-use Rattle.desk.specs.Letter.{messageOf}
-use Rattle.desk.specs.Sends.{plainLetter}
-use Rattle.desk.specs.declared.letter.Letter.{Letter}
-use Rattle.desk.specs.declared.outcome.Outcome.{Outcome}
-use Rattle.desk.specs.declared.outcome.Sending.{Sending}
-use Rattle.desk.specs.declared.outcome.Sending.the-variants as Sending
-use Rattle.terms.specs.declared.request.Names.{Names}
-use Rattle.terms.specs.declared.request.Request.{Request}
+use Prim.Native.Nat.{ℕ, suc}
+use mathlib.Core.{Path._≡_, Bool.Bool, List.List, List.[], List._∷_, List._++_, List.map, List.List·Memᴰ as Noted}
+use lib.{Dec.eqb, ListN.take, ListN.drop}
+use Rattle.lists.specs.{Choice.pick, Words.Bytes, Words.wordsOf, Words.sameWords, declared.words.Words.Words}
+use Rattle.message.specs.declared.{Message.Message, Body.the-variants.RequestError, Body.the-variants.CallFailed, Carrier.the-variants.ReleaseComplete}
+use Rattle.desk.specs.{Letter.messageOf, Sends.plainLetter, declared.letter.Letter.Letter, declared.outcome.Sending.Sending}
+use Rattle.terms.specs.declared.request.{Names.Names, Request.Request}
 use Rattle.places.specs.Places.{Held, held}
-use Rattle.clerk_table.specs.declared.inputs.Input as ClerkInput
-use Rattle.clerk_table.specs.declared.inputs.Input.the-variants as AtClerk
-use Rattle.clerk_table.specs.declared.record.Record as ClerkRecord
-use Rattle.clerk_table.specs.declared.table.Timer.{Timer}
-use Rattle.clerk_table.specs.declared.table.Timer.the-variants.{T1, T2, T3}
-use Rattle.clerk_records.specs.Records as ClerkRecords
+use Rattle.clerk_table.specs.declared.{inputs.Input.Input as ClerkInput, record.Record.Record as ClerkRecord, table.Timer.Timer}
+use Rattle.clerk_records.specs.Records.{records as clerkRecords}
 use Rattle.clerk.specs.Steps as Clerk
-use Rattle.clerk.specs.declared.Desk as ClerkDesk
-use Rattle.clerk.specs.declared.steps.Stepped as ClerkStepped
-use Rattle.clerk_sound.specs.Sound as ClerkSound
-use Rattle.line_table.specs.declared.inputs.Input as LineInput
-use Rattle.line_table.specs.declared.inputs.Input.the-variants as AtLine
-use Rattle.line_table.specs.declared.record.Record as LineRecord
-use Rattle.line_records.specs.Records as LineRecords
-use Rattle.line.specs.Start as LineStart
+use Rattle.clerk.specs.declared.{Desk.Desk as ClerkDesk, steps.Stepped.Stepped as ClerkStepped}
+use Rattle.clerk_sound.specs.Sound.{clerkView, Fair}
+use Rattle.line_table.specs.declared.{inputs.Input.Input as LineInput, record.Record.Record as LineRecord}
+use Rattle.line_records.specs.Records.{records as lineRecords}
+use Rattle.line.specs.{Start.started as lineStarted, declared.Desk.Desk as LineDesk, declared.steps.Stepped.Stepped as LineStepped}
 use Rattle.line.specs.Steps as Line
-use Rattle.line.specs.declared.Desk as LineDesk
-use Rattle.line.specs.declared.steps.Stepped as LineStepped
-use Rattle.line_sound.specs.Sound as LineSound
-use Rattle.pair_request.specs.Wires.{leftOut, Signal, callDied, rejected}
+use Rattle.line_sound.specs.Sound.{lineView}
+use Rattle.pair_request.specs.Signal.{Signal, callDied, rejected}
 
 -- ---- the world
--- four lists of identifiers: taken up by an ask; a message of it was dropped; a T1 or T2 report of it was taken at the clerk's end; a guard report at the line's
-pub record History : Type 0 where
-  pub takenUp : List Words
-  pub dropped : List Words
-  pub runOut : List Words
-  pub guarded : List Words
+-- what is noted of an identifier: an ask took it up; a message of it was dropped; a T1 or T2 report of it was taken at the clerk's end; a guard report at the line's
+-- (that a note is in the history, `Noted`, is mathlib's membership of a list)
+pub data Note : Type 0 where
+  takenUp dropped runOut guarded : Words → Note
 
 -- `up` is the wire to the line's end, `down` the one to the clerk's; messages arrive from the front
 pub record World : Type 0 where
-  pub clerk : ClerkDesk.Desk
+  pub clerk : ClerkDesk
   pub up : List Message
-  pub line : LineDesk.Desk
+  pub line : LineDesk
   pub down : List Message
-  pub history : History
+  pub history : List Note
 
 -- what an end holds of a request: the record with its identifier, or none
-abbrev pub clerkHolds : World → Words → Held ClerkRecord.Record
-clerkHolds w identifier = held ClerkSound.clerkView identifier (ClerkRecords.records (w .clerk .words))
+abbrev pub clerkHolds : World → Words → Held ClerkRecord
+clerkHolds w identifier = held clerkView identifier (clerkRecords (w .clerk .words))
 
-abbrev pub lineHolds : World → Words → Held LineRecord.Record
-lineHolds w identifier = held LineSound.lineView identifier (LineRecords.records (w .line .words))
+abbrev pub lineHolds : World → Words → Held LineRecord
+lineHolds w identifier = held lineView identifier (lineRecords (w .line .words))
 
 -- a message's identifier, as the desks compare it
 abbrev pub nameOf : Message → Words
@@ -74,90 +49,56 @@ unfoldable pub messagesOf : Words → List Message → List Message
 messagesOf identifier [] = []
 messagesOf identifier (m ∷ ms) = pick (sameWords (nameOf m) identifier) (m ∷ messagesOf identifier ms) (messagesOf identifier ms)
 
--- whether a list of the history has an identifier
-unfoldable pub has : List Words → Words → Bool
-has [] identifier = false
-has (x ∷ xs) identifier = pick (sameWords x identifier) true (has xs identifier)
-
--- ---- what a step leaves
--- what an outcome sends, a reply too
-abbrev pub sentBy : Sending → List Message
-sentBy Sending.Nothing = []
-sentBy (Sending.Send l) = messageOf l ∷ []
-
--- a step that is not refused
-abbrev pub done : Outcome → Bool
-done outcome = eqb (outcome .refusal) 0
-
--- an identifier noted if something is so
-abbrev pub note : Bool → Words → List Words → List Words
-note so identifier noted = pick so (identifier ∷ noted) noted
-
--- the clerk's desk after a step, with the wire that it heard from and the history
-abbrev pub clerkStepped : World → List Message → ClerkStepped.Stepped → History → World
-clerkStepped w down step history =
-    record { clerk = step .desk; up = w .up ++ sentBy (step .outcome .sending); line = w .line; down = down; history = history }
-
--- the line desk after a step
-abbrev pub lineStepped : World → List Message → LineStepped.Stepped → History → World
-lineStepped w up step history =
-    record { clerk = w .clerk; up = up; line = step .desk; down = w .down ++ sentBy (step .outcome .sending); history = history }
-
-abbrev pub withTakenUp : History → Bool → Words → History
-withTakenUp h so identifier =
-    record { takenUp = note so identifier (h .takenUp); dropped = h .dropped; runOut = h .runOut; guarded = h .guarded }
-
-abbrev pub withDropped : History → List Words → History
-withDropped h identifiers =
-    record { takenUp = h .takenUp; dropped = identifiers ++ h .dropped; runOut = h .runOut; guarded = h .guarded }
-
-abbrev pub withRunOut : History → Bool → Words → History
-withRunOut h so identifier = record { takenUp = h .takenUp; dropped = h .dropped; runOut = note so identifier (h .runOut); guarded = h .guarded }
-
-abbrev pub withGuarded : History → Bool → Words → History
-withGuarded h so identifier = record { takenUp = h .takenUp; dropped = h .dropped; runOut = h .runOut; guarded = note so identifier (h .guarded) }
-
 -- ---- the steps
 pub data Event : Type 0 where
   -- what a host puts in at an end: at the clerk's an ask, User A's act, a timer's report; at the line's a line report, a Look, an act, the guard's report
-  clerkDoes : ClerkInput.Input → Event
-  lineDoes : LineInput.Input → Event
+  clerkDoes : ClerkInput → Event
+  lineDoes : LineInput → Event
   -- what the signalling of a request's call tells the clerk's host, with its word on User A
   clerkIsTold : Signal → Words → Bool → Event
   -- the head of a wire is delivered: of `down`, with the host's word on User A; of `up`
   clerkHears : Bool → Event
   lineHears : Event
   -- any message of a wire is dropped, by its place
-  dropsUp : ℕ → Event
-  dropsDown : ℕ → Event
+  dropsUp dropsDown : ℕ → Event
 
--- T3 is no timer of the demand
-abbrev pub counts : Timer → Bool
-counts T1 = true
-counts T2 = true
-counts T3 = false
+-- what an outcome sends, a reply too
+abbrev pub sentBy : Sending → List Message
+sentBy Sending.Nothing = []
+sentBy (Sending.Send l) = messageOf l ∷ []
 
--- what is noted of an input, if it is done (`so`): an ask takes up an identifier; a timer of the demand, or a guard, has run out
-abbrev pub clerkNotes : History → ClerkInput.Input → Bool → History
-clerkNotes h (AtClerk.Ask names q) so = withTakenUp h so (names .identifier)
-clerkNotes h (AtClerk.Message l busy) so = h
-clerkNotes h (AtClerk.Act identifier act) so = h
-clerkNotes h (AtClerk.Timer identifier timer) so = withRunOut h (both (counts timer) so) identifier
+-- what is noted of an input, if it is not refused (`so`): an ask takes up an identifier; a timer of the demand, which T3 is not, or a guard has run out
+abbrev pub clerkNotes : ClerkInput → Bool → List Note
+clerkNotes (ClerkInput.Ask names q) so = pick so (takenUp (names .identifier) ∷ []) []
+clerkNotes (ClerkInput.Message l busy) so = []
+clerkNotes (ClerkInput.Act identifier act) so = []
+clerkNotes (ClerkInput.Timer identifier Timer.T1) so = pick so (runOut identifier ∷ []) []
+clerkNotes (ClerkInput.Timer identifier Timer.T2) so = pick so (runOut identifier ∷ []) []
+clerkNotes (ClerkInput.Timer identifier Timer.T3) so = []
 
-abbrev pub lineNotes : History → LineInput.Input → Bool → History
-lineNotes h (AtLine.Message l) so = h
-lineNotes h (AtLine.Act identifier act) so = h
-lineNotes h (AtLine.Guard identifier) so = withGuarded h so identifier
-lineNotes h (AtLine.Report number busy) so = h
-lineNotes h (AtLine.Look number) so = h
+abbrev pub lineNotes : LineInput → Bool → List Note
+lineNotes (LineInput.Message l) so = []
+lineNotes (LineInput.Act identifier act) so = []
+lineNotes (LineInput.Guard identifier) so = pick so (guarded identifier ∷ []) []
+lineNotes (LineInput.Report number busy) so = []
+lineNotes (LineInput.Look number) so = []
+
+-- the world after a step of a desk, with what is left of the wire that it heard from and what is noted
+abbrev pub clerkStepped : World → List Message → ClerkStepped → List Note → World
+clerkStepped w down step notes =
+    record { clerk = step .desk; up = w .up ++ sentBy (step .outcome .sending); line = w .line; down = down; history = notes ++ w .history }
+
+abbrev pub lineStepped : World → List Message → LineStepped → List Note → World
+lineStepped w up step notes =
+    record { clerk = w .clerk; up = up; line = step .desk; down = w .down ++ sentBy (step .outcome .sending); history = notes ++ w .history }
 
 unfoldable pub clerkHeard : World → Bool → List Message → World
 clerkHeard w busy [] = w
-clerkHeard w busy (m ∷ rest) = clerkStepped w rest (Clerk.received (w .clerk) m busy) (w .history)
+clerkHeard w busy (m ∷ rest) = clerkStepped w rest (Clerk.received (w .clerk) m busy) []
 
 unfoldable pub lineHeard : World → List Message → World
 lineHeard w [] = w
-lineHeard w (m ∷ rest) = lineStepped w rest (Line.received (w .line) m) (w .history)
+lineHeard w (m ∷ rest) = lineStepped w rest (Line.received (w .line) m) []
 
 -- a message that nobody sent (docs/HOST.md, 12): type 12, or type 4 short, in Release Complete. The types 11 and 7 that it names are no steps of a run: claim 3 would
 -- not hold of them (`LeftOut` in crate pair_runs)
@@ -165,48 +106,42 @@ abbrev pub signalLetter : Signal → Words → Letter
 signalLetter callDied identifier = plainLetter identifier ReleaseComplete CallFailed
 signalLetter rejected identifier = plainLetter identifier ReleaseComplete (RequestError 1)
 
--- the identifier of the message at a place of a wire; behind its end there is none
-abbrev pub lostAt : ℕ → List Message → List Words
-lostAt i wire = map nameOf (take 1 (drop i wire))
+-- the note of the message at a place of a wire; behind its end there is none
+abbrev pub lostAt : ℕ → List Message → List Note
+lostAt i wire = map (λ m. dropped (nameOf m)) (take 1 (drop i wire))
 
 unfoldable pub next : World → Event → World
 next w (clerkDoes input) =
     let step = Clerk.step (w .clerk) input in
-    clerkStepped w (w .down) step (clerkNotes (w .history) input (done (step .outcome)))
+    clerkStepped w (w .down) step (clerkNotes input (eqb (step .outcome .refusal) 0))
 next w (lineDoes input) =
     let step = Line.step (w .line) input in
-    lineStepped w (w .up) step (lineNotes (w .history) input (done (step .outcome)))
-next w (clerkIsTold signal identifier busy) =
-    clerkStepped w (w .down) (Clerk.step (w .clerk) (AtClerk.Message (signalLetter signal identifier) busy)) (w .history)
+    lineStepped w (w .up) step (lineNotes input (eqb (step .outcome .refusal) 0))
+next w (clerkIsTold signal identifier busy) = clerkStepped w (w .down) (Clerk.step (w .clerk) (ClerkInput.Message (signalLetter signal identifier) busy)) []
 next w (clerkHears busy) = clerkHeard w busy (w .down)
 next w lineHears = lineHeard w (w .up)
 next w (dropsUp i) =
-    record { clerk = w .clerk; up = leftOut i (w .up); line = w .line; down = w .down; history = withDropped (w .history) (lostAt i (w .up)) }
+    record { clerk = w .clerk; up = take i (w .up) ++ drop (suc i) (w .up); line = w .line; down = w .down; history = lostAt i (w .up) ++ w .history }
 next w (dropsDown i) =
-    record { clerk = w .clerk; up = w .up; line = w .line; down = leftOut i (w .down); history = withDropped (w .history) (lostAt i (w .down)) }
+    record { clerk = w .clerk; up = w .up; line = w .line; down = take i (w .down) ++ drop (suc i) (w .down); history = lostAt i (w .down) ++ w .history }
 
 -- ---- runs
 -- an ask is any that the entry makes of values of the code's types (`Fair`), every identifier is taken up by at most one ask that is not refused, and no host makes up
 -- a message: but for what the signalling tells, messages come by the wires
 pub record Allowed (w : World) (e : Event) : Type 0 where
   pub asked :
-      (names : Names) (q : Request) → e ≡ clerkDoes (AtClerk.Ask names q) →
-      ClerkSound.Fair (AtClerk.Ask names q)
-      × (done (Clerk.step (w .clerk) (AtClerk.Ask names q) .outcome) ≡ true → has (w .history .takenUp) (names .identifier) ≡ false)
-  pub toClerk : (l : Letter) (busy : Bool) → e ≡ clerkDoes (AtClerk.Message l busy) → ⊥
-  pub toLine : (l : Letter) → e ≡ lineDoes (AtLine.Message l) → ⊥
+      (names : Names) (q : Request) → e ≡ clerkDoes (ClerkInput.Ask names q) →
+      Fair (ClerkInput.Ask names q) × (Clerk.step (w .clerk) (ClerkInput.Ask names q) .outcome .refusal ≡ 0 → Noted (takenUp (names .identifier)) (w .history) → ⊥)
+  pub toClerk : (l : Letter) (busy : Bool) → e ≡ clerkDoes (ClerkInput.Message l busy) → ⊥
+  pub toLine : (l : Letter) → e ≡ lineDoes (LineInput.Message l) → ⊥
 
 pub data Run (first : World) : World → Type 0 where
   stop : Run first first
   then : {w : World} → Run first w → (e : Event) → Allowed w e → Run first (next w e)
 
-abbrev pub noHistory : History
-noHistory = record { takenUp = []; dropped = []; runOut = []; guarded = [] }
-
 -- two desks started empty, the line desk with any lines and settings; where these are refused, a desk without lines
 abbrev pub startWorld : List ℕ → Bool → Bool → World
-startWorld given keep retain =
-    record { clerk = Clerk.startedDesk; up = []; line = LineStart.started given keep retain .desk; down = []; history = noHistory }
+startWorld given keep retain = record { clerk = Clerk.startedDesk; up = []; line = lineStarted given keep retain .desk; down = []; history = [] }
 
 -- a world of a run from the start
 pub data Reached (w : World) : Type 0 where

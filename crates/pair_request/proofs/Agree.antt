@@ -4,8 +4,7 @@ use mathlib.Core.Path.{_≡_, refl, sym}
 use mathlib.Core.Bool.{Bool, true, false, false≢true}
 use mathlib.Core.List.{List, [], _∷_, _++_}
 use Rattle.message.specs.declared.Kind.{Kind}
-use Rattle.pair_request.specs.Reading.{ret, Data, Terms, chosen, asked, Msg, request, CState, Clerk, absent, waiting, live, LState, Line, none, holds, Policy, termsOf, resultOf, Net, or, present, held, Reach, begin, more}
-use Rattle.pair_request.specs.Wires.{leftOut}
+use Rattle.pair_request.specs.Reading.{ret, Data, Terms, chosen, asked, Msg, request, CState, Clerk, absent, waiting, live, LState, Line, none, holds, Policy, termsOf, resultOf, Net, or, present, held, Reach, begin, more, leftOut}
 use Rattle.pair_request.specs.Listed.{NotReq, NoReq}
 use Rattle.pair_request.proofs.Effects.{noReq++, noReq-left, just-cancel, NotRes, NoRes, ClerkActEffect, stays, quit-waiting, drops-waiting, quit-live, accepts, resuming, recalling, act-plain, ClerkTakeEffect, take-stays, take-replies, take-ends-waiting, take-ends, take-ends-cancel, take-moves, take-suspends, take-acks, clerk-take-effect, take-plain, LineActEffect, line-stays, line-quits, line-offers, line-alerts, line-fails, line-act-silent, silent, LineTakeEffect, line-take-stays, line-take-ends, line-take-moves, line-take-accepts, line-take-effect, Keepable, keepable, Move, still, ask, clerk-act, line-act, clerk-get, line-get, up-lost, down-lost, moves}
 

@@ -6,8 +6,8 @@ use mathlib.Core.List.{List, [], _∷_, _++_}
 use Rattle.message.specs.declared.Kind.{Kind}
 use Rattle.clerk_table.specs.declared.inputs.Act.the-variants as Act
 use Rattle.clerk_table.specs.declared.table.Timer.the-variants.{T1, T2, T3}
-use Rattle.pair_request.specs.Reading.{Conn, ret, rls, Data, Terms, chosen, asked, keep, conn, Msg, request, result, denied, exec, ringout, busyAgain, noMatch, suspend, resume, cancel, alerts, failed, CState, invoked, waitAnswer, ringing, suspended, Clerk, absent, waiting, live, LState, idle, await, alert, Line, none, holds, and, not, sameConn, CAnswer, inRinging, onBusyAgain, unfit, onExec, clerkTakes, signalMsg, CAct, act, timer, signal, liveActs, waitingActs, clerkActs, Policy, termsOf, resultOf, Verdict, takes, denies, Word, onRequest, onRingout, resumeFits, onResume, onSuspend, lineTakes, LAct, offers, alerted, callFailed, cancels, guard, lineActs, Net, or, present, isT1orT2, guardEnds, held, Event, asks, clerkDoes, lineDoes, clerkGets, lineGets, losesUp, losesDown, afterClerk, afterLine, lost, afterAsk, askStep, clerkGetStep, lineGetStep, next}
-use Rattle.pair_request.specs.Wires.{leftOut, Signal, callDied, rejected}
+use Rattle.pair_request.specs.Reading.{Conn, ret, rls, Data, Terms, chosen, asked, keep, conn, Msg, request, result, denied, exec, ringout, busyAgain, noMatch, suspend, resume, cancel, alerts, failed, CState, invoked, waitAnswer, ringing, suspended, Clerk, absent, waiting, live, LState, idle, await, alert, Line, none, holds, and, not, sameConn, CAnswer, inRinging, onBusyAgain, unfit, onExec, clerkTakes, signalMsg, CAct, act, timer, signal, liveActs, waitingActs, clerkActs, Policy, termsOf, resultOf, Verdict, takes, denies, Word, onRequest, onRingout, resumeFits, onResume, onSuspend, lineTakes, LAct, offers, alerted, callFailed, cancels, guard, lineActs, Net, or, present, isT1orT2, guardEnds, held, Event, asks, clerkDoes, lineDoes, clerkGets, lineGets, losesUp, losesDown, afterClerk, afterLine, lost, afterAsk, askStep, clerkGetStep, lineGetStep, next, leftOut}
+use Rattle.pair_request.specs.Signal.{Signal, callDied, rejected}
 use Rattle.pair_request.specs.Listed.{NotReq, NoReq}
 
 -- ---- lists of messages

@@ -1,3 +1,3 @@
-pub mod Wires
+pub mod Signal
 pub mod Reading
 pub mod Listed

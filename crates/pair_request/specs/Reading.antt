@@ -2,12 +2,12 @@
 -- in crate pair; nothing that the product promises is stated here.
 use mathlib.Core.Bool.{Bool, true, false}
 use mathlib.Core.List.{List, [], _∷_, _++_}
-use Prim.Native.Nat.{ℕ}
+use Prim.Native.Nat.{ℕ, zero, suc}
 use lib.Dec.{eqb}
 use Rattle.lists.specs.Choice.{pick}
 use Rattle.lists.specs.declared.words.Words.{Words}
 use Rattle.message.specs.declared.Kind.{Kind}
-use Rattle.pair_request.specs.Wires.{leftOut, Signal, callDied, rejected}
+use Rattle.pair_request.specs.Signal.{Signal, callDied, rejected}
 use Rattle.clerk_table.specs.declared.inputs.Act.{Act}
 use Rattle.clerk_table.specs.declared.inputs.Act.the-variants as Act
 use Rattle.clerk_table.specs.declared.table.Timer.{Timer}
@@ -297,6 +297,12 @@ pub record Net : Type 0 where
   pub timedOut : Bool
   pub guarded : Bool
   pub dropped : Bool
+
+-- a wire without what stands at a place; behind its end nothing does
+unfoldable pub leftOut : {A : Type 0} → ℕ → List A → List A
+leftOut i [] = []
+leftOut zero (x ∷ xs) = xs
+leftOut (suc i) (x ∷ xs) = x ∷ leftOut i xs
 
 abbrev pub start : Net
 start = record { clerk = absent; up = []; line = none; down = []; used = false; accepted = false; timedOut = false; guarded = false; dropped = false }

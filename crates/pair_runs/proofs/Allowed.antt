@@ -1,15 +1,15 @@
 -- A run from a list of events, by tests that compute: each ask is one that the entry makes, and no identifier is taken up twice.
 use Prim.Native.Nat.{ℕ, zero, suc, _/_}
-use mathlib.Core.Path.{_≡_, refl, subst}
+use mathlib.Core.Path.{_≡_, refl, sym, _∙_, ap, subst}
 use mathlib.Core.Bool.{Bool, true, false, not, false≢true}
-use mathlib.Core.List.{List, [], _∷_}
-use lib.Dec.{ltb, lit<}
-use borrow.Author.Tests.{ltb-true}
+use mathlib.Core.List.{List, [], _∷_, List·Memᴰ as Noted, List·Memᴰ·head, List·Memᴰ·tail}
+use lib.Dec.{eqb, ltb, lit<}
+use borrow.Author.Tests.{eq-eqb, ltb-true}
 use Rattle.lists.specs.Choice.{pick}
 use Rattle.lists.specs.Lists.{both}
 use Rattle.lists.specs.Words.{Bytes, bytesOf, sameWords}
 use Rattle.lists.proofs.Lists.{both-parts}
-use Rattle.lists.proofs.WordsLaws.{same-words-true, length-bytesOf, bytes-bytesOf}
+use Rattle.lists.proofs.WordsLaws.{same-words-true, words-same, length-bytesOf, bytes-bytesOf}
 use Rattle.message.specs.Format.{inRange}
 use Rattle.terms.specs.Request.{canKeepSent}
 use Rattle.terms.specs.declared.request.Names.{Names}
@@ -21,9 +21,9 @@ use Rattle.clerk.specs.declared.entry.Asking.{Asking}
 use Rattle.clerk.specs.declared.entry.Entry.the-variants.{Given}
 use Rattle.clerk_sound.specs.Sound as ClerkSound
 use Rattle.line_table.specs.declared.inputs.Input.the-variants as AtLine
-use Rattle.pair.specs.World.{World, Event, clerkDoes, lineDoes, clerkIsTold, clerkHears, lineHears, dropsUp, dropsDown, has, done, next, Allowed, Run, stop, then, reached}
+use Rattle.pair.specs.World.{Note, takenUp, World, Event, clerkDoes, lineDoes, clerkIsTold, clerkHears, lineHears, dropsUp, dropsDown, next, Allowed, Run, stop, then, reached}
 use Rattle.pair.proofs.Letters.{flags-sent}
-use Rattle.pair_runs.specs.Runs.{play, Row, oneLine, start, EachReached}
+use Rattle.pair_runs.specs.Runs.{play, kindOf, whose, has, Row, oneLine, start, EachReached}
 
 -- ---- the bytes of the line that is given
 abbrev pub allBytes : List ℕ → Bool
@@ -81,9 +81,22 @@ fair-told names q e =
     let entry : askEntry a ≡ Given (AtClerk.Ask names q) = rw (p .0, r .0, same-names-told (askNames a) names (r .1), flags-sent (q .flags)) in
     ClerkSound.asks a (asking-typed names q) entry
 
+-- a note that a history does not have is not in it
+has-noted : (n : Note) (h : List Note) → Noted n h → has n h ≡ true
+unfolding has
+has-noted n (x ∷ xs) (List·Memᴰ·head e) = rw (words-same (whose n) (whose x) (ap whose e), eq-eqb (kindOf n) (kindOf x) (ap kindOf e))
+has-noted n (x ∷ xs) (List·Memᴰ·tail m) = later (both (sameWords (whose n) (whose x)) (eqb (kindOf n) (kindOf x))) (has-noted n xs m)
+  where
+    later : (b : Bool) → has n xs ≡ true → pick b true (has n xs) ≡ true
+    later true e = refl
+    later false e = e
+
+pub has-not : (n : Note) (h : List Note) → has n h ≡ false → Noted n h → ⊥
+has-not n h e m = false≢true (sym e ∙ has-noted n h m)
+
 -- an ask that is not refused takes up an identifier that was not taken up before
 abbrev pub once : World → Names → Request → Bool
-once w names q = pick (done (Clerk.step (w .clerk) (AtClerk.Ask names q) .outcome)) (not (has (w .history .takenUp) (names .identifier))) true
+once w names q = pick (eqb (Clerk.step (w .clerk) (AtClerk.Ask names q) .outcome .refusal) 0) (not (has (takenUp (names .identifier)) (w .history))) true
 
 pub once-told : (take had : Bool) → pick take (not had) true ≡ true → take ≡ true → had ≡ false
 once-told true true e t = absurd (false≢true e)
@@ -114,7 +127,8 @@ allowed-told w e so =
       asked = λ names q is.
           let parts = both-parts (fair names q) (once w names q) (subst (λ (x : Event). allowed w x ≡ true) is so) in (
             fair-told names q (parts .0),
-            once-told (done (Clerk.step (w .clerk) (AtClerk.Ask names q) .outcome)) (has (w .history .takenUp) (names .identifier)) (parts .1),
+            λ so. has-not (takenUp (names .identifier)) (w .history)
+                (once-told (eqb (Clerk.step (w .clerk) (AtClerk.Ask names q) .outcome .refusal) 0) (has (takenUp (names .identifier)) (w .history)) (parts .1) (eq-eqb _ 0 so)),
           );
       toClerk = λ l busy is. false≢true (subst (λ (x : Event). allowed w x ≡ true) is so);
       toLine = λ l is. false≢true (subst (λ (x : Event). allowed w x ≡ true) is so);

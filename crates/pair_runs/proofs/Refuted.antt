@@ -2,7 +2,7 @@
 use mathlib.Core.Path.{_≡_, refl, sym, _∙_, ap}
 use mathlib.Core.Bool.{Bool, true, false, true≢false, false≢true}
 use mathlib.Core.Logic.{_⊎_, inl, inr}
-use mathlib.Core.List.{List, [], _∷_}
+use mathlib.Core.List.{List, [], _∷_, List·Memᴰ·head, List·Memᴰ·tail}
 use Rattle.lists.specs.Words.{wordsOf}
 use Rattle.lists.specs.declared.words.Words.{Words}
 use Rattle.message.specs.declared.Kind.the-variants.{Ccbs}
@@ -22,11 +22,11 @@ use Rattle.line_table.specs.declared.record.Record as LineRecord
 use Rattle.line_table.specs.declared.table.State.{State}
 use Rattle.line_table.specs.declared.table.State.the-variants as LineState
 use Rattle.line_records.specs.Records as LineRecords
-use Rattle.pair.specs.World.{World, Event, clerkDoes, lineDoes, clerkIsTold, clerkHears, lineHears, dropsUp, dropsDown, clerkHolds, lineHolds, next, Run, stop, then}
-use Rattle.pair.specs.Meaning.{Accepted, Stores, by-act, by-guard, by-look, About, by-clerk, by-line, by-signal, to-clerk, to-line, Unaltered, same, marked}
+use Rattle.pair.specs.World.{dropped, World, Event, clerkDoes, lineDoes, clerkIsTold, clerkHears, lineHears, dropsUp, dropsDown, clerkHolds, lineHolds, next, Run, stop, then}
+use Rattle.pair.specs.Demand3.{Accepted, Stores, by-act, by-guard, by-look, About, by-clerk, by-signal, to-clerk, to-line, Unaltered, same, marked}
 use Rattle.pair_runs.specs.Refuted as Wrong
 use Rattle.pair_runs.specs.Runs.{play, first, numberB, oneLine, start, asks, lineReports, stored, acknowledged, wentOn, noReply, runOut, deserted, rejection}
-use Rattle.pair_runs.proofs.Allowed.{bytes-told, allowed-told, runs}
+use Rattle.pair_runs.proofs.Allowed.{bytes-told, has-not, allowed-told, runs}
 use Rattle.pair_runs.proofs.Runs.{all, reach, heldOr, someone, held-one, not-listed}
 
 abbrev at : List Event → World
@@ -104,7 +104,7 @@ pub answer-unmarked : Wrong.AnswerUnmarked → ⊥
 unfolding play runs all
 answer-unmarked wrong =
     true≢false
-    (wrong (at wentOn) (reach false wentOn refl) (wordsOf first) refl refl refl (clerkAt wentOn) (lineAt wentOn) (clerk-holds wentOn refl) (line-holds wentOn refl) refl)
+    (wrong (at wentOn) (reach false wentOn refl) (wordsOf first) (has-not (dropped (wordsOf first)) (at wentOn .history) refl) refl refl (clerkAt wentOn) (lineAt wentOn) (clerk-holds wentOn refl) (line-holds wentOn refl) refl)
 
 -- ---- 4. T2 alone; a T2 report in Ringout; an ask after the start; a request heard after it was rejected
 not-none : {A : Type 0} (h : Held A) → someone h ≡ true → h ≡ none → ⊥
@@ -114,13 +114,13 @@ pub over-unguarded : Wrong.OverUnguarded → ⊥
 unfolding play runs all
 over-unguarded wrong =
     not-none (lineHolds (at runOut) (wordsOf first)) refl
-    (wrong (at runOut) (reach false runOut refl) (wordsOf first) refl tt (at runOut) stop .1)
+    (wrong (at runOut) (reach false runOut refl) (wordsOf first) (List·Memᴰ·tail (List·Memᴰ·head refl)) tt (at runOut) stop .1)
 
 pub over-by-refused-t2 : Wrong.OverByRefusedT2 → ⊥
 unfolding play runs all
 over-by-refused-t2 wrong =
     let later = next (at deserted) (clerkDoes (AtClerk.Timer (wordsOf first) T2)) in
-    not-none (clerkHolds later (wordsOf first)) refl (wrong (at deserted) (reach false deserted refl) (wordsOf first) refl tt later stop .0)
+    not-none (clerkHolds later (wordsOf first)) refl (wrong (at deserted) (reach false deserted refl) (wordsOf first) (List·Memᴰ·tail (List·Memᴰ·head refl)) tt later stop .0)
 
 pub gone-before-taken-up : Wrong.GoneBeforeTakenUp → ⊥
 unfolding play runs all
@@ -133,7 +133,7 @@ pub gone-though-under-way : Wrong.GoneThoughUnderWay → ⊥
 unfolding play runs all
 gone-though-under-way wrong =
     not-none (lineHolds (next (at rejection) lineHears) (wordsOf first)) refl
-    (wrong (at rejection) (reach false rejection refl) (wordsOf first) refl refl refl (next (at rejection) lineHears) (then stop lineHears (allowed-told (at rejection) lineHears refl)) .1)
+    (wrong (at rejection) (reach false rejection refl) (wordsOf first) (List·Memᴰ·head refl) refl refl (next (at rejection) lineHears) (then stop lineHears (allowed-told (at rejection) lineHears refl)) .1)
 
 -- ---- 5. a Look that offers; a busy report; a drop
 -- a line report and a drop are about nobody
@@ -152,9 +152,9 @@ somebody (dropsDown i) = false
 
 about-somebody : {w : World} {e : Event} {identifier : Words} → About w e identifier → somebody e ≡ true
 about-somebody by-clerk = refl
-about-somebody (by-line by-act) = refl
-about-somebody (by-line by-guard) = refl
-about-somebody (by-line (by-look sends)) = refl
+about-somebody by-act = refl
+about-somebody by-guard = refl
+about-somebody (by-look sends) = refl
 about-somebody by-signal = refl
 about-somebody (to-clerk head) = refl
 about-somebody (to-line head) = refl
@@ -177,7 +177,7 @@ state-unaltered (marked r so) = refl
 pub look-alters-nothing : Wrong.LookAltersNothing → ⊥
 unfolding play runs all
 look-alters-nothing wrong =
-    true≢false (state-unaltered (wrong (at acknowledged) (reach false acknowledged refl) (numberWords numberB) (wordsOf first) .line))
+    true≢false (state-unaltered (wrong (at acknowledged) (reach false acknowledged refl) (numberWords numberB) (wordsOf first) .1))
 
 abbrev active : Held LineRecord.Record → Bool
 active none = false

@@ -1,7 +1,7 @@
 -- The table holds: each row computes to what it says, and ends in a world of a run.
 use mathlib.Core.Path.{_≡_, refl, sym, _∙_, ap}
 use mathlib.Core.Bool.{Bool, true, false, true≢false, false≢true}
-use mathlib.Core.List.{List, []}
+use mathlib.Core.List.{List, [], List·Memᴰ·head, List·Memᴰ·tail}
 use Rattle.lists.specs.Lists.{firstFrom, count}
 use Rattle.lists.specs.declared.words.Words.{Words}
 use Rattle.lists.specs.Words.{word, octets, wordsOf, bytesOf, sameWords}
@@ -33,15 +33,14 @@ use Rattle.line_plan.specs.Plan as LinePlan
 use Rattle.line.specs.Start as Start
 use Rattle.line.specs.Entry as LineEntry
 use Rattle.line.specs.Steps as Line
-use Rattle.pair.specs.World.{World, Event, clerkHolds, lineHolds, Reached, reached, stop, messagesOf, has, clerkHeard, lineHeard, next}
-use Rattle.pair.specs.Meaning.{Listed, no-record, invoked, wait-answer, suspended, ringout}
-use Rattle.pair_request.specs.Wires.{leftOut}
-use Rattle.pair_runs.specs.Runs.{RowsShown, Shown, TableReached, Premises, Unlisted, LeftOut, play, seen, pairs, answers, losses, signals, table, first, oneLine, start, stored, acknowledged, ringing, over}
-use Rattle.pair_runs.proofs.Allowed.{bytes-told, runs, run-told, allRun, each-reached}
+use Rattle.pair.specs.World.{Note, World, Event, clerkHolds, lineHolds, Reached, reached, stop, messagesOf, clerkHeard, lineHeard, next}
+use Rattle.pair.specs.Demand3.{Listed, no-record, invoked, wait-answer, suspended, ringout}
+use Rattle.pair_runs.specs.Runs.{has, RowsShown, Shown, TableReached, Premises, Unlisted, LeftOut, play, seen, pairs, answers, losses, signals, table, first, oneLine, start, stored, acknowledged, ringing, over}
+use Rattle.pair_runs.proofs.Allowed.{bytes-told, has-not, runs, run-told, allRun, each-reached}
 
 -- all that a run computes with: who names this unfolds every definition on its line
 unfoldable pub all : Bool
-unfolding firstFrom count word octets wordsOf bytesOf sameWords numberAt fieldAt scanAt digitsAt digitsInRange inRange rows putRow turnRow dropRow rowsFit removedRow numberWords letterOf messageOf carrierFits kindOf keepOf connectionOf termsOf held ClerkStep.rowTaken ClerkCodes.stateOf ClerkRecords.recordOf ClerkRecords.records ClerkRecords.meant ClerkRecords.place ClerkRecords.applied ClerkPlan.decided ClerkPlan.planOf ClerkPlan.planFor ClerkEntry.messageEntry Clerk.step Clerk.entered LineStep.rowTaken LineCodes.stateOf LineRecords.recordOf LineRecords.records LineRecords.meant LineRecords.place LineRecords.putRecord LineRecords.turnRecord LineRecords.removed Lines.lineOf Lines.lines Lines.lineAt Lines.overLine Lines.putLine Lines.keeps Lines.retains Lines.withSettings Change.markPlace Change.marked Change.statusStored Change.withReport Change.applied Decide.takesCall Decide.recordDecision Decide.countedDecision Decide.admittedDecision Decide.requestDecision Decide.messageDecision Decide.ownDecision Decide.offerAt Decide.lookDecision Decide.reportDecision Decide.decided LinePlan.planOf LinePlan.planFor Start.goodLine Start.lineTaken Start.takeLines Start.started LineEntry.messageEntry Line.step Line.entered messagesOf has clerkHeard lineHeard leftOut next
+unfolding firstFrom count word octets wordsOf bytesOf sameWords numberAt fieldAt scanAt digitsAt digitsInRange inRange rows putRow turnRow dropRow rowsFit removedRow numberWords letterOf messageOf carrierFits kindOf keepOf connectionOf termsOf held ClerkStep.rowTaken ClerkCodes.stateOf ClerkRecords.recordOf ClerkRecords.records ClerkRecords.meant ClerkRecords.place ClerkRecords.applied ClerkPlan.decided ClerkPlan.planOf ClerkPlan.planFor ClerkEntry.messageEntry Clerk.step Clerk.entered LineStep.rowTaken LineCodes.stateOf LineRecords.recordOf LineRecords.records LineRecords.meant LineRecords.place LineRecords.putRecord LineRecords.turnRecord LineRecords.removed Lines.lineOf Lines.lines Lines.lineAt Lines.overLine Lines.putLine Lines.keeps Lines.retains Lines.withSettings Change.markPlace Change.marked Change.statusStored Change.withReport Change.applied Decide.takesCall Decide.recordDecision Decide.countedDecision Decide.admittedDecision Decide.requestDecision Decide.messageDecision Decide.ownDecision Decide.offerAt Decide.lookDecision Decide.reportDecision Decide.decided LinePlan.planOf LinePlan.planFor Start.goodLine Start.lineTaken Start.takeLines Start.started LineEntry.messageEntry Line.step Line.entered messagesOf has clerkHeard lineHeard next
 all = true
 
 pub pairs-shown : RowsShown pairs
@@ -135,9 +134,9 @@ premises =
         world = left;
         reached = reach false over refl;
         identifier = wordsOf first;
-        dropped = refl;
-        runOut = refl;
-        guarded = refl;
+        dropped = List·Memᴰ·head refl;
+        runOut = List·Memᴰ·tail (List·Memᴰ·tail (List·Memᴰ·tail (List·Memᴰ·head refl)));
+        guarded = List·Memᴰ·tail (List·Memᴰ·head refl);
         request = tt;
       };
     }
@@ -161,10 +160,10 @@ pub not-listed : (c : Held ClerkRecord.Record) (l : Held LineRecord.Record) → 
 not-listed c l apart so = true≢false (sym (listed-together c l so) ∙ apart)
 
 pub unlisted-told :
-    (w : World) (identifier : Words) → has (w .history .dropped) identifier ≡ false → messagesOf identifier (w .up) ≡ [] → messagesOf identifier (w .down) ≡ [] →
+    (w : World) (identifier : Words) → has (Note.dropped identifier) (w .history) ≡ false → messagesOf identifier (w .up) ≡ [] → messagesOf identifier (w .down) ≡ [] →
     together (clerkHolds w identifier) (lineHolds w identifier) ≡ false → Unlisted w identifier
 unlisted-told w identifier dropped up down apart =
-    record { dropped = dropped; up = up; down = down; unlisted = not-listed (clerkHolds w identifier) (lineHolds w identifier) apart }
+    record { dropped = has-not (Note.dropped identifier) (w .history) dropped; up = up; down = down; unlisted = not-listed (clerkHolds w identifier) (lineHolds w identifier) apart }
 
 pub left-out : (retain : Bool) → LeftOut retain
 unfolding play runs all

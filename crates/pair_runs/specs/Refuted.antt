@@ -1,8 +1,8 @@
 -- Wrong claims: demand 3's with a premise left out or a word altered. A run of Runs.antt refutes each, so what was left out is needed.
 use Prim.Native.Nat.{ℕ}
 use mathlib.Core.Path.{_≡_}
-use mathlib.Core.Bool.{Bool, true, false}
-use mathlib.Core.List.{List, []}
+use mathlib.Core.Bool.{Bool, false}
+use mathlib.Core.List.{List, [], List·Memᴰ as Noted}
 use Rattle.lists.specs.Words.{Bytes}
 use Rattle.lists.specs.declared.words.Words.{Words}
 use Rattle.places.specs.Places.{none, one}
@@ -12,8 +12,8 @@ use Rattle.clerk_table.specs.declared.table.State.the-variants as ClerkState
 use Rattle.clerk_table.specs.declared.table.Timer.the-variants.{T2}
 use Rattle.line_table.specs.declared.inputs.Input.the-variants as AtLine
 use Rattle.line_table.specs.declared.record.Record as LineRecord
-use Rattle.pair.specs.World.{World, Event, clerkDoes, lineDoes, clerkHolds, lineHolds, messagesOf, has, next, Allowed, Run, startWorld, Reached}
-use Rattle.pair.specs.Meaning.{Accepted, Listed, NoRequest, About, Untouched}
+use Rattle.pair.specs.World.{takenUp, dropped, runOut, guarded, World, Event, clerkDoes, lineDoes, clerkHolds, lineHolds, messagesOf, next, Allowed, Run, startWorld, Reached}
+use Rattle.pair.specs.Demand3.{Accepted, Listed, NoRequest, About, Unaltered}
 
 -- ---- 1. without "acknowledged"
 abbrev pub AcceptedThoughWaiting : Type 0
@@ -41,7 +41,7 @@ QuietThoughDropped =
 -- Wait-Answer stands with Await, the suspended mark not set
 abbrev pub AnswerUnmarked : Type 0
 AnswerUnmarked =
-    (w : World) → Reached w → (identifier : Words) → has (w .history .dropped) identifier ≡ false →
+    (w : World) → Reached w → (identifier : Words) → (Noted (dropped identifier) (w .history) → ⊥) →
     messagesOf identifier (w .up) ≡ [] → messagesOf identifier (w .down) ≡ [] →
     (c : ClerkRecord.Record) (l : LineRecord.Record) → clerkHolds w identifier ≡ one c → lineHolds w identifier ≡ one l →
     c .state ≡ ClerkState.WaitAnswer → l .suspended ≡ false
@@ -49,13 +49,13 @@ AnswerUnmarked =
 -- ---- 4. without the guard's report
 abbrev pub OverUnguarded : Type 0
 OverUnguarded =
-    (w : World) → Reached w → (identifier : Words) → has (w .history .runOut) identifier ≡ true → NoRequest (messagesOf identifier (w .up)) →
+    (w : World) → Reached w → (identifier : Words) → Noted (runOut identifier) (w .history) → NoRequest (messagesOf identifier (w .up)) →
     (later : World) → Run w later → (clerkHolds later identifier ≡ none) × (lineHolds later identifier ≡ none)
 
 -- with a T2 report that is taken or refused (mend M1)
 abbrev pub OverByRefusedT2 : Type 0
 OverByRefusedT2 =
-    (w : World) → Reached w → (identifier : Words) → has (w .history .guarded) identifier ≡ true → NoRequest (messagesOf identifier (w .up)) →
+    (w : World) → Reached w → (identifier : Words) → Noted (guarded identifier) (w .history) → NoRequest (messagesOf identifier (w .up)) →
     (later : World) → Run (next w (clerkDoes (AtClerk.Timer identifier T2))) later → (clerkHolds later identifier ≡ none) × (lineHolds later identifier ≡ none)
 
 -- without "was taken up"; without "no request message under way"
@@ -67,12 +67,15 @@ GoneBeforeTakenUp =
 
 abbrev pub GoneThoughUnderWay : Type 0
 GoneThoughUnderWay =
-    (w : World) → Reached w → (identifier : Words) → has (w .history .takenUp) identifier ≡ true → clerkHolds w identifier ≡ none → lineHolds w identifier ≡ none →
+    (w : World) → Reached w → (identifier : Words) → Noted (takenUp identifier) (w .history) → clerkHolds w identifier ≡ none → lineHolds w identifier ≡ none →
     (later : World) → Run w later → (clerkHolds later identifier ≡ none) × (lineHolds later identifier ≡ none)
 
 -- ---- 5. a Look is about no request
 abbrev pub LookAltersNothing : Type 0
-LookAltersNothing = (w : World) → Reached w → (number identifier : Words) → Untouched w (lineDoes (AtLine.Look number)) identifier
+LookAltersNothing =
+    (w : World) → Reached w → (number identifier : Words) →
+    let e = lineDoes (AtLine.Look number) in
+    (clerkHolds (next w e) identifier ≡ clerkHolds w identifier) × Unaltered e (lineHolds w identifier) (lineHolds (next w e) identifier)
 
 -- without the exception of a busy report
 abbrev pub ReportMarksNothing : Type 0
@@ -80,7 +83,7 @@ ReportMarksNothing =
     (w : World) → Reached w → (e : Event) → Allowed w e → (identifier : Words) → (About w e identifier → ⊥) →
     lineHolds (next w e) identifier ≡ lineHolds w identifier
 
--- without "unless it is the drop of one"
+-- without "does not drop one of its messages"
 abbrev pub DropTakesNothing : Type 0
 DropTakesNothing =
     (w : World) → Reached w → (e : Event) → Allowed w e → (identifier : Words) → (About w e identifier → ⊥) →

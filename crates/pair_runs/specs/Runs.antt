@@ -2,9 +2,12 @@
 use Prim.Native.Nat.{ℕ}
 use mathlib.Core.Path.{_≡_}
 use mathlib.Core.Bool.{Bool, true, false}
-use mathlib.Core.List.{List, [], _∷_, _++_, map}
+use mathlib.Core.List.{List, [], _∷_, _++_, map, List·Memᴰ as Noted}
+use lib.Dec.{eqb}
 use lib.ListN.{length}
-use Rattle.lists.specs.Words.{wordsOf}
+use Rattle.lists.specs.Choice.{pick}
+use Rattle.lists.specs.Lists.{both}
+use Rattle.lists.specs.Words.{wordsOf, sameWords}
 use Rattle.lists.specs.declared.words.Words.{Words}
 use Rattle.message.specs.declared.Kind.{Kind}
 use Rattle.message.specs.declared.Kind.the-variants.{Ccbs, Ccnr}
@@ -30,14 +33,31 @@ use Rattle.line_table.specs.declared.inputs.Act.the-variants as Far
 use Rattle.line_table.specs.declared.inputs.Input.the-variants as AtLine
 use Rattle.line_table.specs.declared.record.Record as LineRecord
 use Rattle.line_records.specs.Codes as LineCodes
-use Rattle.pair.specs.World.{World, Event, clerkDoes, lineDoes, clerkIsTold, clerkHears, lineHears, dropsUp, dropsDown, clerkHolds, lineHolds, messagesOf, has, next, startWorld, Reached}
-use Rattle.pair.specs.Meaning.{Acknowledged, Listed, NoRequest}
-use Rattle.pair_request.specs.Wires.{callDied, rejected}
+use Rattle.pair.specs.World.{Note, World, Event, clerkDoes, lineDoes, clerkIsTold, clerkHears, lineHears, dropsUp, dropsDown, clerkHolds, lineHolds, messagesOf, next, startWorld, Reached}
+use Rattle.pair.specs.Demand3.{Acknowledged, Listed, NoRequest}
+use Rattle.pair_request.specs.Signal.{callDied, rejected}
 
 -- events one after the other
 unfoldable pub play : World → List Event → World
 play w [] = w
 play w (e ∷ es) = play (next w e) es
+
+-- ---- whether a note is in a history
+abbrev pub kindOf : Note → ℕ
+kindOf (Note.takenUp identifier) = 0
+kindOf (Note.dropped identifier) = 1
+kindOf (Note.runOut identifier) = 2
+kindOf (Note.guarded identifier) = 3
+
+abbrev pub whose : Note → Words
+whose (Note.takenUp identifier) = identifier
+whose (Note.dropped identifier) = identifier
+whose (Note.runOut identifier) = identifier
+whose (Note.guarded identifier) = identifier
+
+unfoldable pub has : Note → List Note → Bool
+has n [] = false
+has n (x ∷ xs) = pick (both (sameWords (whose n) (whose x)) (eqb (kindOf n) (kindOf x))) true (has n xs)
 
 -- ---- what is seen of a request in a world, as plain numbers
 pub record Seen : Type 0 where
@@ -91,9 +111,9 @@ seen w identifier =
     (told (λ (l : LineRecord.Record). keepCode (l .terms .keep)) (lineHolds w identifier))
     (length (messagesOf identifier (w .up)))
     (length (messagesOf identifier (w .down)))
-    (flagCode (has (w .history .dropped) identifier))
-    (flagCode (has (w .history .runOut) identifier))
-    (flagCode (has (w .history .guarded) identifier))
+    (flagCode (has (Note.dropped identifier) (w .history)))
+    (flagCode (has (Note.runOut identifier) (w .history)))
+    (flagCode (has (Note.guarded identifier) (w .history)))
 
 -- ---- the data of the runs
 -- two identifiers, sixteen bytes each
@@ -373,9 +393,9 @@ pub record RunOut : Type 0 where
   pub world : World
   pub reached : Reached world
   pub identifier : Words
-  pub dropped : has (world .history .dropped) identifier ≡ true
-  pub runOut : has (world .history .runOut) identifier ≡ true
-  pub guarded : has (world .history .guarded) identifier ≡ true
+  pub dropped : Noted (Note.dropped identifier) (world .history)
+  pub runOut : Noted (Note.runOut identifier) (world .history)
+  pub guarded : Noted (Note.guarded identifier) (world .history)
   pub request : NoRequest (messagesOf identifier (world .up))
 
 pub record Premises : Type 0 where
@@ -386,7 +406,7 @@ pub record Premises : Type 0 where
 -- ---- what is no event of a run
 -- nothing of a request was dropped or is under way, and yet its pair is not listed
 pub record Unlisted (w : World) (identifier : Words) : Type 0 where
-  pub dropped : has (w .history .dropped) identifier ≡ false
+  pub dropped : Noted (Note.dropped identifier) (w .history) → ⊥
   pub up : messagesOf identifier (w .up) ≡ []
   pub down : messagesOf identifier (w .down) ≡ []
   pub unlisted : Listed (clerkHolds w identifier) (lineHolds w identifier) → ⊥

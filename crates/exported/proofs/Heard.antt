@@ -26,13 +26,12 @@ use Rattle.line.specs.Entry as LineEntry
 use Rattle.clerk.specs.Steps as Clerk
 use Rattle.line.specs.Steps as Line
 use Rattle.pair_request.specs.Reading as R
 use Rattle.pair.specs.World.{World}
-use Rattle.pair.specs.Meaning.{ClerkHearsBytes, LineHearsBytes}
-use Rattle.pair.specs.Demand3.{HeardAsBytes}
+use Rattle.exported.specs.Claims.{ClerkHearsBytes, LineHearsBytes, HeardAsBytes}
 use Rattle.pair.proofs.Ends.{letterRead, messageRead, Clear}
 use Rattle.pair.proofs.Letters.{request-fields}
 use Rattle.pair.proofs.Wires.{Worded, quiet, word}
 use Rattle.pair.proofs.Claims.{known-world}
 
 -- a number in range that its words give back stands in its normal form
 number-normal :
