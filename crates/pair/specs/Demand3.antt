@@ -21,7 +21,7 @@ use Rattle.pair.specs.World.{nameOf, messagesOf, takenUp, dropped, runOu
 abbrev pub Acknowledged : ClerkRecord → Type 0
 Acknowledged c = c .terms .connection ≡ Empty → ⊥
 
--- types 1 and 2
+-- types 1 and 2, whose numbers are below 3
 abbrev pub isRequest : Body → Bool
 isRequest body = ltb (typeNumber body) 3
 
@@ -38,7 +38,7 @@ pub record Stores (identifier : Words) (w : World) (e : Event) : Type 0 where
   pub stored : LineRecord
   pub present : lineHolds (next w e) identifier ≡ one stored
 
--- some step of the run is that one
+-- some step of the run is that one; `w` is the world before it
 unfoldable pub Accepted : {first w : World} → Words → Run first w → Type 0
 Accepted identifier stop = ⊥
 Accepted identifier (then {w} run e allowed) = Stores identifier w e ⊎ Accepted identifier run
@@ -76,19 +76,19 @@ pub data Listed : Held ClerkRecord → Held LineRecord → Type 0 where
   suspended : {c : ClerkRecord} {l : LineRecord} → c .state ≡ ClerkState.Suspended → l .state ≡ LineState.Await → l .suspended ≡ true → Listed (one c) (one l)
   ringout : {c : ClerkRecord} {l : LineRecord} → c .state ≡ ClerkState.Ringout → l .state ≡ LineState.Alert → Listed (one c) (one l)
 
--- none of its messages was dropped or is under way
+-- if none of its messages was dropped or is under way, what the ends hold is a listed pair
 abbrev pub QuietListed : Type 0
 QuietListed =
     (w : World) → Reached w → (identifier : Words) → (Noted (dropped identifier) (w .history) → ⊥) →
     messagesOf identifier (w .up) ≡ [] → messagesOf identifier (w .down) ≡ [] → Listed (clerkHolds w identifier) (lineHolds w identifier)
 
 -- ---- 4. run-out timers mean nobody holds it
--- no request message is under way
+-- none of these messages is a request
 abbrev pub NoRequest : List Message → Type 0
 NoRequest [] = Unit
 NoRequest (m ∷ ms) = (isRequest (m .body) ≡ false) × NoRequest ms
 
--- a T1 or T2 report was taken at the clerk's end and a guard report at the line's, its request message is no longer under way: now and in any later world
+-- a T1 or T2 report was taken at the clerk's end and a guard report at the line's, its request message is not under way: neither end holds it, now or later
 abbrev pub OverForGood : Type 0
 OverForGood =
     (w : World) → Reached w → (identifier : Words) → Noted (runOut identifier) (w .history) → Noted (guarded identifier) (w .history) →
@@ -106,7 +106,8 @@ abbrev pub Heads : List Message → Words → Type 0
 Heads [] identifier = ⊥
 Heads (m ∷ ms) identifier = nameOf m ≡ identifier
 
--- the request that a step is about: the one that its input names, whose ccExecPossible a Look sends, or whose message it delivers
+-- the request that a step is about, at most one: the one that its input names, whose ccExecPossible a Look sends, of which the signalling tells, or whose message is
+-- delivered. A line report and a drop are about none
 pub data About (w : World) : Event → Words → Type 0 where
   by-clerk : {input : ClerkInput} → About w (clerkDoes input) (namesOf input .identifier)
   by-act : {identifier : Words} {act : LineAct} → About w (lineDoes (LineInput.Act identifier act)) identifier
@@ -118,7 +119,7 @@ pub data About (w : World) : Event → Words → Type 0 where
   to-clerk : {busy : Bool} {identifier : Words} → Heads (w .down) identifier → About w (clerkHears busy) identifier
   to-line : {identifier : Words} → Heads (w .up) identifier → About w lineHears identifier
 
--- the same, except that a busy report of its line may mark the activity of an Invoked record
+-- the same, except that a busy report of its line may mark the activity of an Invoked record (which are marked: `Reports` in line_sound)
 pub data Unaltered : Event → Held LineRecord → Held LineRecord → Type 0 where
   same : {e : Event} {r : Held LineRecord} → Unaltered e r r
   marked :

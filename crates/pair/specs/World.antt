@@ -51,10 +51,11 @@ messagesOf identifier (m ∷ ms) = pick (sameWords (nameOf m) identifier) (m ∷
 
 -- ---- the steps
 pub data Event : Type 0 where
-  -- what a host puts in at an end: at the clerk's an ask, User A's act, a timer's report; at the line's a line report, a Look, an act, the guard's report
+  -- what a host puts in at an end: at the clerk's an ask, User A's act, a timer's report; at the line's a line report, a Look, an act, the guard's report (no message:
+  -- `Allowed`)
   clerkDoes : ClerkInput → Event
   lineDoes : LineInput → Event
-  -- what the signalling of a request's call tells the clerk's host, with its word on User A
+  -- what the signalling of a request's call tells the clerk's host, with the host's word on User A
   clerkIsTold : Signal → Words → Bool → Event
   -- the head of a wire is delivered: of `down`, with the host's word on User A; of `up`
   clerkHears : Bool → Event
@@ -67,21 +68,21 @@ abbrev pub sentBy : Sending → List Message
 sentBy Sending.Nothing = []
 sentBy (Sending.Send l) = messageOf l ∷ []
 
--- what is noted of an input, if it is not refused (`so`): an ask takes up an identifier; a timer of the demand, which T3 is not, or a guard has run out
+-- what is noted of an input that is taken, not refused: an ask takes up an identifier; T1, T2 or a guard has run out. T3 is no timer of the demand
 abbrev pub clerkNotes : ClerkInput → Bool → List Note
-clerkNotes (ClerkInput.Ask names q) so = pick so (takenUp (names .identifier) ∷ []) []
-clerkNotes (ClerkInput.Message l busy) so = []
-clerkNotes (ClerkInput.Act identifier act) so = []
-clerkNotes (ClerkInput.Timer identifier Timer.T1) so = pick so (runOut identifier ∷ []) []
-clerkNotes (ClerkInput.Timer identifier Timer.T2) so = pick so (runOut identifier ∷ []) []
-clerkNotes (ClerkInput.Timer identifier Timer.T3) so = []
+clerkNotes (ClerkInput.Ask names q) taken = pick taken (takenUp (names .identifier) ∷ []) []
+clerkNotes (ClerkInput.Message l busy) taken = []
+clerkNotes (ClerkInput.Act identifier act) taken = []
+clerkNotes (ClerkInput.Timer identifier Timer.T1) taken = pick taken (runOut identifier ∷ []) []
+clerkNotes (ClerkInput.Timer identifier Timer.T2) taken = pick taken (runOut identifier ∷ []) []
+clerkNotes (ClerkInput.Timer identifier Timer.T3) taken = []
 
 abbrev pub lineNotes : LineInput → Bool → List Note
-lineNotes (LineInput.Message l) so = []
-lineNotes (LineInput.Act identifier act) so = []
-lineNotes (LineInput.Guard identifier) so = pick so (guarded identifier ∷ []) []
-lineNotes (LineInput.Report number busy) so = []
-lineNotes (LineInput.Look number) so = []
+lineNotes (LineInput.Message l) taken = []
+lineNotes (LineInput.Act identifier act) taken = []
+lineNotes (LineInput.Guard identifier) taken = pick taken (guarded identifier ∷ []) []
+lineNotes (LineInput.Report number busy) taken = []
+lineNotes (LineInput.Look number) taken = []
 
 -- the world after a step of a desk, with what is left of the wire that it heard from and what is noted
 abbrev pub clerkStepped : World → List Message → ClerkStepped → List Note → World
@@ -92,6 +93,7 @@ abbrev pub lineStepped : World → List Message → LineStepped → List Note �
 lineStepped w up step notes =
     record { clerk = w .clerk; up = up; line = step .desk; down = w .down ++ sentBy (step .outcome .sending); history = notes ++ w .history }
 
+-- the head is delivered, refused or not; an empty wire delivers nothing
 unfoldable pub clerkHeard : World → Bool → List Message → World
 clerkHeard w busy [] = w
 clerkHeard w busy (m ∷ rest) = clerkStepped w rest (Clerk.received (w .clerk) m busy) []
@@ -100,8 +102,8 @@ unfoldable pub lineHeard : World → List Message → World
 lineHeard w [] = w
 lineHeard w (m ∷ rest) = lineStepped w rest (Line.received (w .line) m) []
 
--- a message that nobody sent (docs/HOST.md, 12): type 12, or type 4 short, in Release Complete. The types 11 and 7 that it names are no steps of a run: claim 3 would
--- not hold of them (`LeftOut` in crate pair_runs)
+-- a message that nobody sent (docs/HOST.md, 12): type 12, or type 4 short, in Release Complete. The types 11 and 7 that HOST.md names there are no
+-- steps of a run, since claim 3 would not hold of them (`LeftOut` in crate pair_runs)
 abbrev pub signalLetter : Signal → Words → Letter
 signalLetter callDied identifier = plainLetter identifier ReleaseComplete CallFailed
 signalLetter rejected identifier = plainLetter identifier ReleaseComplete (RequestError 1)
@@ -126,12 +128,12 @@ next w (dropsDown i) =
     record { clerk = w .clerk; up = w .up; line = w .line; down = take i (w .down) ++ drop (suc i) (w .down); history = lostAt i (w .down) ++ w .history }
 
 -- ---- runs
--- an ask is any that the entry makes of values of the code's types (`Fair`), every identifier is taken up by at most one ask that is not refused, and no host makes up
--- a message: but for what the signalling tells, messages come by the wires
 pub record Allowed (w : World) (e : Event) : Type 0 where
+  -- an ask is any that the entry makes of values of the code's types (`Fair`), and every identifier is taken up by at most one ask that is not refused
   pub asked :
       (names : Names) (q : Request) → e ≡ clerkDoes (ClerkInput.Ask names q) →
       Fair (ClerkInput.Ask names q) × (Clerk.step (w .clerk) (ClerkInput.Ask names q) .outcome .refusal ≡ 0 → Noted (takenUp (names .identifier)) (w .history) → ⊥)
+  -- no host makes up a message: but for what the signalling tells, messages come by the wires
   pub toClerk : (l : Letter) (busy : Bool) → e ≡ clerkDoes (ClerkInput.Message l busy) → ⊥
   pub toLine : (l : Letter) → e ≡ lineDoes (LineInput.Message l) → ⊥
 
@@ -139,7 +141,7 @@ pub data Run (first : World) : World → Type 0 where
   stop : Run first first
   then : {w : World} → Run first w → (e : Event) → Allowed w e → Run first (next w e)
 
--- two desks started empty, the line desk with any lines and settings; where these are refused, a desk without lines
+-- two desks started empty, the line desk with any lines and settings; where these are refused, a desk without lines, which no host is given
 abbrev pub startWorld : List ℕ → Bool → Bool → World
 startWorld given keep retain = record { clerk = Clerk.startedDesk; up = []; line = lineStarted given keep retain .desk; down = []; history = [] }
 

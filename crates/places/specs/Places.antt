@@ -50,6 +50,7 @@ identified v identifier r = both (sameWords (v .name r) identifier) (v .used r)
 abbrev pub meantIn : {A : Type 0} → View A → Words → List A → Found
 meantIn v identifier rs = first (identified v identifier) rs
 
+-- what a list holds of an identifier: the first used record that has it, and on a reached desk there is at most one (`differ` of `Placed`)
 pub data Held (A : Type 0) : Type 0 where
   none : Held A
   one : A → Held A
