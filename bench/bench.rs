@@ -34,7 +34,7 @@ mod reference;
 mod side;
 
 use cases::{identifier, line_number, Case};
-use side::{ClerkInput, Desk, LineInput, Number, Told};
+use side::{ClerkInput, Desk, LineInput, Number, Told, UNTOLD};
 use std::time::{Duration, Instant};
 
 /// The caller's buffer for what a step sends: more than the 53 bytes that any message takes.
@@ -48,7 +48,7 @@ const ROUNDS: usize = 41;
 type Answer = (u64, Told, [u8; ROOM]);
 
 fn answer<D: Desk>(desk: &mut D, input: &D::Input) -> Answer {
-    let (mut out, mut told) = ([0xEE; ROOM], [0; 7]);
+    let (mut out, mut told) = ([0xEE; ROOM], UNTOLD);
     let refusal = desk.step(input, &mut out, &mut told);
     (refusal, told, out)
 }
@@ -70,7 +70,7 @@ fn prepared<A: Desk, B: Desk<Input = A::Input>>(mut a: A, mut b: B, case: &Case<
 
 /// One pass: a step on each copy of the desk.
 fn pass<D: Desk>(desk: &D, input: &D::Input, copies: &mut Vec<D>) -> Duration {
-    let (mut out, mut told) = ([0; ROOM], [0; 7]);
+    let (mut out, mut told) = ([0; ROOM], UNTOLD);
     copies.clear();
     copies.resize(COPIES, desk.clone());
     let start = Instant::now();
@@ -121,7 +121,7 @@ pub extern "C" fn mark() {
 /// The step once on each side, on a copy; a first time before, so that no side pays for its first call.
 fn once<D: Desk>(desk: &D, input: &D::Input) {
     for _ in 0..2 {
-        let (mut copy, mut out, mut told) = (desk.clone(), [0; ROOM], [0; 7]);
+        let (mut copy, mut out, mut told) = (desk.clone(), [0; ROOM], UNTOLD);
         mark();
         copy.step(input, &mut out, &mut told);
         mark();

@@ -22,7 +22,7 @@ extern "C" {
     fn tollherring_line_act(desk: &mut LineWords, identifier: &Identifier, act: u64, out: *mut u8, room: usize, told: &mut Told) -> u64;
     fn tollherring_line_guard(desk: &mut LineWords, identifier: &Identifier, out: *mut u8, room: usize, told: &mut Told) -> u64;
     fn tollherring_message_read(bytes: *const u8, length: usize, identifier: &mut Identifier, number_a: &mut [u8; 16], number_b: &mut [u8; 16],
-        message: &mut [u64; 4], taken: &mut u64) -> u64;
+        message: &mut [u64; 4], taken: &mut u64, place: &mut u64) -> u64;
     fn tollherring_message_write(identifier: &Identifier, number_a: &[u8; 16], number_b: &[u8; 16], message: &[u64; 4],
         out: *mut u8, room: usize, place: usize, written: &mut u64) -> u64;
 }
@@ -112,11 +112,12 @@ impl Desk for Held {
     #[inline(always)]
     fn step(&mut self, input: &CodecInput, out: &mut [u8], told: &mut Told) -> u64 {
         let Held { identifier, number_a, number_b, message } = self;
+        let [_, written, taken, .., fault] = told;
         unsafe {
             match input {
-                CodecInput::Read(b) => tollherring_message_read(b.as_ptr(), b.len(), identifier, number_a, number_b, message, &mut told[2]),
+                CodecInput::Read(b) => tollherring_message_read(b.as_ptr(), b.len(), identifier, number_a, number_b, message, taken, fault),
                 CodecInput::Write(place) => {
-                    tollherring_message_write(identifier, number_a, number_b, message, out.as_mut_ptr(), out.len(), *place, &mut told[1])
+                    tollherring_message_write(identifier, number_a, number_b, message, out.as_mut_ptr(), out.len(), *place, written)
                 }
             }
         }

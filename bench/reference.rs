@@ -1,9 +1,9 @@
 //! The independent program's side: its own reader, desks and writer, unchanged. Around each step stands only what makes the two comparable: a
-//! message is read from bytes, the message sent is written into the caller's buffer, and the outcome is told as the same seven numbers.
+//! message is read from bytes, the message sent is written into the caller's buffer, and the outcome is told as the same nine numbers.
 //! Each is a function of its own that is not inlined, as the library's exports are, with a name that callgrind can be given.
 
 use crate::clerk::{ClerkDesk, FreeChoice, Timer};
-use crate::codec::{read_message, write_message, Message, Refusal};
+use crate::codec::{read_message, write_message, Fault, Message, Refusal};
 use crate::line::{Act, Line, LineDesk};
 use crate::outcome::{Notice, Outcome};
 use crate::side::{Ask, ClerkInput, CodecInput, Desk, Identifier, LineInput, Number, Told};
@@ -19,12 +19,18 @@ fn tell(outcome: &Outcome, next: usize, out: &mut [u8], told: &mut Told) -> u64 
     let refusal = outcome.refusal.map_or(0, |r| u64::from(r.number()));
     let notice = outcome.notice.map_or(0, |n: Notice| u64::from(n.number()));
     let (starts, stops) = (u64::from(outcome.starts), u64::from(outcome.stops));
-    *told = [refusal, length as u64, next as u64, starts, stops, notice, u64::from(outcome.clear)];
+    *told = [refusal, length as u64, next as u64, starts, stops, notice, u64::from(outcome.clear), 0, 0];
     refusal
 }
 
 fn refuse(refusal: Refusal, told: &mut Told) -> u64 {
-    *told = [u64::from(refusal.number()), 0, 0, 0, 0, 0, 0];
+    *told = [u64::from(refusal.number()), 0, 0, 0, 0, 0, 0, 0, 0];
+    told[0]
+}
+
+/// Bytes that cannot be read, and the place of the fault.
+fn refuse_bytes(fault: Fault, told: &mut Told) -> u64 {
+    *told = [u64::from(fault.refusal.number()), 0, 0, 0, 0, 0, 0, 1, fault.place as u64];
     told[0]
 }
 
@@ -39,7 +45,7 @@ pub fn independent_clerk_ask(desk: &mut ClerkDesk, ask: &Ask, out: &mut [u8], to
 pub fn independent_clerk_receive(desk: &mut ClerkDesk, bytes: &[u8], busy: u64, out: &mut [u8], told: &mut Told) -> u64 {
     match read_message(bytes) {
         Ok((message, rest)) => tell(&desk.take(&message, busy == 1), bytes.len() - rest.len(), out, told),
-        Err(refusal) => refuse(refusal, told),
+        Err(fault) => refuse_bytes(fault, told),
     }
 }
 
@@ -73,7 +79,7 @@ pub fn independent_clerk_report(desk: &mut ClerkDesk, id: &Identifier, timer: u6
 pub fn independent_line_receive(desk: &mut LineDesk, bytes: &[u8], out: &mut [u8], told: &mut Told) -> u64 {
     match read_message(bytes) {
         Ok((message, rest)) => tell(&desk.take(&message), bytes.len() - rest.len(), out, told),
-        Err(refusal) => refuse(refusal, told),
+        Err(fault) => refuse_bytes(fault, told),
     }
 }
 
@@ -113,14 +119,17 @@ pub fn independent_line_guard(desk: &mut LineDesk, id: &Identifier, out: &mut [u
 /// The reader alone: the message, with its own heap, stays in the caller's place until the next one is read there.
 #[inline(never)]
 #[no_mangle]
-pub fn independent_message_read(bytes: &[u8], message: &mut Option<Message>, taken: &mut u64) -> u64 {
+pub fn independent_message_read(bytes: &[u8], message: &mut Option<Message>, taken: &mut u64, place: &mut u64) -> u64 {
     match read_message(bytes) {
         Ok((read, rest)) => {
             *message = Some(read);
             *taken = (bytes.len() - rest.len()) as u64;
             0
         }
-        Err(refusal) => u64::from(refusal.number()),
+        Err(fault) => {
+            *place = fault.place as u64;
+            u64::from(fault.refusal.number())
+        }
     }
 }
 
@@ -179,9 +188,10 @@ impl Desk for Held {
 
     #[inline(always)]
     fn step(&mut self, input: &CodecInput, out: &mut [u8], told: &mut Told) -> u64 {
+        let [_, written, taken, .., fault] = told;
         match (input, self) {
-            (CodecInput::Read(b), held) => independent_message_read(b, held, &mut told[2]),
-            (CodecInput::Write(place), Some(message)) => independent_message_write(message, out, *place, &mut told[1]),
+            (CodecInput::Read(b), held) => independent_message_read(b, held, taken, fault),
+            (CodecInput::Write(place), Some(message)) => independent_message_write(message, out, *place, written),
             (CodecInput::Write(_), None) => unreachable!("a message is read before it is written"),
         }
     }

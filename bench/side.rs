@@ -1,11 +1,14 @@
-//! What both sides are given and answer: the same bytes and numbers in, the same bytes and seven numbers out.
+//! What both sides are given and answer: the same bytes and numbers in, the same bytes and nine numbers out.
 
 use crate::clerk;
 
 pub type Identifier = [u8; 16];
 
-/// Refusal, bytes written, bytes read, timers started, timers stopped, notice, clear: the library's outcome, in its order.
-pub type Told = [u64; 7];
+/// Refusal, bytes written, bytes read, timers started, timers stopped, notice, clear, whether bytes could not be read, and where: the library's outcome, in
+/// its order.
+pub type Told = [u64; 9];
+
+pub const UNTOLD: Told = [0; 9];
 
 /// A number of digits in both forms: sixteen bytes for the library, the digits alone for the independent program.
 pub struct Number {

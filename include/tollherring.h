@@ -8,9 +8,9 @@
  * A step has the same tail everywhere: `out`, `room` and `outcome`. What the step sends, the reply that goes with a refusal too, is written at the front
  * of `out` (TOLLHERRING_MESSAGE_MOST bytes are always enough); the bytes behind it stay as they were. `outcome` is written whole. The call answers the
  * refusal's number, or 0. After a refusal the desk is as it was, and the outcome has no timer, no notice and no word to clear a call: beside the number there
- * is perhaps a reply to be sent, and after receive `next`. Two refusals are the call's own and leave `out` as it was too, and `outcome` then has the
- * number and zeros: 2 for a number out of range, before anything else is looked at; and 12 where the message has no room, in place of what would have
- * been answered, so that the same input can be handed in again.
+ * is perhaps a reply to be sent, and after receive `next`, or the place where the bytes went wrong. Two refusals are the call's own and leave `out` as it was
+ * too, and `outcome` then has the number and zeros: 2 for a number out of range, before anything else is looked at; and 12 where the message has no room, in
+ * place of what would have been answered, so that the same input can be handed in again.
  *
  * Whatever numbers and bytes are passed, there is an answer, and any words are a desk, garbage too: every call is total, whatever the desk's memory holds,
  * and touches nothing but what it is lent. What the caller owes is only what C itself asks for: every pointer points to as many bytes as
@@ -53,6 +53,12 @@ typedef struct tollherring_outcome {
                          was about: the one whose identifier was given, was in the bytes received, or, after a Look, is in `out` */
     uint64_t notice;  /* what to tell User A: TOLLHERRING_ACCEPTED and so on, 0 for nothing */
     uint64_t clear;   /* 1: clear the call */
+    uint64_t unread;  /* 1: the bytes given to receive could not be read (1, 2), and `place` tells where they went wrong. Else 0, also on a 2 for a number that
+                         was given beside the bytes */
+    uint64_t place;   /* where `unread` is 1: an index, from 0, into the bytes that were given. It is the first byte of the faulty number, also where its second
+                         byte is the fault (80 80, 80 00) or its value is out of range, and a length of digits is such a number; the digit that is over 9; or,
+                         where the bytes end inside the message, their length. Else 0, which alone tells nothing: ask `unread`. A support desk that has the
+                         bytes, the refusal and the place need not count: what stands before the place was read without fault */
 } tollherring_outcome;
 
 /* timers, in `starts` and `stops` */
@@ -73,7 +79,7 @@ typedef struct tollherring_outcome {
 #define TOLLHERRING_CANCELLED 9
 
 /* refusals */
-#define TOLLHERRING_BYTES_END 1       /* bytes end inside a message, or a number is over two bytes or not shortest: with 53 bytes at hand, the latter */
+#define TOLLHERRING_BYTES_END 1       /* bytes end inside a message: the place is their length; or a number is over two bytes or not shortest: it is less */
 #define TOLLHERRING_OUT_OF_RANGE 2    /* a field or a number given is out of range */
 #define TOLLHERRING_OTHER_END 3       /* the message type isn't for this end */
 #define TOLLHERRING_LIVE 4            /* an ask uses an identifier that is live at this desk */
@@ -181,7 +187,7 @@ uint64_t tollherring_clerk_ask(tollherring_clerk *desk, const uint8_t identifier
                                const uint8_t number_b[16], uint64_t service, uint64_t can_keep, uint64_t preference, uint8_t *out, size_t room,
                                tollherring_outcome *outcome);
 
-/* Bytes reach this end; user_a_busy 0 or 1. One message is read, from the front. Refusals 1, 2, 3, 6, 7, 8, 12. */
+/* Bytes reach this end; user_a_busy 0 or 1. One message is read, from the front. Refusals 1, 2, 3, 6, 7, 8, 12; a 1, and a 2 of the bytes, have a place. */
 uint64_t tollherring_clerk_receive(tollherring_clerk *desk, const uint8_t *bytes, size_t length, uint64_t user_a_busy, uint8_t *out, size_t room,
                                    tollherring_outcome *outcome);
 
@@ -212,7 +218,7 @@ typedef struct tollherring_line_given {
  * size that ends inside a line, bad digits or kinds, and one number twice: then no desk is made, and the memory is as it was. */
 uint64_t tollherring_line_start(tollherring_line *desk, const tollherring_line_given *lines, size_t size, uint64_t keep, uint64_t retain);
 
-/* Bytes reach this end. One message is read, from the front. Refusals 1, 2, 3, 6, 7, 8, 12. */
+/* Bytes reach this end. One message is read, from the front. Refusals 1, 2, 3, 6, 7, 8, 12; 1 and 2 have a place. */
 uint64_t tollherring_line_receive(tollherring_line *desk, const uint8_t *bytes, size_t length, uint8_t *out, size_t room,
                                   tollherring_outcome *outcome);
 
@@ -285,9 +291,9 @@ typedef struct tollherring_message {
 } tollherring_message;
 
 /* One message from the front of some bytes; how many bytes it takes. Types 3 to 12 have no numbers of digits: sixteen zeros are written. Refusals 1, 2, and
- * then nothing is written. */
+ * then the place of the fault is written, as an outcome has it, and nothing else; where a message is read, `place` is left as it was. */
 uint64_t tollherring_message_read(const uint8_t *bytes, size_t length, uint8_t identifier[16], uint8_t number_a[16], uint8_t number_b[16],
-                                  tollherring_message *message, uint64_t *taken);
+                                  tollherring_message *message, uint64_t *taken, uint64_t *place);
 
 /* A message at a place of a buffer of `room` bytes; how many bytes it takes. What its type has no field for is not looked at. Refusals 2, 12, and then nothing
  * is written. */

@@ -59,7 +59,7 @@ macro_rules! numbered {
 numbered! {
     /// Why nothing changed.
     Refusal {
-        /// Bytes end inside a message, or a number is over two bytes or not shortest.
+        /// Bytes end inside a message: the place is their length. Or a number is over two bytes or not shortest: it is less.
         BytesEnd = 1,
         /// A field or a number given is out of range.
         OutOfRange = 2,
@@ -298,8 +298,8 @@ impl Timers {
 }
 
 /// What a step does. The host sends the message, stops and starts timers, tells the notice and clears the call. A refusal has no timer, notice or word to
-/// clear the call, only perhaps a message, the reply, and after `receive` perhaps a `next`. Every step has an outcome, whatever the desk holds: any words are
-/// a desk, garbage too, though here they come from `start` alone.
+/// clear the call, only perhaps a message, the reply, and after `receive` perhaps a `next` or a `place`. Every step has an outcome, whatever the desk holds: any
+/// words are a desk, garbage too, though here they come from `start` alone.
 #[derive(Clone, Copy, PartialEq, Eq, Debug)]
 #[must_use = "what a step sends, the reply to a refused message too, is sent by the host"]
 pub struct Outcome<'o> {
@@ -314,6 +314,11 @@ pub struct Outcome<'o> {
     pub notice: Option<Notice>,
     /// Clear the call.
     pub clear: bool,
+    /// Where the bytes given to `receive` could not be read (refusals 1 and 2), the place of the fault: an index into them. It is the first byte of the faulty
+    /// number, also where its second byte is the fault (80 80, 80 00) or its value is out of range, and a length of digits is such a number; the digit that is
+    /// over 9; or, where the bytes end inside the message, their length. A support desk that has the bytes, the refusal and the place need not count: what
+    /// stands before the place was read without fault. None in every other outcome.
+    pub place: Option<usize>,
 }
 
 impl Outcome<'_> {
@@ -458,7 +463,7 @@ impl ClerkDesk {
         })
     }
 
-    /// Bytes reach this end. One message is read, from the front. Refusals 1, 2, 3, 6, 7, 8, 12.
+    /// Bytes reach this end. One message is read, from the front. Refusals 1, 2, 3, 6, 7, 8, 12; 1 and 2 have a place.
     pub fn receive<'o>(&mut self, bytes: &[u8], user_a_busy: bool, out: &'o mut [u8]) -> Outcome<'o> {
         told(out, |out, room, raw| unsafe {
             tollherring_clerk_receive(self, bytes.as_ptr(), bytes.len(), u64::from(user_a_busy), out, room, raw)
@@ -530,7 +535,7 @@ impl LineDesk {
         refused(refusal).map_or(Ok(desk), Err)
     }
 
-    /// Bytes reach this end. One message is read, from the front. Refusals 1, 2, 3, 6, 7, 8, 12.
+    /// Bytes reach this end. One message is read, from the front. Refusals 1, 2, 3, 6, 7, 8, 12; 1 and 2 have a place.
     pub fn receive<'o>(&mut self, bytes: &[u8], out: &'o mut [u8]) -> Outcome<'o> {
         told(out, |out, room, raw| unsafe {
             tollherring_line_receive(self, bytes.as_ptr(), bytes.len(), out, room, raw)
@@ -612,12 +617,19 @@ pub struct Message {
     pub field: u64,
 }
 
+/// Why bytes cannot be read as a message, 1 or 2, and where: the place is an index into them, as in [`Outcome::place`].
+#[derive(Clone, Copy, PartialEq, Eq, Debug)]
+pub struct Fault {
+    pub refusal: Refusal,
+    pub place: usize,
+}
+
 impl Message {
-    /// One message from the front of some bytes, and the bytes that follow it. Refusals 1, 2.
-    pub fn read(bytes: &[u8]) -> Result<(Message, &[u8]), Refusal> {
+    /// One message from the front of some bytes, and the bytes that follow it. Refusals 1, 2, each with the place of the fault.
+    pub fn read(bytes: &[u8]) -> Result<(Message, &[u8]), Fault> {
         let (mut identifier, mut number_a, mut number_b) = ([0; 16], Number::WITHHELD, Number::WITHHELD);
         let mut raw = RawMessage { message_type: 0, carrier: 0, service: 0, field: 0 };
-        let mut taken = 0;
+        let (mut taken, mut place) = (0, 0);
         let refusal = unsafe {
             tollherring_message_read(
                 bytes.as_ptr(),
@@ -627,10 +639,11 @@ impl Message {
                 &mut number_b,
                 &mut raw,
                 &mut taken,
+                &mut place,
             )
         };
         if let Some(refusal) = refused(refusal) {
-            return Err(refusal);
+            return Err(Fault { refusal, place: place as usize });
         }
         let message = Message {
             message_type: known(MessageType::from_number(raw.message_type)),
@@ -682,6 +695,8 @@ struct RawOutcome {
     stops: u64,
     notice: u64,
     clear: u64,
+    unread: u64,
+    place: u64,
 }
 
 #[repr(C)]
@@ -734,7 +749,7 @@ extern "C" {
     fn tollherring_line_at(desk: &LineDesk, place: u64, number: &mut Number, status: &mut RawStatus) -> u64;
 
     fn tollherring_message_read(bytes: *const u8, length: usize, identifier: &mut Identifier, number_a: &mut Number, number_b: &mut Number,
-        message: &mut RawMessage, taken: &mut u64) -> u64;
+        message: &mut RawMessage, taken: &mut u64, place: &mut u64) -> u64;
     fn tollherring_message_write(identifier: &Identifier, number_a: &Number, number_b: &Number, message: &RawMessage, out: *mut u8, room: usize,
         place: usize, written: &mut u64) -> u64;
 }
@@ -755,7 +770,7 @@ const _: () = {
     }
     // whole words in, whole words out: transmute holds the sizes against each other, and there is no value that a word cannot have
     unsafe {
-        in_order(transmute::<RawOutcome, [u64; 7]>(RawOutcome {
+        in_order(transmute::<RawOutcome, [u64; 9]>(RawOutcome {
             refusal: 0,
             length: 1,
             next: 2,
@@ -763,6 +778,8 @@ const _: () = {
             stops: 4,
             notice: 5,
             clear: 6,
+            unread: 7,
+            place: 8,
         }));
         in_order(transmute::<RawRecord, [u64; 8]>(RawRecord {
             kind: 0,
@@ -795,7 +812,8 @@ fn refused(number: u64) -> Option<Refusal> {
 
 /// A call with its tail, `out`, `room` and `outcome`, and the outcome as Rust has it.
 fn told(out: &mut [u8], call: impl FnOnce(*mut u8, usize, &mut RawOutcome) -> u64) -> Outcome<'_> {
-    let mut raw = RawOutcome { refusal: 0, length: 0, next: 0, starts: 0, stops: 0, notice: 0, clear: 0 };
+    let mut raw =
+        RawOutcome { refusal: 0, length: 0, next: 0, starts: 0, stops: 0, notice: 0, clear: 0, unread: 0, place: 0 };
     let refusal = call(out.as_mut_ptr(), out.len(), &mut raw);
     let message = &out[..raw.length as usize];
     Outcome {
@@ -806,6 +824,7 @@ fn told(out: &mut [u8], call: impl FnOnce(*mut u8, usize, &mut RawOutcome) -> u6
         stops: Timers(raw.stops),
         notice: if raw.notice == 0 { None } else { Some(known(Notice::from_number(raw.notice))) },
         clear: raw.clear == 1,
+        place: if raw.unread == 0 { None } else { Some(raw.place as usize) },
     }
 }
 

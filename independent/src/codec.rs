@@ -199,15 +199,45 @@ pub fn in_range(message: &Message) -> bool {
     }
 }
 
+/// Why a reader refuses, and where. Document 02, request 2: "For refusal 1 or 2
+/// the number reader and all above it also tell the place". READINGS-02: "A
+/// place is an index into the slice that the function was given."
+#[derive(Clone, Copy, PartialEq, Eq, Debug)]
+pub struct Fault {
+    pub refusal: Refusal,
+    pub place: usize,
+}
+
+impl Fault {
+    /// "The bytes ended: the slice's length (also where 80 is the last byte, and
+    /// inside identifier or digits)."
+    fn ended(bytes: &[u8]) -> Fault {
+        Fault { refusal: Refusal::BadBytes, place: bytes.len() }
+    }
+
+    /// "A faulty number, `80 80` among them, or one out of range: its first
+    /// byte. A digit over 9: its byte." It stands at the front of the slice.
+    fn at_front(refusal: Refusal) -> Fault {
+        Fault { refusal, place: 0 }
+    }
+}
+
 /// What a reader gives: the value and the bytes that follow it. On a refusal
 /// the caller still holds all of its bytes ("when it refuses it hands back
 /// all of it").
-type Read<'a, T> = Result<(T, &'a [u8]), Refusal>;
+type Read<'a, T> = Result<(T, &'a [u8]), Fault>;
+
+/// A reader that was given `rest`, the end of `bytes`, tells a place in `rest`;
+/// here the same place is told in `bytes`.
+fn told_in<'a, T>(bytes: &[u8], rest: &[u8], read: Read<'a, T>) -> Read<'a, T> {
+    let before = bytes.len() - rest.len();
+    read.map_err(|fault| Fault { place: before + fault.place, ..fault })
+}
 
 fn read_byte(bytes: &[u8]) -> Read<'_, u8> {
     match bytes.split_first() {
         Some((first, rest)) => Ok((*first, rest)),
-        None => Err(Refusal::BadBytes),
+        None => Err(Fault::ended(bytes)),
     }
 }
 
@@ -219,9 +249,9 @@ pub fn read_number(bytes: &[u8]) -> Read<'_, u32> {
     if first < 128 {
         return Ok((u32::from(first), rest));
     }
-    let (second, rest) = read_byte(rest)?;
+    let (second, rest) = told_in(bytes, rest, read_byte(rest))?;
     if second >= 128 || second == 0 {
-        return Err(Refusal::BadBytes);
+        return Err(Fault::at_front(Refusal::BadBytes));
     }
     Ok((u32::from(first) - 128 + 128 * u32::from(second), rest))
 }
@@ -231,9 +261,16 @@ pub fn read_number(bytes: &[u8]) -> Read<'_, u32> {
 fn read_within(bytes: &[u8], lowest: u32, highest: u32) -> Read<'_, u32> {
     let (number, rest) = read_number(bytes)?;
     if number < lowest || number > highest {
-        return Err(Refusal::OutOfRange);
+        return Err(Fault::at_front(Refusal::OutOfRange));
     }
     Ok((number, rest))
+}
+
+/// READINGS 3: "carrier 1..5".
+fn read_carrier(bytes: &[u8]) -> Read<'_, Carrier> {
+    let (number, rest) = read_within(bytes, 1, 5)?;
+    let carrier = Carrier::from_number(number).ok_or(Fault::at_front(Refusal::OutOfRange))?;
+    Ok((carrier, rest))
 }
 
 /// "16 identifier bytes raw".
@@ -241,22 +278,28 @@ fn read_identifier(bytes: &[u8]) -> Read<'_, Identifier> {
     let mut identifier = [0; 16];
     let mut rest = bytes;
     for place in identifier.iter_mut() {
-        (*place, rest) = read_byte(rest)?;
+        (*place, rest) = told_in(bytes, rest, read_byte(rest))?;
     }
     Ok((identifier, rest))
 }
 
+/// READINGS 3: "A digit is one raw byte; over 9 is 2."
+fn read_digit(bytes: &[u8]) -> Read<'_, u8> {
+    let (digit, rest) = read_byte(bytes)?;
+    if digit > 9 {
+        return Err(Fault::at_front(Refusal::OutOfRange));
+    }
+    Ok((digit, rest))
+}
+
 /// "a number of digits is its length (0 only for a withheld numberA) and one
-/// byte 0 to 9 per digit". READINGS 3: "The count is judged before any digit.
-/// A digit is one raw byte; over 9 is 2."
+/// byte 0 to 9 per digit". READINGS 3: "The count is judged before any digit."
+/// READINGS-02: "A length of digits out of range: that length's byte."
 fn read_digits(bytes: &[u8], fewest: u32) -> Read<'_, Vec<u8>> {
     let (count, mut rest) = read_within(bytes, fewest, MOST_DIGITS as u32)?;
     let mut digits = Vec::new();
     for _ in 0..count {
-        let (digit, behind) = read_byte(rest)?;
-        if digit > 9 {
-            return Err(Refusal::OutOfRange);
-        }
+        let (digit, behind) = told_in(bytes, rest, read_digit(rest))?;
         digits.push(digit);
         rest = behind;
     }
@@ -266,9 +309,9 @@ fn read_digits(bytes: &[u8], fewest: u32) -> Read<'_, Vec<u8>> {
 /// READINGS 3: "Every readable service is in range."
 fn read_request(bytes: &[u8]) -> Read<'_, RequestFields> {
     let (number_a, rest) = read_digits(bytes, 0)?;
-    let (number_b, rest) = read_digits(rest, 1)?;
-    let (service, rest) = read_within(rest, 0, LARGEST_SERVICE)?;
-    let (flags, rest) = read_within(rest, 0, LARGEST_FLAGS)?;
+    let (number_b, rest) = told_in(bytes, rest, read_digits(rest, 1))?;
+    let (service, rest) = told_in(bytes, rest, read_within(rest, 0, LARGEST_SERVICE))?;
+    let (flags, rest) = told_in(bytes, rest, read_within(rest, 0, LARGEST_FLAGS))?;
     Ok((RequestFields { number_a, number_b, service, flags }, rest))
 }
 
@@ -286,7 +329,8 @@ fn read_content(type_number: u32, bytes: &[u8]) -> Read<'_, Content> {
         10 => Content::CcCancel,
         11 => Content::CallAlerts,
         12 => Content::CallFailed,
-        _ => return Err(Refusal::OutOfRange),
+        // Never met: the type has been read within 1 to 12.
+        _ => return Err(Fault::at_front(Refusal::OutOfRange)),
     };
     Ok((content, bytes))
 }
@@ -297,10 +341,9 @@ fn read_content(type_number: u32, bytes: &[u8]) -> Read<'_, Content> {
 /// against the type".
 pub fn read_message(bytes: &[u8]) -> Read<'_, Message> {
     let (type_number, rest) = read_within(bytes, 1, 12)?;
-    let (carrier_number, rest) = read_within(rest, 1, 5)?;
-    let carrier = Carrier::from_number(carrier_number).ok_or(Refusal::OutOfRange)?;
-    let (identifier, rest) = read_identifier(rest)?;
-    let (content, rest) = read_content(type_number, rest)?;
+    let (carrier, rest) = told_in(bytes, rest, read_carrier(rest))?;
+    let (identifier, rest) = told_in(bytes, rest, read_identifier(rest))?;
+    let (content, rest) = told_in(bytes, rest, read_content(type_number, rest))?;
     Ok((Message { carrier, identifier, content }, rest))
 }
 
@@ -357,6 +400,9 @@ pub fn write_message(message: &Message, buffer: &mut [u8], place: usize) -> Resu
 }
 
 #[cfg(test)]
+mod places;
+
+#[cfg(test)]
 mod tests {
     use super::*;
 
@@ -374,7 +420,7 @@ mod tests {
     }
 
     fn refusal_of(bytes: &[u8]) -> u32 {
-        read_message(bytes).err().map_or(0, Refusal::number)
+        read_message(bytes).err().map_or(0, |fault| fault.refusal.number())
     }
 
     #[test]
@@ -390,9 +436,10 @@ mod tests {
     #[test]
     fn examples_3_4_5_refusal_1() {
         // "3. 80 00: refusal 1. 4. 80 80 01: refusal 1. 5. No bytes: refusal 1."
-        assert_eq!(read_number(&[0x80, 0x00]), Err(Refusal::BadBytes));
-        assert_eq!(read_number(&[0x80, 0x80, 0x01]), Err(Refusal::BadBytes));
-        assert_eq!(read_number(&[]), Err(Refusal::BadBytes));
+        let refusal = |bytes| read_number(bytes).map_err(|fault| fault.refusal);
+        assert_eq!(refusal(&[0x80, 0x00]), Err(Refusal::BadBytes));
+        assert_eq!(refusal(&[0x80, 0x80, 0x01]), Err(Refusal::BadBytes));
+        assert_eq!(refusal(&[]), Err(Refusal::BadBytes));
         assert_eq!(refusal_of(&[]), 1);
     }
 

@@ -20,6 +20,8 @@
 //!   a taken start makes a desk without records.
 //!
 //! Refusal 12 is the writer's and at neither desk, so it is in the codec's table.
+//! Every fault of bytes is a row three times, with the place that is told for it:
+//! in the codec's table and in that of each desk.
 //!
 //! The rows of `stop N` are counted apart: a script reaches one of them at most.
 
@@ -208,7 +210,7 @@ mod tests {
         // The clerk's desk is started, no bytes reach it, a code isn't listed.
         coverage.play(&[2, 17, 0, 0, 0]);
         let report = coverage.report(false);
-        assert!(report.contains("\n1 clerk: no bytes: refusal 1\n"));
+        assert!(report.contains("\n1 clerk: no bytes: refusal 1 at the bytes' length\n"));
         assert!(report.contains("\n1 stop: code not listed\n"));
         let (clerk, line, codec) =
             (coverage.reached("clerk: "), coverage.reached("line: "), coverage.reached("codec: "));

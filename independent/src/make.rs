@@ -1,5 +1,6 @@
 //! Makes scripts: the entries' bytes, and the files that they go into.
 
+mod bad_input;
 pub mod clerk;
 pub mod codec;
 pub mod line;
@@ -269,7 +270,8 @@ const EDGES: [u8; 15] = [0, 1, 2, 3, 5, 6, 9, 10, 12, 13, 15, 16, 127, 128, 255]
 const IDENTIFIER: Range<usize> = 2..18;
 
 /// Bytes with a fault, or next to one: every truncation, every byte replaced by
-/// every other value (in the identifier by some), and bytes behind the message.
+/// every other value (in the identifier by some; bad_input.rs has them all), and
+/// bytes behind the message.
 pub fn damaged(bytes: &[u8]) -> Vec<Vec<u8>> {
     let mut damaged: Vec<Vec<u8>> = (0..bytes.len()).map(|length| bytes[..length].to_vec()).collect();
     for place in 0..bytes.len() {

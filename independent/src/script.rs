@@ -1,7 +1,8 @@
-//! Plays a script: entries in, lines out, as REPLAY.md has them.
+//! Plays a script: entries in, lines out, as REPLAY.md has them, and REPLAY-02.md
+//! in its section on request 2.
 
 use crate::clerk::{Ask, ClerkDesk, FreeChoice, Timer};
-use crate::codec::{message_bytes, read_message, write_message, Identifier};
+use crate::codec::{message_bytes, read_message, write_message, Fault, Identifier};
 use crate::line::{Act, Line, LineDesk};
 use crate::outcome::{Kind, Notice, Outcome};
 
@@ -183,11 +184,13 @@ pub fn take_entry(script: &[u8]) -> Option<(Entry, &[u8])> {
     Some((entry, unread.bytes))
 }
 
-/// What an entry gives.
+/// What an entry gives. The fault's place is there "where a 17 or 32 is refused
+/// with 1 or 2, because its bytes cannot be read", and in a write "where the
+/// reader refused" (REPLAY-02, request 2).
 #[derive(Clone, PartialEq, Eq, Debug)]
 pub enum Answer {
-    Step { outcome: Outcome, left: usize },
-    Written { refusal: u32, length: usize, buffer: Vec<u8> },
+    Step { outcome: Outcome, left: usize, fault_place: Option<usize> },
+    Written { refusal: u32, length: usize, buffer: Vec<u8>, fault_place: Option<usize> },
     Printed { lines: Vec<String> },
 }
 
@@ -199,8 +202,20 @@ pub struct Session {
     pub line: LineDesk,
 }
 
+/// A step without bytes that could be refused: "`-` in every other line, a 2 of
+/// an ask or of a start among them".
 fn step(outcome: Outcome) -> Answer {
-    Answer::Step { outcome, left: 0 }
+    Answer::Step { outcome, left: 0, fault_place: None }
+}
+
+/// A message was read and handed to the desk; what follows it is left.
+fn heard(outcome: Outcome, rest: &[u8]) -> Answer {
+    Answer::Step { outcome, left: rest.len(), fault_place: None }
+}
+
+/// "`left` stays as it was: all of the bytes."
+fn unread(fault: Fault, bytes: &[u8]) -> Answer {
+    Answer::Step { outcome: Outcome::refused(fault.refusal), left: bytes.len(), fault_place: Some(fault.place) }
 }
 
 impl Session {
@@ -244,28 +259,32 @@ impl Session {
     /// desk refuses has been read, so there it is what follows the message.
     fn clerk_gets(&mut self, user_a_busy: bool, bytes: &[u8]) -> Answer {
         match read_message(bytes) {
-            Ok((message, rest)) => Answer::Step { outcome: self.clerk.take(&message, user_a_busy), left: rest.len() },
-            Err(refusal) => Answer::Step { outcome: Outcome::refused(refusal), left: bytes.len() },
+            Ok((message, rest)) => heard(self.clerk.take(&message, user_a_busy), rest),
+            Err(fault) => unread(fault, bytes),
         }
     }
 
     fn line_gets(&mut self, bytes: &[u8]) -> Answer {
         match read_message(bytes) {
-            Ok((message, rest)) => Answer::Step { outcome: self.line.take(&message), left: rest.len() },
-            Err(refusal) => Answer::Step { outcome: Outcome::refused(refusal), left: bytes.len() },
+            Ok((message, rest)) => heard(self.line.take(&message), rest),
+            Err(fault) => unread(fault, bytes),
         }
     }
 }
 
 /// "the message is read, and written at P into S bytes of 0xEE"; "the reader's
-/// refusal if the bytes hold no message, length 0 on a refusal".
+/// refusal if the bytes hold no message, length 0 on a refusal". REPLAY-02: "the
+/// place as above where the reader refused; `-` else, and so with 12".
 fn write(bytes: &[u8], place: usize, size: usize) -> Answer {
     let mut buffer = vec![0xEE; size];
-    let written = read_message(bytes).and_then(|(message, _)| write_message(&message, &mut buffer, place));
-    match written {
-        Ok(length) => Answer::Written { refusal: 0, length, buffer },
-        Err(refusal) => Answer::Written { refusal: refusal.number(), length: 0, buffer },
-    }
+    let (refusal, length, fault_place) = match read_message(bytes) {
+        Err(fault) => (fault.refusal.number(), 0, Some(fault.place)),
+        Ok((message, _)) => match write_message(&message, &mut buffer, place) {
+            Ok(length) => (0, length, None),
+            Err(refusal) => (refusal.number(), 0, None),
+        },
+    };
+    Answer::Written { refusal, length, buffer, fault_place }
 }
 
 /// "bytes in lower-case hexadecimal, .. `-` for nothing".
@@ -344,12 +363,17 @@ fn line_lines(desk: &LineDesk) -> Vec<String> {
     lines
 }
 
-/// "`N refusal message starts stops notice clear left`. `refusal` is 0 or
+/// The place of a fault in decimal, "`-` for nothing".
+fn place_text(fault_place: Option<usize>) -> String {
+    fault_place.map_or("-".to_string(), |place| place.to_string())
+}
+
+/// "`N refusal message starts stops notice clear left place`. `refusal` is 0 or
 /// document 01's number."
-fn step_line(number: usize, outcome: &Outcome, left: usize) -> String {
+fn step_line(number: usize, outcome: &Outcome, left: usize, fault_place: Option<usize>) -> String {
     let message = outcome.message.as_ref().map_or("-".to_string(), |m| hex(&message_bytes(m)));
     format!(
-        "{} {} {} {} {} {} {} {}",
+        "{} {} {} {} {} {} {} {} {}",
         number,
         outcome.refusal.map_or(0, |r| r.number()),
         message,
@@ -357,16 +381,20 @@ fn step_line(number: usize, outcome: &Outcome, left: usize) -> String {
         outcome.stops,
         outcome.notice.map_or(0, Notice::number),
         bit(outcome.clear),
-        left
+        left,
+        place_text(fault_place)
     )
 }
 
-/// The lines of one entry, each closed by a line feed.
+/// The lines of one entry, each closed by a line feed; a write is "`N refusal
+/// length buffer place`".
 fn answer_text(number: usize, answer: &Answer) -> String {
     match answer {
-        Answer::Step { outcome, left } => format!("{}\n", step_line(number, outcome, *left)),
-        Answer::Written { refusal, length, buffer } => {
-            format!("{} {} {} {}\n", number, refusal, length, hex(buffer))
+        Answer::Step { outcome, left, fault_place } => {
+            format!("{}\n", step_line(number, outcome, *left, *fault_place))
+        }
+        Answer::Written { refusal, length, buffer, fault_place } => {
+            format!("{} {} {} {} {}\n", number, refusal, length, hex(buffer), place_text(*fault_place))
         }
         Answer::Printed { lines } => format!("{} {}\n", number, lines.join("\n")),
     }
@@ -414,7 +442,7 @@ mod tests {
     fn stop_names_the_entry() {
         // "Where the script ends inside an entry, or an entry has a code or a
         // choice not listed here, the program prints `stop N`".
-        assert_eq!(played(&[2, 3]), "0 0 - 0 0 0 0 0\nstop 1\n");
+        assert_eq!(played(&[2, 3]), "0 0 - 0 0 0 0 0 -\nstop 1\n");
         assert_eq!(played(&[17, 0]), "stop 0\n");
         assert_eq!(played(&[17, 2, 0]), "stop 0\n");
         assert_eq!(played(&[1, 0, 4]), "stop 0\n");
@@ -423,12 +451,12 @@ mod tests {
 
     #[test]
     fn write_prints_refusal_length_and_buffer() {
-        assert_eq!(played(&[48, 0, 0, 2]), "0 1 0 eeee\n");
-        assert_eq!(played(&[48, 1, 13, 0, 0]), "0 2 0 -\n");
+        assert_eq!(played(&[48, 0, 0, 2]), "0 1 0 eeee 0\n");
+        assert_eq!(played(&[48, 1, 13, 0, 0]), "0 2 0 - 0\n");
         let mut script = vec![48, 18, 10, 4];
         script.extend_from_slice(&[0xAB; 16]);
         script.extend_from_slice(&[1, 20]);
-        let expected = format!("0 0 18 ee0a04{}ee\n", "ab".repeat(16));
+        let expected = format!("0 0 18 ee0a04{}ee -\n", "ab".repeat(16));
         assert_eq!(played(&script), expected);
     }
 
@@ -438,7 +466,64 @@ mod tests {
         script.extend_from_slice(&[1; 16]);
         script.extend_from_slice(&[8, 8]);
         script.extend_from_slice(&[32, 3, 10, 6, 0]);
-        assert_eq!(played(&script), "0 6 - 0 0 0 0 2\n1 2 - 0 0 0 0 3\n");
+        assert_eq!(played(&script), "0 6 - 0 0 0 0 2 -\n1 2 - 0 0 0 0 3 1\n");
+    }
+
+    /// Bytes in hexadecimal as REPLAY-02 has them: "`a0..af` stands for the
+    /// sixteen bytes a0, a1 and so on".
+    fn from_hex(text: &str) -> Vec<u8> {
+        let mut bytes = Vec::new();
+        for word in text.split_whitespace() {
+            match word {
+                "a0..af" => bytes.extend(0xA0..=0xAF),
+                _ => bytes.push(u8::from_str_radix(word, 16).unwrap()),
+            }
+        }
+        bytes
+    }
+
+    #[test]
+    fn the_examples_of_request_2() {
+        let examples = [
+            ("20 01 06", "0 1 - 0 0 0 0 1 1"),
+            ("20 01 0d", "1 2 - 0 0 0 0 1 0"),
+            ("11 00 03 05 80 80", "2 1 - 0 0 0 0 3 1"),
+            ("20 15 01 01 a0..af 02 01 0a", "3 2 - 0 0 0 0 21 20"),
+            ("30 13 03 04 a0..af 02 00 02", "4 2 0 eeee 18"),
+            ("20 12 06 01 a0..af", "5 6 0704a0..af02 0 0 0 0 0 -"),
+        ];
+        let script: Vec<u8> = examples.iter().flat_map(|(entry, _)| from_hex(entry)).collect();
+        let lines: Vec<&str> = examples.iter().map(|(_, line)| *line).collect();
+        let identifier: String = (0xA0..=0xAF).map(|byte| format!("{byte:02x}")).collect();
+        let expected = format!("{}\n", lines.join("\n")).replace("a0..af", &identifier);
+        assert_eq!(played(&script), expected);
+    }
+
+    #[test]
+    fn both_desks_and_the_write_tell_every_truncation() {
+        // A ccbsRequest in Setup: numberA 12, numberB 300, service 300, flags 1.
+        let good = from_hex("01 01 a0..af 02 01 02 03 03 00 00 ac 02 01");
+        for length in 0..good.len() {
+            let counted = [&[length as u8], &good[..length]].concat();
+            let script = [&[17, 1], &counted[..], &[32], &counted, &[48], &counted, &[0, 1, 64, 65]].concat();
+            let step = format!("1 - 0 0 0 0 {length} {length}");
+            let expected = format!("0 {step}\n1 {step}\n2 1 0 ee {length}\n3 c 0\n4 l 0 0\n");
+            assert_eq!(played(&script), expected);
+        }
+    }
+
+    #[test]
+    fn a_place_is_told_for_refused_bytes_alone() {
+        // "`-` in every other line, a 2 of an ask or of a start among them".
+        assert_eq!(played(&from_hex("01 01 00 03 00")), "0 2 - 0 0 0 0 0 -\n");
+        assert_eq!(played(&from_hex("10 a0..af 01 01 0a 01 01 00 00 00 00")), "0 2 - 0 0 0 0 0 -\n");
+        assert_eq!(played(&from_hex("22 00")), "0 10 - 0 0 0 0 0 -\n");
+        // A message that is read and refused, bytes behind it or not.
+        assert_eq!(played(&from_hex("11 00 12 06 01 a0..af")), "0 3 - 0 0 0 0 0 -\n");
+        assert_eq!(played(&from_hex("11 00 14 0a 04 a0..af 80 80")), "0 6 - 0 0 0 0 2 -\n");
+        // "`-` else, and so with 12".
+        assert_eq!(played(&from_hex("30 12 0a 04 a0..af 00 02")), "0 12 0 eeee -\n");
+        assert_eq!(played(&from_hex("30 12 0a 04 a0..af 03 02")), "0 12 0 eeee -\n");
     }
 
     #[test]
@@ -447,7 +532,7 @@ mod tests {
         script.extend_from_slice(&[0x0F; 16]);
         script.extend_from_slice(&[1, 2, 4, 2, 1, 9, 0x2C, 0x01, 1, 2, 64]);
         let id = "0f".repeat(16);
-        let expected = format!("0 0 0101{id}0204020109ac0205 1 0 0 0 0\n1 c 1\nc {id} 1 42 9 300 1 - - 1\n");
+        let expected = format!("0 0 0101{id}0204020109ac0205 1 0 0 0 0 -\n1 c 1\nc {id} 1 42 9 300 1 - - 1\n");
         assert_eq!(played(&script), expected);
     }
 }

@@ -112,7 +112,7 @@ impl Stage {
                 let outcome = self.take(event.end(), &heard);
                 self.tell(event, &before, Some(&heard), outcome)
             }
-            Err(refusal) => self.tell(event, &before, None, Outcome::refused(refusal)),
+            Err(fault) => self.tell(event, &before, None, Outcome::refused(fault.refusal)),
         }
     }
 

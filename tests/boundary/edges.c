@@ -1,6 +1,6 @@
 /* What a script's lines cannot show. Plays a script from standard input, and before each entry is played for good it is tried on copies of the desks, everything
  * fenced: with no room, one byte too little, just enough and more; with each plain number out of its range; and on desks that hold garbage. Whole memories are
- * compared. Then desks are filled. With the word `short` one byte less is lent than is said, and a fence has to end the program. */
+ * compared. Then bytes are spoilt in known places, and desks are filled. With the word `short` one byte less is lent than is said, and a fence has to end the program. */
 #include <stdio.h>
 #include <stdlib.h>
 #include <string.h>
@@ -47,7 +47,7 @@ static uint64_t on_things(const void *numbers, void *const at[])
 /* one call between fences: it must leave what is told, and answer the outcome's refusal */
 static void try_fenced(const struct entry *e, const struct desks *before, const struct told *after, size_t room, int at_end)
 {
-    static const tollherring_outcome never = {99, 99, 99, 99, 99, 99, 99};
+    static const tollherring_outcome never = {99, 99, 99, 99, 99, 99, 99, 99, 99};
     struct with_room w;
     uint8_t fresh[64];
     struct thing things[] = {
@@ -85,6 +85,19 @@ static void told_nothing(struct told *t, const struct desks *before, uint64_t re
     memset(t->out, 0xEE, sizeof t->out);
 }
 
+/* a place is told exactly where the bytes could not be read, and it is the reader's own: of a script's numbers none is out of range beside bytes */
+static void placed(const struct entry *e, const tollherring_outcome *o)
+{
+    uint8_t identifier[16], number_a[16], number_b[16];
+    tollherring_message message;
+    uint64_t taken, place = 0, refusal = 0;
+    if (e->code == TO_CLERK || e->code == TO_LINE)
+        refusal = tollherring_message_read(e->bytes, e->length, identifier, number_a, number_b, &message, &taken, &place);
+    EXPECT(o->unread == (refusal != 0) && o->place == place && place <= e->length);
+    if (refusal != 0)
+        EXPECT(o->refusal == refusal && o->next == 0 && o->length == 0 && (refusal == TOLLHERRING_BYTES_END || place < e->length));
+}
+
 /* what is so of every outcome, whatever the desk */
 static void sane(const struct entry *e, const struct desks *before, const struct told *t)
 {
@@ -99,6 +112,7 @@ static void sane(const struct entry *e, const struct desks *before, const struct
     }
     for (i = (size_t)o->length; i < sizeof t->out; i++)
         EXPECT(t->out[i] == 0xEE);
+    placed(e, o);
 }
 
 /* the call in plain memory with more room than any message takes */
@@ -253,6 +267,7 @@ int main(int argc, char **argv)
     lie = argc > 1 && strcmp(argv[1], "short") == 0;
     fences_up();
     play(script, length);
+    try_places();
     printf("%lu entries, %lu calls between fences\n", entry_number, fenced_calls);
     fill_clerk();
     start_line();

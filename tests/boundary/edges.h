@@ -1,4 +1,5 @@
-/* The parts of the edges: edges.c has the steps, looks.c the calls that look at a desk or a message, full.c the desks that are filled. */
+/* The parts of the edges: edges.c has the steps, looks.c the calls that look at a desk or a message, places.c bytes that are spoilt, full.c the desks
+ * that are filled. */
 #ifndef EDGES_H
 #define EDGES_H
 
@@ -15,6 +16,9 @@ void try_looks(struct desks *desks, int sound);
 
 /* The message of a write entry, read and written at every kind of place, and with fields out of range. */
 void try_message(const struct entry *entry);
+
+/* Where bytes went wrong, on bytes that are spoilt in known places; and refusals that have no place. */
+void try_places(void);
 
 void fill_clerk(void);
 void start_line(void);

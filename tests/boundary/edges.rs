@@ -1,5 +1,5 @@
 //! What a script's lines cannot show of the Rust module: each step of an evening at both desks in every room, refusals that have a reply, full desks, the
-//! numbers that are lists, and messages at every place. What Rust's types exclude (a busy of 2, an act that is not listed) cannot be written here.
+//! numbers that are lists, messages at every place, and bytes that are spoilt in known places. What Rust's types exclude (a busy of 2, an act that is not listed) cannot be written here.
 
 #[path = "../../rust/tollherring.rs"]
 mod tollherring;
@@ -41,6 +41,7 @@ struct Told {
     stops: u64,
     notice: Option<Notice>,
     clear: bool,
+    place: Option<usize>,
 }
 
 impl Told {
@@ -55,6 +56,7 @@ impl Told {
             stops: outcome.stops.number(),
             notice: outcome.notice,
             clear: outcome.clear,
+            place: outcome.place,
         }
     }
 
@@ -62,8 +64,13 @@ impl Told {
         self.refusal.is_none() && self.kind == Some((message_type, carrier))
     }
 
+    /// Not for a fault of the bytes: there is no place.
     fn refuses(&self, refusal: Refusal) -> bool {
         *self == Told { refusal: Some(refusal), next: self.next, ..Told::default() }
+    }
+
+    fn refuses_at(&self, fault: Fault) -> bool {
+        *self == Told { refusal: Some(fault.refusal), place: Some(fault.place), ..Told::default() }
     }
 }
 
@@ -156,10 +163,11 @@ fn replies() {
         told.refusal == Some(Refusal::NoRecord)
             && told.kind == Some((MessageType::RingoutError, Carrier::ReleaseComplete))
             && told.next == 18
+            && told.place.is_none()
     );
     assert!(step(&mut clerk, |desk, out| desk.receive(&bytes, false, out)).refuses(Refusal::OtherEnd));
-    assert!(step(&mut clerk, |desk, out| desk.receive(&bytes[..17], false, out)).refuses(Refusal::BytesEnd));
-    assert!(step(&mut clerk, |desk, out| desk.receive(&[], true, out)).refuses(Refusal::BytesEnd));
+    unread(&bytes[..17], Refusal::BytesEnd, 17);
+    unread(&[], Refusal::BytesEnd, 0);
     assert!(step(&mut line, |desk, out| desk.guard(&identifier(9), out)).refuses(Refusal::NoRecord));
     let execute = Message { message_type: MessageType::CcExecPossible, ..stray };
     assert_eq!(execute.write(&mut bytes, 2), Ok(18));
@@ -297,9 +305,62 @@ fn messages() {
         assert!(!fits || buffer[place..place + bytes.len()] == bytes[..]);
         assert!((0..70).all(|k| buffer[k] == 0xEE || fits && (place..place + bytes.len()).contains(&k)));
     }
-    assert!((0..bytes.len()).all(|length| Message::read(&bytes[..length]) == Err(Refusal::BytesEnd)));
     assert_eq!(Message { service: 16384, ..message }.write(&mut [0; 64], 0), Err(Refusal::OutOfRange));
     assert_eq!(Message { field: 6, ..message }.write(&mut [], 0), Err(Refusal::OutOfRange));
+}
+
+/// Bytes that cannot be read: the reader and both desks tell the same refusal at the same place, and nothing else.
+fn unread(bytes: &[u8], refusal: Refusal, place: usize) {
+    let fault = Fault { refusal, place };
+    let (mut clerk, mut line) = (ClerkDesk::start(), desk_of(&["80"]).expect("one line"));
+    assert_eq!(Message::read(bytes), Err(fault));
+    assert!(step(&mut line, |desk, out| desk.receive(bytes, out)).refuses_at(fault));
+    for busy in [false, true] {
+        assert!(step(&mut clerk, |desk, out| desk.receive(bytes, busy, out)).refuses_at(fault));
+    }
+}
+
+/// Bytes that are good but for those put at a place.
+fn spoilt(good: &[u8], place: usize, put: &[u8], refusal: Refusal) {
+    let mut bytes = good.to_vec();
+    bytes.resize(good.len().max(place + put.len()), 0);
+    bytes[place..place + put.len()].copy_from_slice(put);
+    unread(&bytes, refusal, place);
+    // with the second byte of a number cut off the bytes end inside it
+    if put.len() == 2 {
+        unread(&bytes[..=place], Refusal::BytesEnd, place + 1);
+    }
+}
+
+/// Where the bytes went wrong: messages of every type cut short at every length, and spoilt in known places.
+fn places() {
+    let (mut good, number) = ([0; MESSAGE_MOST], number("123456789012349"));
+    for message_type in (1..=12).filter_map(MessageType::from_number) {
+        let (carrier, identifier) = (Carrier::Setup, identifier(0x80));
+        let message =
+            Message { message_type, carrier, identifier, number_a: number, number_b: number, service: 300, field: 1 };
+        let length = message.write(&mut good, 0).expect("room");
+        let good = &good[..length];
+        (0..length).for_each(|length| unread(&good[..length], Refusal::BytesEnd, length));
+        // each number of the message: its place, and a value of one byte that is out of its range; every readable service is in range
+        let numbers: &[(usize, Option<u8>)] = match length {
+            MESSAGE_MOST => &[(0, Some(13)), (1, Some(6)), (18, Some(16)), (34, Some(16)), (50, None), (52, Some(6))],
+            MESSAGE_LEAST => &[(0, Some(13)), (1, Some(6))],
+            _ => &[(0, Some(13)), (1, Some(6)), (18, Some(3))],
+        };
+        for (place, beside) in numbers.iter().copied() {
+            for put in [[0x80, 0x80], [0xFF, 0xFF], [0x80, 0x00]] {
+                spoilt(good, place, &put, Refusal::BytesEnd);
+            }
+            if let Some(value) = beside {
+                spoilt(good, place, &[value], Refusal::OutOfRange);
+                spoilt(good, place, &[0x80, 0x01], Refusal::OutOfRange);
+            }
+        }
+        if length == MESSAGE_MOST {
+            (19..34).chain(35..50).for_each(|digit| spoilt(good, digit, &[10], Refusal::OutOfRange));
+        }
+    }
 }
 
 fn main() {
@@ -309,5 +370,6 @@ fn main() {
     numbers_out_of_range();
     lists();
     messages();
-    println!("an evening in every room, replies, full desks, numbers, messages");
+    places();
+    println!("an evening in every room, replies, full desks, numbers, messages, places");
 }

@@ -7,7 +7,7 @@
 
 HOLDS(clerk_size, sizeof(tollherring_clerk) == 1536 && offsetof(tollherring_clerk, words) == 0);
 HOLDS(line_size, sizeof(tollherring_line) == 3984 && offsetof(tollherring_line, words) == 0);
-HOLDS(outcome_size, sizeof(tollherring_outcome) == 56);
+HOLDS(outcome_size, sizeof(tollherring_outcome) == 72);
 HOLDS(record_size, sizeof(tollherring_record) == 64);
 HOLDS(status_size, sizeof(tollherring_line_status) == 16);
 HOLDS(message_size, sizeof(tollherring_message) == 32);
@@ -23,6 +23,8 @@ WORD(outcome, starts, 3);
 WORD(outcome, stops, 4);
 WORD(outcome, notice, 5);
 WORD(outcome, clear, 6);
+WORD(outcome, unread, 7);
+WORD(outcome, place, 8);
 
 WORD(record, kind, 0);
 WORD(record, service, 1);

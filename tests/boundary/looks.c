@@ -1,4 +1,5 @@
-/* The calls that look: records and lines of a desk, and messages read and written. What is refused writes nothing at all. */
+/* The calls that look: records and lines of a desk, and messages read and written. What is refused writes nothing at all, but for the place of a reader's
+ * fault. */
 #include <string.h>
 #include "edges.h"
 
@@ -96,6 +97,7 @@ struct parts {
     uint8_t identifier[16], number_a[16], number_b[16];
     tollherring_message message;
     uint64_t taken;
+    uint64_t place; /* of the fault, where there is one */
 };
 
 struct place {
@@ -104,7 +106,7 @@ struct place {
 
 static uint64_t read_message(const void *length, void *const at[])
 {
-    return tollherring_message_read(at[0], *(const size_t *)length, at[1], at[2], at[3], at[4], at[5]);
+    return tollherring_message_read(at[0], *(const size_t *)length, at[1], at[2], at[3], at[4], at[5], at[6]);
 }
 
 static uint64_t write_message(const void *numbers, void *const at[])
@@ -113,22 +115,26 @@ static uint64_t write_message(const void *numbers, void *const at[])
     return tollherring_message_write(at[0], at[1], at[2], at[3], at[4], p->room, p->place, at[5]);
 }
 
-/* the refusal, and the parts as they stand afterwards */
+/* the refusal, and the parts as they stand afterwards: of a message that is read all but the place, else the place alone */
 static uint64_t try_read(const struct entry *e, struct parts *parts)
 {
-    static struct parts fresh;
+    static struct parts fresh, kept;
     struct thing things[] = {{e->bytes, e->bytes, 0}, {fresh.identifier, parts->identifier, 16}, {fresh.number_a, parts->number_a, 16},
                              {fresh.number_b, parts->number_b, 16}, {&fresh.message, &parts->message, sizeof fresh.message},
-                             {&fresh.taken, &parts->taken, sizeof fresh.taken}};
+                             {&fresh.taken, &parts->taken, sizeof fresh.taken}, {&fresh.place, &parts->place, sizeof fresh.place}};
     uint64_t answer;
     memset(&fresh, 0x99, sizeof fresh);
     *parts = fresh;
     things[0].size = e->length;
-    answer = tollherring_message_read(e->bytes, e->length, parts->identifier, parts->number_a, parts->number_b, &parts->message, &parts->taken);
+    answer = tollherring_message_read(e->bytes, e->length, parts->identifier, parts->number_a, parts->number_b, &parts->message, &parts->taken,
+                                      &parts->place);
     EXPECT(answer <= TOLLHERRING_OUT_OF_RANGE);
-    EXPECT(answer == 0 || memcmp(parts, &fresh, sizeof fresh) == 0);
-    EXPECT(fenced(read_message, &e->length, things, 6, 1) == answer);
-    EXPECT(fenced(read_message, &e->length, things, 6, 0) == answer);
+    kept = answer == 0 ? *parts : fresh;
+    kept.place = answer == 0 ? fresh.place : parts->place;
+    EXPECT(memcmp(parts, &kept, sizeof kept) == 0);
+    EXPECT(answer == 0 || parts->place <= e->length);
+    EXPECT(fenced(read_message, &e->length, things, 7, 1) == answer);
+    EXPECT(fenced(read_message, &e->length, things, 7, 0) == answer);
     return answer;
 }
 

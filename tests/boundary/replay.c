@@ -50,6 +50,16 @@ static void print_field(uint64_t value)
     printf(" %llu", (unsigned long long)value);
 }
 
+/* the last field of a step and of a write: only bytes that cannot be read have a place */
+static void print_place(int unread, uint64_t place)
+{
+    if (unread)
+        print_field(place);
+    else
+        fputs(" -", stdout);
+    putchar('\n');
+}
+
 static void print_digits(const uint8_t number[16])
 {
     size_t i;
@@ -69,7 +79,7 @@ static void print_outcome(unsigned long number, const tollherring_outcome *o, co
     print_field(o->notice);
     print_field(o->clear);
     print_field(left);
-    putchar('\n');
+    print_place(o->unread == 1, o->place);
 }
 
 /* a step, and what it has to leave alone: the answer is the outcome's, and behind the message nothing is written */
@@ -101,9 +111,9 @@ static void play_write(unsigned long number, const struct entry *e)
     uint8_t identifier[16], number_a[16], number_b[16];
     uint8_t *bytes = copy(e->bytes, e->length), *buffer = block(e->size);
     tollherring_message message;
-    uint64_t taken, written = 0, refusal;
+    uint64_t taken, written = 0, place = 0, unread, refusal;
     memset(buffer, 0xEE, e->size);
-    refusal = tollherring_message_read(bytes, e->length, identifier, number_a, number_b, &message, &taken);
+    refusal = unread = tollherring_message_read(bytes, e->length, identifier, number_a, number_b, &message, &taken, &place);
     if (refusal == 0)
         refusal = tollherring_message_write(identifier, number_a, number_b, &message, buffer, e->size, e->place, &written);
     printf("%lu", number);
@@ -111,7 +121,7 @@ static void play_write(unsigned long number, const struct entry *e)
     print_field(written);
     putchar(' ');
     print_bytes(buffer, e->size);
-    putchar('\n');
+    print_place(unread != 0, place);
     free(bytes);
     free(buffer);
 }

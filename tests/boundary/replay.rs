@@ -61,9 +61,14 @@ fn hex(bytes: &[u8]) -> String {
     bytes.iter().flat_map(|byte| [digit(byte / 16), digit(byte % 16)]).collect()
 }
 
+/// The last field of a step and of a write: only bytes that cannot be read have a place.
+fn place_text(place: Option<usize>) -> String {
+    place.map_or("-".to_string(), |place| place.to_string())
+}
+
 fn outcome_text(number: usize, outcome: &Outcome, left: usize) -> String {
     format!(
-        "{} {} {} {} {} {} {} {}\n",
+        "{} {} {} {} {} {} {} {} {}\n",
         number,
         outcome.refusal.map_or(0, Refusal::number),
         hex(outcome.message.unwrap_or(&[])),
@@ -71,13 +76,14 @@ fn outcome_text(number: usize, outcome: &Outcome, left: usize) -> String {
         outcome.stops.number(),
         outcome.notice.map_or(0, Notice::number),
         u8::from(outcome.clear),
-        left
+        left,
+        place_text(outcome.place)
     )
 }
 
 /// A desk's start has no outcome of its own.
 fn start_text(number: usize, refusal: Option<Refusal>) -> String {
-    format!("{} {} - 0 0 0 0 0\n", number, refusal.map_or(0, Refusal::number))
+    format!("{} {} - 0 0 0 0 0 -\n", number, refusal.map_or(0, Refusal::number))
 }
 
 impl Session {
@@ -235,9 +241,12 @@ fn written_text(number: usize, unread: &mut Unread) -> Option<String> {
     let bytes = unread.counted()?.to_vec().into_boxed_slice();
     let place = usize::from(unread.byte()?);
     let mut buffer = vec![0xEE; usize::from(unread.byte()?)].into_boxed_slice();
-    let written = Message::read(&bytes).and_then(|(message, _)| message.write(&mut buffer, place));
+    let (written, fault) = match Message::read(&bytes) {
+        Ok((message, _)) => (message.write(&mut buffer, place), None),
+        Err(fault) => (Err(fault.refusal), Some(fault.place)),
+    };
     let refusal = written.err().map_or(0, Refusal::number);
-    Some(format!("{} {} {} {}\n", number, refusal, written.unwrap_or(0), hex(&buffer)))
+    Some(format!("{} {} {} {} {}\n", number, refusal, written.unwrap_or(0), hex(&buffer), place_text(fault)))
 }
 
 fn main() -> std::io::Result<()> {

@@ -4,10 +4,10 @@ A part is its name, what is meant, the place at which it must be refused, and it
 
     # digits_in_range_always
     # what does not read as a number is not in range
-    # refused at: proofs/digits/digits_in_range/Proof.antt returns-2
+    # refused at: proofs/digits/digits_in_range/Proof.antt returns
     file: src/digits.rt
-    old:         PlaceRead::Refused(_) => false,
-    new:         PlaceRead::Refused(_) => true,
+    old:         NumberRead::Refused(_) => false,
+    new:         NumberRead::Refused(_) => true,
 
 A place is `FILE DECLARATION` of an .antt file of the crate, or `src/FILE.rt FUNCTION NEED` where the function has no proof file.
 """

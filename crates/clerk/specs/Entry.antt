@@ -5,6 +5,7 @@ use mathlib.Core.List.{List}
 use lib.Dec.{ltb}
 use Rattle.lists.specs.Choice.{pick}
 use Rattle.lists.specs.Words.{wordsOf}
+use Rattle.lists.specs.declared.Found.the-variants.{At, Nothing}
 use Rattle.message.specs.Reading.{Read, took, refused}
 use Rattle.message.specs.Format.{requestBody, inRange}
 use Rattle.message.specs.Wire.{messageAt}
@@ -62,10 +63,10 @@ actEntry identifier act = Given (Input.Act (wordsOf identifier) act)
 unfoldable pub timerEntry : List ℕ → Timer → Entry
 timerEntry identifier timer = Given (Input.Timer (wordsOf identifier) timer)
 
--- ---- raw bytes: the reader's 1 and 2
+-- ---- raw bytes: the reader's 1 and 2, with the place of the fault
 abbrev pub readEntry : Bool → Read Message → BytesEntry
-readEntry busy (took m next) = record { entry = messageEntry m busy; next = next }
-readEntry busy (refused number) = record { entry = Refused number; next = 0 }
+readEntry busy (took m next) = record { entry = messageEntry m busy; next = next; fault = Nothing }
+readEntry busy (refused fault) = record { entry = Refused (fault .number); next = 0; fault = At (fault .place) }
 
 unfoldable pub bytesEntry : List ℕ → Bool → BytesEntry
 bytesEntry bytes busy = readEntry busy (messageAt bytes)

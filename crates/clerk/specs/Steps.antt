@@ -3,6 +3,7 @@ use Prim.Native.Nat.{ℕ}
 use mathlib.Core.Bool.{Bool}
 use mathlib.Core.List.{List}
 use lib.ListN.{replicate}
+use Rattle.lists.specs.declared.Found.{Found}
 use Rattle.message.specs.declared.Message.{Message}
 use Rattle.desk.specs.Outcome.{refusedWith}
 use Rattle.desk.specs.declared.outcome.Outcome.{Outcome}
@@ -37,7 +38,7 @@ abbrev pub answered : Desk → Outcome → Stepped
 answered d outcome = record { desk = d; outcome = outcome }
 
 abbrev pub answeredBytes : Desk → BytesOutcome → SteppedBytes
-answeredBytes d answer = record { desk = d; outcome = answer .outcome; next = answer .next }
+answeredBytes d answer = record { desk = d; outcome = answer .outcome; next = answer .next; fault = answer .fault }
 
 -- ---- a step
 -- a plan made on a desk: the words that it changes, and the outcome
@@ -56,11 +57,11 @@ unfoldable pub entered : Desk → Entry → Stepped
 entered d (Refused number) = refusedStep d number
 entered d (Given input) = step d input
 
-abbrev pub withNext : Stepped → ℕ → SteppedBytes
-withNext step next = record { desk = step .desk; outcome = step .outcome; next = next }
+abbrev pub withNext : Stepped → ℕ → Found → SteppedBytes
+withNext step next fault = record { desk = step .desk; outcome = step .outcome; next = next; fault = fault }
 
 abbrev pub readStep : Desk → BytesEntry → SteppedBytes
-readStep d read = withNext (entered d (read .entry)) (read .next)
+readStep d read = withNext (entered d (read .entry)) (read .next) (read .fault)
 
 -- ---- document 01's inputs, by name
 -- an ask: 2, 4, 5
@@ -79,6 +80,6 @@ acted d identifier act = entered d (actEntry identifier act)
 abbrev pub reported : Desk → List ℕ → Timer → Stepped
 reported d identifier timer = entered d (timerEntry identifier timer)
 
--- raw bytes: the reader's 1 and 2 change nothing
+-- raw bytes: the reader's 1 and 2 change nothing, and tell the place of the fault
 unfoldable pub receivedBytes : Desk → List ℕ → Bool → SteppedBytes
 receivedBytes d bytes busy = readStep d (bytesEntry bytes busy)

@@ -5,6 +5,7 @@ use clerk_table::inputs::Input;
 use clerk_table::table::Timer;
 use desk::letter::letter_of;
 use desk::letter::read_letter;
+use lists::Found;
 use lists::words::words_of;
 use message::Carrier;
 use message::Kind;
@@ -35,10 +36,11 @@ pub enum Entry {
     Given(Input),
 }
 
-// The same of bytes, with the first unread place; on a refusal of the bytes, 0.
+// The same of bytes, with the first unread place; where they cannot be read, 0 and the place of the fault.
 pub struct BytesEntry {
     pub entry: Entry,
     pub next: usize,
+    pub fault: Found,
 }
 
 // can-keep plus 2 × preference.
@@ -129,9 +131,10 @@ pub fn bytes_entry(s: &[u8], busy: bool) -> BytesEntry
     let answer = reader::read(s);
     let verdict = answer.verdict;
     match verdict {
-        PlaceRead::Refused(refusal) => BytesEntry {
-            entry: Entry::Refused(refusal),
+        PlaceRead::Refused(fault) => BytesEntry {
+            entry: Entry::Refused(fault.number),
             next: 0,
+            fault: Found::At(fault.place),
         },
         PlaceRead::Taken(next) => {
             let m = answer.message;
@@ -139,6 +142,7 @@ pub fn bytes_entry(s: &[u8], busy: bool) -> BytesEntry
             BytesEntry {
                 entry: Entry::Given(Input::Message(l, busy)),
                 next,
+                fault: Found::Nothing,
             }
         }
     }

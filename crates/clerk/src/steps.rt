@@ -5,6 +5,7 @@ use crate::entry::Entry;
 use crate::on_words;
 use clerk_records::WORDS;
 use desk::outcome::Outcome;
+use lists::Found;
 ghost use mathlib.Core.Path.{_≡_};
 ghost use Rattle.clerk.specs.Steps.{startedDesk, entered, receivedBytes};
 
@@ -14,11 +15,12 @@ pub struct Stepped {
     pub outcome: Outcome,
 }
 
-// The same for bytes, with the first unread place; on a refusal of the bytes, 0.
+// The same for bytes, with the first unread place; where they cannot be read, 0 and the place of the fault.
 pub struct SteppedBytes {
     pub desk: Desk,
     pub outcome: Outcome,
     pub next: usize,
+    pub fault: Found,
 }
 
 // A desk with no record.
@@ -39,16 +41,18 @@ pub fn step(d: Desk, entry: Entry) -> Stepped
     Stepped { desk: e, outcome }
 }
 
-// Raw bytes received: the reader's 1 and 2, which change nothing; else the message's step, and the first unread place.
+// Raw bytes received: the reader's 1 and 2, which change nothing, with the place of the fault; else the message's step, and the first unread place.
 pub fn step_bytes(d: Desk, s: &[u8], busy: bool) -> SteppedBytes
     ensures { λ r. ⌜ r ≡ receivedBytes d (now (s .entry)) busy ⌝ }
 {
     let mut e = d;
     let answer = on_words::step_bytes(&mut e.words, s, busy);
     let outcome = answer.outcome;
+    let fault = answer.fault;
     SteppedBytes {
         desk: e,
         outcome,
         next: answer.next,
+        fault,
     }
 }

@@ -1,6 +1,7 @@
 // The outcome of a step: the refusal's number or 0; the one message sent, or the reply that goes with a refusal; timers started
 // and stopped; the notice; and whether the host is told to clear the call.
 use crate::letter::Letter;
+use lists::Found;
 ghost use mathlib.Core.Path.{_≡_};
 ghost use Rattle.desk.specs.Outcome.{noTimers, refusedWith, doneWith};
 
@@ -38,10 +39,11 @@ pub struct Outcome {
     pub clear: bool,
 }
 
-// The same for bytes, with the first unread place; on a refusal of the bytes, 0.
+// The same for bytes, with the first unread place; where they cannot be read, 0 and the place of the fault.
 pub struct BytesOutcome {
     pub outcome: Outcome,
     pub next: usize,
+    pub fault: Found,
 }
 
 // No timer at all.

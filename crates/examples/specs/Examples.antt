@@ -6,7 +6,7 @@ use mathlib.Core.List.{List, [], _∷_, map}
 use Rattle.examples.specs.Tells.{numberOf, messageOf, joined, outcomeTells, clerkTells, lineTells, held, status}
 use Rattle.examples.specs.Scenes.{identifier, oneDigit, busyLine, accepted, again, filled, unknown, noReply, lookedBefore, busyThenFree, lookedAfter, invoked, possible, ringout, busyAgain, timerThree}
 
--- what an example finds and what the paper says, both as numbers. On the wire: 0 and the values, or the refusal's number. At a desk: what stands
+-- what an example finds and what the paper says, both as numbers. On the wire: 0 and the values, or the refusal's number and the place of the fault. At a desk: what stands
 -- before the step where the example names it, then the outcome, then what the desk holds after it; specs/Tells.antt has the numbers, specs/Scenes.antt the steps
 pub record Example : Type 0 where
   pub found : List ℕ
@@ -21,13 +21,13 @@ table =
     row (numberOf (0xAC ∷ 0x02 ∷ [])) (0 ∷ 300 ∷ []) ∷
     -- 2. FF 7F are 16383.
     row (numberOf (0xFF ∷ 0x7F ∷ [])) (0 ∷ 16383 ∷ []) ∷
-    -- 3. 80 00: refusal 1.
-    row (numberOf (0x80 ∷ 0x00 ∷ [])) (1 ∷ []) ∷
-    -- 4. 80 80 01: refusal 1.
-    row (numberOf (0x80 ∷ 0x80 ∷ 0x01 ∷ [])) (1 ∷ []) ∷
-    -- 5. No bytes: refusal 1, for a number and for a message.
-    row (numberOf []) (1 ∷ []) ∷
-    row (messageOf []) (1 ∷ []) ∷
+    -- 3. 80 00: refusal 1. The number begins at 0.
+    row (numberOf (0x80 ∷ 0x00 ∷ [])) (1 ∷ 0 ∷ []) ∷
+    -- 4. 80 80 01: refusal 1. The number begins at 0.
+    row (numberOf (0x80 ∷ 0x80 ∷ 0x01 ∷ [])) (1 ∷ 0 ∷ []) ∷
+    -- 5. No bytes: refusal 1, for a number and for a message. They end at 0.
+    row (numberOf []) (1 ∷ 0 ∷ []) ∷
+    row (messageOf []) (1 ∷ 0 ∷ []) ∷
     -- 6. Busy line, CCBS, can-keep, no preference, desk keeps and defaults to release: result keep 1 in Release Complete, record Invoked RLS.
     -- Line 1 is busy (1). No refusal (0); a result (3), keep 1, in Release Complete (4). Invoked (1), keep chosen (2), RLS (2).
     row (joined (status busyLine (oneDigit 1) ∷ outcomeTells (accepted .outcome) ∷ lineTells (accepted .desk) (identifier 1) ∷ []))

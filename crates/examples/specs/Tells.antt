@@ -30,10 +30,10 @@ use Rattle.line_records.specs.Lines.{lines, lineAt, noLine}
 use Rattle.line.specs.declared.Desk as LineDesk
 
 -- ---- the wire
--- a refusal by its number; else 0 and what the value tells
+-- a refusal by its number and the place of the fault; else 0 and what the value tells
 abbrev pub answer : {A : Type 0} → (A → List ℕ) → Read A → List ℕ
 answer tells (took value next) = 0 ∷ tells value
-answer tells (refused number) = number ∷ []
+answer tells (refused fault) = fault .number ∷ fault .place ∷ []
 
 -- the number at the front of some bytes
 abbrev pub numberOf : List ℕ → List ℕ

@@ -7,6 +7,8 @@ use lib.ListN.{length}
 use lib.Dec.{ltb, eqb}
 use native.Mathlib.Omega.{arith}
 use Rattle.lists.specs.Choice.{pick}
+use Rattle.lists.specs.declared.Found.{Found}
+use Rattle.lists.specs.declared.Found.the-variants.{At, Nothing}
 use Rattle.lists.specs.Lists.{both}
 use Rattle.lists.specs.Words.{word, octets, wordsOf, bytesOf}
 use Rattle.lists.specs.declared.words.Words.{Words}
@@ -17,6 +19,7 @@ use Rattle.message.specs.Equality.{Formed, normal}
 use Rattle.message.specs.Number.{digitsInRange}
 use Rattle.message.specs.Reading as Reading
 use Rattle.message.specs.Wire.{messageAt}
+use Rattle.message.specs.declared.Fault.{Fault}
 use Rattle.message.specs.declared.Message.{Message}
 use Rattle.desk.specs.Letter.{numberWords, letterOf, messageOf}
 use Rattle.desk.specs.declared.outcome.Outcome.{Outcome}
@@ -72,7 +75,7 @@ faced-step before after out outcome unread wire = by (sentWritten out (outcome .
     by : (x : Written) → sentWritten out (outcome .sending) ≡ x → IsStep before after out unread (faced (before .words) (after .words) out outcome unread)
     by (Wrote n) e = rw e (done outcome n wire e)
     by (Refused number) e =
-        subst (IsStep before after out unread) (sym (no-room-nothing (before .words) (after .words) out outcome unread number e)) (refused number)
+        subst (IsStep before after out unread) (sym (no-room-nothing (before .words) (after .words) out outcome unread number e)) (refused number Nothing)
 
 module _ (w : World) (out : List ℕ) where
   -- ---- what comes in at the entry of a desk, for an event that leaves the end as the entry's step does
@@ -80,11 +83,11 @@ module _ (w : World) (out : List ℕ) where
   clerkLeft step = record { words = step .desk .words; wire = w .up ++ sentBy (step .outcome .sending) }
 
   clerk-entry :
-      (e : Event) (entry : ClerkEntries.Entry) (unread : ℕ) → clerkLeft (Clerk.entered (w .clerk) entry) ≡ clerkEnd (next w e) →
-      ClerkCall w e out unread (clerkEntered (w .clerk .words) out entry unread)
+      (e : Event) (entry : ClerkEntries.Entry) (unread : ℕ) (fault : Found) → clerkLeft (Clerk.entered (w .clerk) entry) ≡ clerkEnd (next w e) →
+      ClerkCall w e out unread (clerkEntered (w .clerk .words) out entry unread fault)
   unfolding clerkEntered Clerk.entered
-  clerk-entry e (ClerkEntered.Refused number) unread left = refused number
-  clerk-entry e (ClerkEntered.Given input) unread left =
+  clerk-entry e (ClerkEntered.Refused number) unread fault left = refused number fault
+  clerk-entry e (ClerkEntered.Given input) unread fault left =
       let step = Clerk.step (w .clerk) input in
       subst (λ (after : End). IsStep (clerkEnd w) after out unread (faced (w .clerk .words) (step .desk .words) out (step .outcome) unread)) left
       (faced-step (clerkEnd w) (clerkLeft step) out (step .outcome) unread refl)
@@ -93,18 +96,18 @@ module _ (w : World) (out : List ℕ) where
   lineLeft step = record { words = step .desk .words; wire = w .down ++ sentBy (step .outcome .sending) }
 
   line-entry :
-      (e : Event) (entry : LineEntries.Entry) (unread : ℕ) → lineLeft (Line.entered (w .line) entry) ≡ lineEnd (next w e) →
-      LineCall w e out unread (lineEntered (w .line .words) out entry unread)
+      (e : Event) (entry : LineEntries.Entry) (unread : ℕ) (fault : Found) → lineLeft (Line.entered (w .line) entry) ≡ lineEnd (next w e) →
+      LineCall w e out unread (lineEntered (w .line .words) out entry unread fault)
   unfolding lineEntered Line.entered
-  line-entry e (LineEntered.Refused number) unread left = refused number
-  line-entry e (LineEntered.Given input) unread left =
+  line-entry e (LineEntered.Refused number) unread fault left = refused number fault
+  line-entry e (LineEntered.Given input) unread fault left =
       let step = Line.step (w .line) input in
       subst (λ (after : End). IsStep (lineEnd w) after out unread (faced (w .line .words) (step .desk .words) out (step .outcome) unread)) left
       (faced-step (lineEnd w) (lineLeft step) out (step .outcome) unread refl)
 
   -- ---- what a host gives: a number that stands for nothing is refused
   abbrev ClerkIn : Event → ClerkEntries.Entry → Type 0
-  ClerkIn e entry = ClerkCall w e out 0 (clerkEntered (w .clerk .words) out entry 0)
+  ClerkIn e entry = ClerkCall w e out 0 (clerkEntered (w .clerk .words) out entry 0 Nothing)
 
   asking :
       (identifier : List ℕ) (kind : ℕ) (numberA numberB : List ℕ) (service canKeep preference : ℕ) →
@@ -116,16 +119,16 @@ module _ (w : World) (out : List ℕ) where
       let input = AtClerk.Ask (ClerkEntry.askNames a) (ClerkEntry.askRequest a) in
       pick-elim (ClerkIn (askEvent a)) (askWords kind canKeep)
       (λ t. pick-elim (ClerkIn (askEvent a)) (ltb (a .preference) 3)
-      (λ t. pick-elim (ClerkIn (askEvent a)) (inRange (askMessage a)) (λ t. clerk-entry (askEvent a) (ClerkEntered.Given input) 0 refl) (λ f. refused 2))
-      (λ f. refused 2))
-      (λ f. refused 2)
+      (λ t. pick-elim (ClerkIn (askEvent a)) (inRange (askMessage a)) (λ t. clerk-entry (askEvent a) (ClerkEntered.Given input) 0 Nothing refl) (λ f. refused 2 Nothing))
+      (λ f. refused 2 Nothing))
+      (λ f. refused 2 Nothing)
 
   abbrev ActIn : List ℕ → ClerkEntries.Entry → Type 0
   ActIn identifier entry = (act : ClerkActs.Act) × ClerkIn (clerkDoes (AtClerk.Act (wordsOf identifier) act)) entry
 
   act-in : (identifier : List ℕ) (act : ClerkActs.Act) → ActIn identifier (ClerkEntry.actEntry identifier act)
   unfolding ClerkEntry.actEntry Clerk.entered next
-  act-in identifier act = (act, clerk-entry (clerkDoes (AtClerk.Act (wordsOf identifier) act)) (ClerkEntry.actEntry identifier act) 0 refl)
+  act-in identifier act = (act, clerk-entry (clerkDoes (AtClerk.Act (wordsOf identifier) act)) (ClerkEntry.actEntry identifier act) 0 Nothing refl)
 
   acting : (identifier : List ℕ) (number : ℕ) → ActIn identifier (clerkActGiven identifier number)
   unfolding clerkActGiven clerkEntered
@@ -133,79 +136,79 @@ module _ (w : World) (out : List ℕ) where
       pick-elim (ActIn identifier) (eqb number 1) (λ t. act-in identifier ClerkAct.Accept)
       (λ f. pick-elim (ActIn identifier) (eqb number 2) (λ t. act-in identifier ClerkAct.Resume)
       (λ f. pick-elim (ActIn identifier) (eqb number 3) (λ t. act-in identifier ClerkAct.GoOn)
-      (λ f. pick-elim (ActIn identifier) (eqb number 4) (λ t. act-in identifier ClerkAct.Cancel) (λ f. (ClerkAct.Cancel, refused 2)))))
+      (λ f. pick-elim (ActIn identifier) (eqb number 4) (λ t. act-in identifier ClerkAct.Cancel) (λ f. (ClerkAct.Cancel, refused 2 Nothing)))))
 
   abbrev TimerIn : List ℕ → ClerkEntries.Entry → Type 0
   TimerIn identifier entry = (timer : Timer) × ClerkIn (clerkDoes (AtClerk.Timer (wordsOf identifier) timer)) entry
 
   timer-in : (identifier : List ℕ) (timer : Timer) → TimerIn identifier (ClerkEntry.timerEntry identifier timer)
   unfolding ClerkEntry.timerEntry Clerk.entered next
-  timer-in identifier timer = (timer, clerk-entry (clerkDoes (AtClerk.Timer (wordsOf identifier) timer)) (ClerkEntry.timerEntry identifier timer) 0 refl)
+  timer-in identifier timer = (timer, clerk-entry (clerkDoes (AtClerk.Timer (wordsOf identifier) timer)) (ClerkEntry.timerEntry identifier timer) 0 Nothing refl)
 
   reporting : (identifier : List ℕ) (number : ℕ) → TimerIn identifier (timerGiven identifier number)
   unfolding timerGiven clerkEntered
   reporting identifier number =
       pick-elim (TimerIn identifier) (eqb number 1) (λ t. timer-in identifier T1)
       (λ f. pick-elim (TimerIn identifier) (eqb number 2) (λ t. timer-in identifier T2)
-      (λ f. pick-elim (TimerIn identifier) (eqb number 3) (λ t. timer-in identifier T3) (λ f. (T3, refused 2))))
+      (λ f. pick-elim (TimerIn identifier) (eqb number 3) (λ t. timer-in identifier T3) (λ f. (T3, refused 2 Nothing))))
 
   abbrev LineIn : Event → LineEntries.Entry → Type 0
-  LineIn e entry = LineCall w e out 0 (lineEntered (w .line .words) out entry 0)
+  LineIn e entry = LineCall w e out 0 (lineEntered (w .line .words) out entry 0 Nothing)
 
   line-reporting : (digits : List ℕ) (busy : ℕ) → LineIn (lineDoes (AtLine.Report (numberWords digits) (yes busy))) (reportGiven digits busy)
   unfolding reportGiven LineEntry.reportEntry lineEntered Line.entered next
   line-reporting digits busy =
       let input = AtLine.Report (numberWords digits) (yes busy) in
       pick-elim (LineIn (lineDoes input)) (isWord busy)
-      (λ t. pick-elim (LineIn (lineDoes input)) (digitsInRange 1 digits) (λ t. line-entry (lineDoes input) (LineEntered.Given input) 0 refl) (λ f. refused 10))
-      (λ f. refused 2)
+      (λ t. pick-elim (LineIn (lineDoes input)) (digitsInRange 1 digits) (λ t. line-entry (lineDoes input) (LineEntered.Given input) 0 Nothing refl) (λ f. refused 10 Nothing))
+      (λ f. refused 2 Nothing)
 
   looking : (digits : List ℕ) → LineIn (lineDoes (AtLine.Look (numberWords digits))) (LineEntry.lookEntry digits)
   unfolding LineEntry.lookEntry lineEntered Line.entered next
   looking digits =
       let input = AtLine.Look (numberWords digits) in
-      pick-elim (LineIn (lineDoes input)) (digitsInRange 1 digits) (λ t. line-entry (lineDoes input) (LineEntered.Given input) 0 refl) (λ f. refused 10)
+      pick-elim (LineIn (lineDoes input)) (digitsInRange 1 digits) (λ t. line-entry (lineDoes input) (LineEntered.Given input) 0 Nothing refl) (λ f. refused 10 Nothing)
 
   abbrev LineActIn : List ℕ → LineEntries.Entry → Type 0
   LineActIn identifier entry = (act : LineActs.Act) × LineIn (lineDoes (AtLine.Act (wordsOf identifier) act)) entry
 
   line-act-in : (identifier : List ℕ) (act : LineActs.Act) → LineActIn identifier (LineEntry.actEntry identifier act)
   unfolding LineEntry.actEntry Line.entered next
-  line-act-in identifier act = (act, line-entry (lineDoes (AtLine.Act (wordsOf identifier) act)) (LineEntry.actEntry identifier act) 0 refl)
+  line-act-in identifier act = (act, line-entry (lineDoes (AtLine.Act (wordsOf identifier) act)) (LineEntry.actEntry identifier act) 0 Nothing refl)
 
   line-acting : (identifier : List ℕ) (number : ℕ) → LineActIn identifier (lineActGiven identifier number)
   unfolding lineActGiven lineEntered
   line-acting identifier number =
       pick-elim (LineActIn identifier) (eqb number 1) (λ t. line-act-in identifier LineAct.Alerted)
       (λ f. pick-elim (LineActIn identifier) (eqb number 2) (λ t. line-act-in identifier LineAct.CallFailed)
-      (λ f. pick-elim (LineActIn identifier) (eqb number 3) (λ t. line-act-in identifier LineAct.Cancel) (λ f. (LineAct.Cancel, refused 2))))
+      (λ f. pick-elim (LineActIn identifier) (eqb number 3) (λ t. line-act-in identifier LineAct.Cancel) (λ f. (LineAct.Cancel, refused 2 Nothing))))
 
   guarding : (identifier : List ℕ) → LineIn (lineDoes (AtLine.Guard (wordsOf identifier))) (LineEntry.guardEntry identifier)
   unfolding LineEntry.guardEntry Line.entered next
-  guarding identifier = line-entry (lineDoes (AtLine.Guard (wordsOf identifier))) (LineEntry.guardEntry identifier) 0 refl
+  guarding identifier = line-entry (lineDoes (AtLine.Guard (wordsOf identifier))) (LineEntry.guardEntry identifier) 0 Nothing refl
 
   -- ---- bytes of the head of a wire: the entry's step is that of the message
   clerk-hearing :
       (m : Message) (rest : List Message) → w .down ≡ m ∷ rest → (behind : List ℕ) (busy : Bool) →
-      Clerk.receivedBytes (w .clerk) (messageBytes m ++ behind) busy ≡ Clerk.withNext (Clerk.received (w .clerk) m busy) (length (messageBytes m)) →
+      Clerk.receivedBytes (w .clerk) (messageBytes m ++ behind) busy ≡ Clerk.withNext (Clerk.received (w .clerk) m busy) (length (messageBytes m)) Nothing →
       ClerkCall w (clerkHears busy) out (length (messageBytes m)) (clerkBytes (w .clerk .words) out (ClerkEntry.bytesEntry (messageBytes m ++ behind) busy))
   unfolding Clerk.receivedBytes next clerkHeard
   clerk-hearing m rest head behind busy e =
       let read = ClerkEntry.bytesEntry (messageBytes m ++ behind) busy in
       subst (λ (unread : ℕ). ClerkCall w (clerkHears busy) out unread (clerkBytes (w .clerk .words) out read)) (ap (λ (s : ClerkSteppedBytes.SteppedBytes). s .next) e)
-      (clerk-entry (clerkHears busy) (read .entry) (read .next)
+      (clerk-entry (clerkHears busy) (read .entry) (read .next) (read .fault)
       (ap (λ (s : ClerkSteppedBytes.SteppedBytes). clerkLeft (record { desk = s .desk; outcome = s .outcome })) e
       ∙ sym (ap (λ (ms : List Message). clerkEnd (clerkHeard w busy ms)) head)))
 
   line-hearing :
       (m : Message) (rest : List Message) → w .up ≡ m ∷ rest → (behind : List ℕ) →
-      Line.receivedBytes (w .line) (messageBytes m ++ behind) ≡ Line.withNext (Line.received (w .line) m) (length (messageBytes m)) →
+      Line.receivedBytes (w .line) (messageBytes m ++ behind) ≡ Line.withNext (Line.received (w .line) m) (length (messageBytes m)) Nothing →
       LineCall w lineHears out (length (messageBytes m)) (lineBytes (w .line .words) out (LineEntry.bytesEntry (messageBytes m ++ behind)))
   unfolding Line.receivedBytes next lineHeard
   line-hearing m rest head behind e =
       let read = LineEntry.bytesEntry (messageBytes m ++ behind) in
       subst (λ (unread : ℕ). LineCall w lineHears out unread (lineBytes (w .line .words) out read)) (ap (λ (s : LineSteppedBytes.SteppedBytes). s .next) e)
-      (line-entry lineHears (read .entry) (read .next)
+      (line-entry lineHears (read .entry) (read .next) (read .fault)
       (ap (λ (s : LineSteppedBytes.SteppedBytes). lineLeft (record { desk = s .desk; outcome = s .outcome })) e
       ∙ sym (ap (λ (ms : List Message). lineEnd (lineHeard w ms)) head)))
 
@@ -238,7 +241,7 @@ signal-entry :
     (signal : Signal) (identifier : Words) (busy : Bool) (behind : List ℕ) →
     let m = signalMessage signal identifier in
     ClerkEntry.bytesEntry (messageBytes m ++ behind) busy ≡
-    record { entry = ClerkEntered.Given (AtClerk.Message (signalLetter signal (nameOf m)) busy); next = length (messageBytes m) }
+    record { entry = ClerkEntered.Given (AtClerk.Message (signalLetter signal (nameOf m)) busy); next = length (messageBytes m); fault = Nothing }
 unfolding ClerkEntry.bytesEntry ClerkEntry.messageEntry
 signal-entry signal identifier busy behind =
     let m = signalMessage signal identifier in
@@ -256,7 +259,7 @@ clerk-telling w out signal identifier behind busy =
     let m = signalMessage signal identifier in
     let e = clerkIsTold signal (nameOf m) busy in
     subst (λ (read : ClerkBytes.BytesEntry). ClerkCall w e out (length (messageBytes m)) (clerkBytes (w .clerk .words) out read)) (sym (signal-entry signal identifier busy behind))
-    (clerk-entry w out e (ClerkEntered.Given (AtClerk.Message (signalLetter signal (nameOf m)) busy)) (length (messageBytes m)) refl)
+    (clerk-entry w out e (ClerkEntered.Given (AtClerk.Message (signalLetter signal (nameOf m)) busy)) (length (messageBytes m)) Nothing refl)
 
 -- ---- bytes at the clerk's end, with a number for the host's word on User A: one that is no word is refused
 clerk-worded :
@@ -265,21 +268,26 @@ clerk-worded :
     ClerkCall w e out unread (clerkReceived (w .clerk .words) out bytes busy)
 unfolding clerkReceived clerkBytesGiven clerkEntered
 clerk-worded w e out unread bytes busy call =
-    pick-elim (λ (read : ClerkBytes.BytesEntry). ClerkCall w e out unread (clerkBytes (w .clerk .words) out read)) (isWord busy) (λ t. call) (λ f. refused 2)
+    pick-elim (λ (read : ClerkBytes.BytesEntry). ClerkCall w e out unread (clerkBytes (w .clerk .words) out read)) (isWord busy) (λ t. call) (λ f. refused 2 Nothing)
 
 -- ---- bytes that the reader refuses
 clerk-unread :
-    (words out bytes : List ℕ) (number busy : ℕ) → messageAt bytes ≡ Reading.refused number →
-    (answer : ℕ) × (clerkReceived words out bytes busy ≡ refusedFace words out answer)
+    (words out bytes : List ℕ) (fault : Fault) (busy : ℕ) → messageAt bytes ≡ Reading.refused fault →
+    clerkReceived words out bytes busy ≡ pick (isWord busy) (refusedFace words out (fault .number) (At (fault .place))) (refusedFace words out 2 Nothing)
 unfolding clerkReceived clerkBytesGiven ClerkEntry.bytesEntry clerkEntered
-clerk-unread words out bytes number busy e =
-    pick-elim (λ (read : ClerkBytes.BytesEntry). (answer : ℕ) × (clerkBytes words out read ≡ refusedFace words out answer)) (isWord busy)
-    (λ t. (number, rw e))
-    (λ f. (2, refl))
+clerk-unread words out bytes fault busy e = by (isWord busy)
+  where
+    by :
+        (worded : Bool) →
+        clerkBytes words out (pick worded (ClerkEntry.bytesEntry bytes (yes busy)) (record { entry = ClerkEntered.Refused 2; next = 0; fault = Nothing }))
+        ≡ pick worded (refusedFace words out (fault .number) (At (fault .place))) (refusedFace words out 2 Nothing)
+    by true = rw e
+    by false = refl
 
-line-unread : (words out bytes : List ℕ) (number : ℕ) → messageAt bytes ≡ Reading.refused number → lineReceived words out bytes ≡ refusedFace words out number
+line-unread :
+    (words out bytes : List ℕ) (fault : Fault) → messageAt bytes ≡ Reading.refused fault → lineReceived words out bytes ≡ refusedFace words out (fault .number) (At (fault .place))
 unfolding lineReceived LineEntry.bytesEntry lineEntered
-line-unread words out bytes number e = rw e
+line-unread words out bytes fault e = rw e
 
 abbrev Once : World → Names → Request → Type 0
 Once w names q =

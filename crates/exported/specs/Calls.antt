@@ -2,6 +2,7 @@
 use Prim.Native.Nat.{ℕ}
 use mathlib.Core.Path.{_≡_}
 use mathlib.Core.List.{List, [], _∷_, _++_}
+use Rattle.lists.specs.declared.Found.{Found}
 use Rattle.message.specs.declared.Message.{Message}
 use Rattle.desk.specs.declared.outcome.Outcome.{Outcome}
 use Rattle.writer.specs.declared.Written.the-variants.{Wrote}
@@ -30,5 +31,5 @@ pub data IsStep (before after : End) (out : List ℕ) (unread : ℕ) : Face → 
   done :
       (outcome : Outcome) (length : ℕ) → after .wire ≡ before .wire ++ sentBy (outcome .sending) → sentWritten out (outcome .sending) ≡ Wrote length →
       IsStep before after out unread (face (after .words) (sentBuffer out (outcome .sending)) (toldOf outcome length unread) (outcome .refusal))
-  -- refused by the face, with 1, 2, 10 or 12: words and buffer are as they were
-  refused : (number : ℕ) → IsStep before after out unread (refusedFace (before .words) out number)
+  -- refused by the face, with 1, 2, 10 or 12: words and buffer are as they were. Bytes that cannot be read have the place of the fault
+  refused : (number : ℕ) (fault : Found) → IsStep before after out unread (refusedFace (before .words) out number fault)

@@ -5,12 +5,15 @@ use mathlib.Core.Bool.{Bool, true}
 use mathlib.Core.Logic.{_⊎_}
 use mathlib.Core.List.{List, [], _∷_, _++_, List·Memᴰ as Noted}
 use lib.ListN.{length}
+use Rattle.lists.specs.Choice.{pick}
 use Rattle.lists.specs.Parts.{over}
 use Rattle.lists.specs.Words.{wordsOf}
+use Rattle.lists.specs.declared.Found.the-variants.{At, Nothing}
 use Rattle.lists.specs.declared.words.Words.{Words}
 use Rattle.message.specs.Format.{inRange, messageBytes}
 use Rattle.message.specs.Reading as Reading
 use Rattle.message.specs.Wire.{messageAt}
+use Rattle.message.specs.declared.Fault.{Fault}
 use Rattle.message.specs.declared.Message.{Message}
 use Rattle.desk.specs.Letter.{messageOf, numberWords}
 use Rattle.desk.specs.declared.outcome.Outcome.{Outcome}
@@ -26,7 +29,7 @@ use Rattle.clerk_sound.specs.Sound.{Typed}
 use Rattle.line_table.specs.declared.inputs.Act as LineAct
 use Rattle.line_table.specs.declared.inputs.Input.the-variants as AtLine
 use Rattle.line.specs.Steps as Line
-use Rattle.host_numbers.specs.Given.{askingOf, yes}
+use Rattle.host_numbers.specs.Given.{askingOf, isWord, yes}
 use Rattle.tollherring.specs.Face.{Face, face, refusedFace, faced}
 use Rattle.tollherring.specs.Clerk.{clerkAsked, clerkReceived, clerkActed, clerkReported}
 use Rattle.tollherring.specs.Line.{lineStartedWords, lineStartedAnswer, lineReceived, lineStatusReported, lineLooked, lineActed, lineGuarded}
@@ -53,12 +56,12 @@ SentAsBytes =
 abbrev pub ClerkHearsBytes : World → Bool → List ℕ → List Message → Type 0
 ClerkHearsBytes w busy rest [] = Unit
 ClerkHearsBytes w busy rest (m ∷ ms) =
-    Clerk.receivedBytes (w .clerk) (messageBytes m ++ rest) busy ≡ Clerk.withNext (Clerk.received (w .clerk) m busy) (length (messageBytes m))
+    Clerk.receivedBytes (w .clerk) (messageBytes m ++ rest) busy ≡ Clerk.withNext (Clerk.received (w .clerk) m busy) (length (messageBytes m)) Nothing
 
 abbrev pub LineHearsBytes : World → List ℕ → List Message → Type 0
 LineHearsBytes w rest [] = Unit
 LineHearsBytes w rest (m ∷ ms) =
-    Line.receivedBytes (w .line) (messageBytes m ++ rest) ≡ Line.withNext (Line.received (w .line) m) (length (messageBytes m))
+    Line.receivedBytes (w .line) (messageBytes m ++ rest) ≡ Line.withNext (Line.received (w .line) m) (length (messageBytes m)) Nothing
 
 abbrev pub HeardAsBytes : Type 0
 HeardAsBytes =
@@ -112,13 +115,14 @@ pub record Calls (w : World) (out : List ℕ) : Type 0 where
       (signal : Signal) (identifier : Words) (behind : List ℕ) (busy : ℕ) →
       let m = messageOf (signalLetter signal identifier) in
       ClerkCall w (clerkIsTold signal (nameOf m) (yes busy)) out (length (messageBytes m)) (clerkReceived (w .clerk .words) out (messageBytes m ++ behind) busy)
-  -- bytes that the reader refuses. Of other bytes nothing is said: they are a message that is neither the head of the wire nor a signal, so nobody of the pair sent it
+  -- bytes that the reader refuses are told with the fault's number and place; a word on User A that is none comes first. Of other bytes nothing is said: they are a message that is neither the head of the wire nor a signal, so nobody of the pair sent it
   pub clerkUnread :
-      (bytes : List ℕ) (number busy : ℕ) → messageAt bytes ≡ Reading.refused number →
-      (answer : ℕ) × (clerkReceived (w .clerk .words) out bytes busy ≡ refusedFace (w .clerk .words) out answer)
+      (bytes : List ℕ) (fault : Fault) (busy : ℕ) → messageAt bytes ≡ Reading.refused fault →
+      clerkReceived (w .clerk .words) out bytes busy
+      ≡ pick (isWord busy) (refusedFace (w .clerk .words) out (fault .number) (At (fault .place))) (refusedFace (w .clerk .words) out 2 Nothing)
   pub lineUnread :
-      (bytes : List ℕ) (number : ℕ) → messageAt bytes ≡ Reading.refused number →
-      lineReceived (w .line .words) out bytes ≡ refusedFace (w .line .words) out number
+      (bytes : List ℕ) (fault : Fault) → messageAt bytes ≡ Reading.refused fault →
+      lineReceived (w .line .words) out bytes ≡ refusedFace (w .line .words) out (fault .number) (At (fault .place))
 
 abbrev pub FaceIsStep : Type 0
 FaceIsStep = (w : World) → Reached w → (out : List ℕ) → Calls w out

@@ -3,6 +3,7 @@ use Prim.Native.Nat.{ℕ}
 use mathlib.Core.Bool.{Bool}
 use mathlib.Core.List.{List}
 use lib.Dec.{eqb, leb}
+use Rattle.lists.specs.declared.Found.the-variants.{Nothing}
 use Rattle.lists.specs.Choice.{pick}
 use Rattle.lists.specs.Lists.{both}
 use Rattle.terms.specs.Codes.{kindOf}
@@ -80,4 +81,4 @@ askGiven identifier kind numberA numberB service canKeep preference =
 -- bytes at the clerk's end, with the host's word on User A: 0 not busy, 1 busy
 unfoldable pub clerkBytesGiven : List ℕ → ℕ → ClerkBytes.BytesEntry
 clerkBytesGiven bytes busy =
-    pick (isWord busy) (ClerkEntry.bytesEntry bytes (yes busy)) (record { entry = ClerkEntered.Refused 2; next = 0 })
+    pick (isWord busy) (ClerkEntry.bytesEntry bytes (yes busy)) (record { entry = ClerkEntered.Refused 2; next = 0; fault = Nothing })

@@ -14,6 +14,7 @@ use line::entry::Entry as LineEntry;
 use line::entry::act_entry as line_act_entry;
 use line::entry::report_entry;
 use line_table::inputs::Act as LineAct;
+use lists::Found;
 use terms::codes::kind_of;
 ghost use mathlib.Core.Path.{_≡_};
 ghost use Rattle.host_numbers.specs.Given.{clerkActGiven, timerGiven, lineActGiven, reportGiven, askWords, askingOf, askGiven, clerkBytesGiven};
@@ -141,5 +142,6 @@ pub fn clerk_bytes_given(bytes: &[u8], busy: u64) -> ClerkBytesEntry
     ClerkBytesEntry {
         entry: ClerkEntry::Refused(2),
         next: 0,
+        fault: Found::Nothing,
     }
 }

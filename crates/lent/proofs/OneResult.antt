@@ -20,10 +20,15 @@ clerk-one-answer d d′ r r′ p q =
 
 pub clerk-one-answer-bytes :
     (d d′ : ClerkDesk.Desk) (r r′ : BytesOutcome) {step : ClerkBytes.SteppedBytes} → Clerk.answeredBytes d r ≡ step → Clerk.answeredBytes d′ r′ ≡ step →
-    (d ≡ d′) × ((r .outcome ≡ r′ .outcome) × (r .next ≡ r′ .next))
+    (d ≡ d′) × ((r .outcome ≡ r′ .outcome) × ((r .next ≡ r′ .next) × (r .fault ≡ r′ .fault)))
 clerk-one-answer-bytes d d′ r r′ p q =
-    let same = p ∙ sym q in
-    (ap (λ (s : ClerkBytes.SteppedBytes). s .desk) same, (ap (λ (s : ClerkBytes.SteppedBytes). s .outcome) same, ap (λ (s : ClerkBytes.SteppedBytes). s .next) same))
+    let same = p ∙ sym q in (
+      ap (λ (s : ClerkBytes.SteppedBytes). s .desk) same,
+      (
+        ap (λ (s : ClerkBytes.SteppedBytes). s .outcome) same,
+        (ap (λ (s : ClerkBytes.SteppedBytes). s .next) same, ap (λ (s : ClerkBytes.SteppedBytes). s .fault) same),
+      ),
+    )
 
 -- ---- the line desk
 pub line-one-answer :
@@ -34,7 +39,12 @@ line-one-answer d d′ r r′ p q =
 
 pub line-one-answer-bytes :
     (d d′ : LineDesk.Desk) (r r′ : BytesOutcome) {step : LineBytes.SteppedBytes} → Line.answeredBytes d r ≡ step → Line.answeredBytes d′ r′ ≡ step →
-    (d ≡ d′) × ((r .outcome ≡ r′ .outcome) × (r .next ≡ r′ .next))
+    (d ≡ d′) × ((r .outcome ≡ r′ .outcome) × ((r .next ≡ r′ .next) × (r .fault ≡ r′ .fault)))
 line-one-answer-bytes d d′ r r′ p q =
-    let same = p ∙ sym q in
-    (ap (λ (s : LineBytes.SteppedBytes). s .desk) same, (ap (λ (s : LineBytes.SteppedBytes). s .outcome) same, ap (λ (s : LineBytes.SteppedBytes). s .next) same))
+    let same = p ∙ sym q in (
+      ap (λ (s : LineBytes.SteppedBytes). s .desk) same,
+      (
+        ap (λ (s : LineBytes.SteppedBytes). s .outcome) same,
+        (ap (λ (s : LineBytes.SteppedBytes). s .next) same, ap (λ (s : LineBytes.SteppedBytes). s .fault) same),
+      ),
+    )

@@ -4,6 +4,7 @@ use mathlib.Core.Bool.{Bool}
 use mathlib.Core.List.{List}
 use Rattle.lists.specs.Choice.{pick}
 use Rattle.lists.specs.Words.{wordsOf}
+use Rattle.lists.specs.declared.Found.the-variants.{At, Nothing}
 use Rattle.message.specs.Reading.{Read, took, refused}
 use Rattle.message.specs.Number.{digitsInRange}
 use Rattle.message.specs.Format.{inRange}
@@ -36,8 +37,8 @@ lookEntry digits = pick (digitsInRange 1 digits) (Given (Input.Look (numberWords
 
 -- ---- bytes: the reader's 1 and 2; else the message that is read, and the first unread place
 abbrev pub readEntry : Read Message → BytesEntry
-readEntry (took m next) = record { entry = messageEntry m; next = next }
-readEntry (refused number) = record { entry = Refused number; next = 0 }
+readEntry (took m next) = record { entry = messageEntry m; next = next; fault = Nothing }
+readEntry (refused fault) = record { entry = Refused (fault .number); next = 0; fault = At (fault .place) }
 
 unfoldable pub bytesEntry : List ℕ → BytesEntry
 bytesEntry bytes = readEntry (messageAt bytes)

@@ -2,6 +2,7 @@
 use Prim.Native.Nat.{ℕ}
 use mathlib.Core.Bool.{Bool}
 use mathlib.Core.List.{List}
+use Rattle.lists.specs.declared.Found.{Found}
 use Rattle.message.specs.declared.Message.{Message}
 use Rattle.desk.specs.Outcome.{refusedWith}
 use Rattle.desk.specs.declared.outcome.Outcome.{Outcome}
@@ -29,7 +30,7 @@ abbrev pub answered : Desk → Outcome → Stepped
 answered d outcome = record { desk = d; outcome = outcome }
 
 abbrev pub answeredBytes : Desk → BytesOutcome → SteppedBytes
-answeredBytes d answer = record { desk = d; outcome = answer .outcome; next = answer .next }
+answeredBytes d answer = record { desk = d; outcome = answer .outcome; next = answer .next; fault = answer .fault }
 
 -- ---- the one door: an input's step is its plan, made on the desk
 -- a plan made on a desk: the words that it changes, and the outcome
@@ -66,12 +67,12 @@ acted d identifier act = entered d (actEntry identifier act)
 abbrev pub guardReported : Desk → List ℕ → Stepped
 guardReported d identifier = entered d (guardEntry identifier)
 
--- raw bytes: the reader's refusals change nothing; else the message's step, and the first unread place
-abbrev pub withNext : Stepped → ℕ → SteppedBytes
-withNext step next = record { desk = step .desk; outcome = step .outcome; next = next }
+-- raw bytes: the reader's refusals change nothing, and tell the place of the fault; else the message's step, and the first unread place
+abbrev pub withNext : Stepped → ℕ → Found → SteppedBytes
+withNext step next fault = record { desk = step .desk; outcome = step .outcome; next = next; fault = fault }
 
 abbrev pub readStep : Desk → BytesEntry → SteppedBytes
-readStep d read = withNext (entered d (read .entry)) (read .next)
+readStep d read = withNext (entered d (read .entry)) (read .next) (read .fault)
 
 unfoldable pub receivedBytes : Desk → List ℕ → SteppedBytes
 receivedBytes d bytes = readStep d (bytesEntry bytes)

@@ -5,6 +5,7 @@ use desk::letter::number_words;
 use desk::letter::read_letter;
 use line_table::inputs::Act;
 use line_table::inputs::Input;
+use lists::Found;
 use lists::words::words_of;
 use message::Message;
 use message::digits::PlaceRead;
@@ -19,10 +20,11 @@ pub enum Entry {
     Given(Input),
 }
 
-// The same for bytes, with the first unread place; on a refusal of the bytes, 0.
+// The same for bytes, with the first unread place; where they cannot be read, 0 and the place of the fault.
 pub struct BytesEntry {
     pub entry: Entry,
     pub next: usize,
+    pub fault: Found,
 }
 
 // A message: 2.
@@ -81,9 +83,10 @@ pub fn bytes_entry(s: &[u8]) -> BytesEntry
     let answer = reader::read(s);
     let verdict = answer.verdict;
     match verdict {
-        PlaceRead::Refused(refusal) => BytesEntry {
-            entry: Entry::Refused(refusal),
+        PlaceRead::Refused(fault) => BytesEntry {
+            entry: Entry::Refused(fault.number),
             next: 0,
+            fault: Found::At(fault.place),
         },
         PlaceRead::Taken(next) => {
             let m = answer.message;
@@ -91,6 +94,7 @@ pub fn bytes_entry(s: &[u8]) -> BytesEntry
             BytesEntry {
                 entry: Entry::Given(Input::Message(l)),
                 next,
+                fault: Found::Nothing,
             }
         }
     }

@@ -41,9 +41,11 @@ pub fn step_bytes(words: &mut [u64; WORDS], s: &[u8]) -> BytesOutcome
 {
     let read = bytes_entry(s);
     let entry = read.entry;
+    let fault = read.fault;
     let outcome = step(words, entry);
     BytesOutcome {
         outcome,
         next: read.next,
+        fault,
     }
 }

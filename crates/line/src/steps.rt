@@ -4,6 +4,7 @@ use crate::Desk;
 use crate::entry::Entry;
 use crate::on_words;
 use desk::outcome::Outcome;
+use lists::Found;
 ghost use mathlib.Core.Path.{_≡_};
 ghost use Rattle.line.specs.Steps.{entered, receivedBytes};
 
@@ -13,11 +14,12 @@ pub struct Stepped {
     pub outcome: Outcome,
 }
 
-// The same for bytes, with the first unread place; on a refusal of the bytes, 0.
+// The same for bytes, with the first unread place; where they cannot be read, 0 and the place of the fault.
 pub struct SteppedBytes {
     pub desk: Desk,
     pub outcome: Outcome,
     pub next: usize,
+    pub fault: Found,
 }
 
 // A step: a message 2, 3, 6, 7, 8, a request 2, 8; a line report 10; a Look 10, 11; an act 6, 7; the guard 6.
@@ -29,16 +31,18 @@ pub fn step(d: Desk, entry: Entry) -> Stepped
     Stepped { desk: e, outcome }
 }
 
-// Raw bytes received: the reader's 1 and 2, which change nothing; else the message's step, and the first unread place.
+// Raw bytes received: the reader's 1 and 2, which change nothing, with the place of the fault; else the message's step, and the first unread place.
 pub fn step_bytes(d: Desk, s: &[u8]) -> SteppedBytes
     ensures { λ r. ⌜ r ≡ receivedBytes d (now (s .entry)) ⌝ }
 {
     let mut e = d;
     let answer = on_words::step_bytes(&mut e.words, s);
     let outcome = answer.outcome;
+    let fault = answer.fault;
     SteppedBytes {
         desk: e,
         outcome,
         next: answer.next,
+        fault,
     }
 }

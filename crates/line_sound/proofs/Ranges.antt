@@ -17,6 +17,7 @@ use Rattle.message.specs.Wire.{carrierOf, identifierAt, fieldsAt, between, mess
 use Rattle.message.specs.declared.Carrier.{Carrier}
 use Rattle.message.specs.declared.Body.{Body}
 use Rattle.message.specs.declared.Body.the-variants.{CcbsRequest, CcnrRequest, RequestResult, RequestError, CcExecPossible, CcRingout, RingoutError, CcSuspend, CcResume, CcCancel, CallAlerts, CallFailed}
+use Rattle.message.specs.declared.Fault.{Fault}
 use Rattle.message.specs.declared.Message.{Message}
 use Rattle.message.proofs.Reading.{never-took, then-elim}
 use Rattle.message.proofs.RangeLaws.{RequestRanged, request-ranged}
@@ -117,7 +118,7 @@ between-bytes s from to b = bytes-sixteen (take (to - from) (drop from s)) (byte
 abbrev BytesRead : Read Message → Type 0
 BytesRead r = (m : Message) (n : ℕ) → r ≡ took m n → Bytes (m .numberA) × Bytes (m .numberB)
 
-not-read : (x : ℕ) → BytesRead (refused x)
+not-read : (x : Fault) → BytesRead (refused x)
 not-read x m n e = absurd (never-took e)
 
 head-bytes : (type : ℕ) (carrier : Carrier) (s : List ℕ) (at : ℕ) → Bytes s → BytesRead (behindHead type carrier s at)

@@ -14,7 +14,7 @@ use borrow.Author.Tests.{ltb-false, le-ltb, lt-ltb, lt-leb, ne-eqb}
 use Rattle.lists.specs.Words.{Bytes}
 use Rattle.lists.proofs.Choice.{pick-elim, pick-else}
 use Rattle.lists.proofs.Parts.{at-in, length-over}
-use Rattle.message.specs.Reading.{Read, took, refused}
+use Rattle.message.specs.Reading.{Read, took, wrongAt, endedIn}
 use Rattle.message.specs.Number.{numberAt, numberBytes, fieldAt, scanAt, digitsAt, digitsInRange, digitsBytes, sixteen}
 use Rattle.message.proofs.Reading.{never-took}
 use Rattle.message.proofs.NumberLaws.{DigitsRead, number-shape, field-read, digits-read}
@@ -63,8 +63,8 @@ pub scan-same :
 unfolding scanAt
 scan-same zero s t a b m e h l = ap (λ (k : ℕ). took tt k) (sym (add-zero b))
 scan-same (suc count) s t a b m e h l =
-    let p = pick-else (leb (length s) a) (refused 1) _ _ never-took e in
-    let q = pick-else (ltb 9 (getD s a 0)) (refused 2) _ _ never-took (p .1) in
+    let p = pick-else (leb (length s) a) (endedIn s) _ _ never-took e in
+    let q = pick-else (ltb 9 (getD s a 0)) (wrongAt 2 a) _ _ never-took (p .1) in
     let g : getD t b 0 ≡ getD s a 0 = rw (add-zero, add-zero) at (h 0 (omega arith)) in
     let next : (i : ℕ) → i < count → getD t (b + 1 + i) 0 ≡ getD s (a + 1 + i) 0 =
     λ i k. let eb : b + 1 + i ≡ b + (i + 1) = omega arith in let ea : a + 1 + i ≡ a + (i + 1) = omega arith in rw (eb, ea) (h (i + 1) (omega arith)) in

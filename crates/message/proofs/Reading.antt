@@ -3,6 +3,7 @@ use Prim.Native.Nat.{ℕ}
 use mathlib.Core.Path.{_≡_, refl, sym}
 use native.Mathlib.Omega.{arith}
 use Rattle.lists.proofs.OneResult.{one-told}
+use Rattle.message.specs.declared.Fault.{Fault}
 use Rattle.message.specs.Reading.{Read, took, refused, andThen}
 use Rattle.message.specs.Answers.{numberTold, placeTold}
 use Rattle.message.specs.declared.number.NumberRead.{NumberRead}
@@ -10,12 +11,12 @@ use Rattle.message.specs.declared.number.NumberRead.the-variants as N
 use Rattle.message.specs.declared.digits.PlaceRead.{PlaceRead}
 use Rattle.message.specs.declared.digits.PlaceRead.the-variants as P
 
-pub never-took : {A : Type 0} {x n : ℕ} {v : A} → refused x ≡ took v n → ⊥
+pub never-took : {A : Type 0} {x : Fault} {n : ℕ} {v : A} → refused x ≡ took v n → ⊥
 never-took e = let z : _≡_ {A = ℕ} 0 1 = cc in omega arith
 
 -- what holds of a refusal, and of what follows what was taken, holds of the whole
 pub then-elim :
-    {A B : Type 0} (Q : Read B → Type 0) (r : Read A) (k : A → ℕ → Read B) → ((x : ℕ) → Q (refused x)) →
+    {A B : Type 0} (Q : Read B → Type 0) (r : Read A) (k : A → ℕ → Read B) → ((x : Fault) → Q (refused x)) →
     ((v : A) (next : ℕ) → r ≡ took v next → Q (k v next)) → Q (andThen r k)
 then-elim Q (took v next) k refuses follows = follows v next refl
 then-elim Q (refused x) k refuses follows = refuses x

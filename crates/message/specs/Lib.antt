@@ -1,5 +1,6 @@
 pub mod Reading
 pub mod Number
+pub mod Ends
 pub mod Format
 pub mod Equality
 pub mod Wire

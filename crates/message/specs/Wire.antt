@@ -4,7 +4,7 @@ use mathlib.Core.List.{List}
 use lib.ListN.{length, take, drop}
 use lib.Dec.{ltb, eqb}
 use Rattle.lists.specs.Choice.{pick}
-use Rattle.message.specs.Reading.{Read, took, refused, andThen}
+use Rattle.message.specs.Reading.{Read, took, andThen, endedIn}
 use Rattle.message.specs.Number.{fieldAt, digitsAt, sixteen}
 use Rattle.message.specs.Format.{requestBody}
 use Rattle.message.specs.declared.Carrier.{Carrier}
@@ -26,7 +26,7 @@ carrierOf n =
 
 -- 16 raw bytes
 unfoldable pub identifierAt : List ℕ → ℕ → Read (List ℕ)
-identifierAt s at = pick (ltb (length s) (at + 16)) (refused 1) (took (take 16 (drop at s)) (at + 16))
+identifierAt s at = pick (ltb (length s) (at + 16)) (endedIn s) (took (take 16 (drop at s)) (at + 16))
 
 -- the fields of a message that stand from a place on: the places behind numberA and behind numberB, and the body
 pub record Fields : Type 0 where

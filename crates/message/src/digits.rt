@@ -1,33 +1,67 @@
 // Numbers of digits: a length, then one byte 0 to 9 for each digit.
+use crate::Fault;
 use crate::number::NumberRead;
 use crate::number::read_field;
+ghost use Prim.Native.Nat.{_-_, _≤_};
 ghost use mathlib.Core.Path.{_≡_};
+ghost use lib.ListN.{length};
 ghost use Rattle.message.specs.Number.{scanAt, digitsAt, digitsInRange, digitsBytes, sixteen};
+ghost use Rattle.message.specs.Ends.{bytesEnd, digitsEnd};
 ghost use Rattle.message.specs.Answers.{placeTold};
 
-// The place of the first unread byte, or a refusal by its number in document 01.
+// The place of the first unread byte, or what is wrong.
 pub enum PlaceRead {
     Taken(usize),
-    Refused(u8),
+    Refused(Fault),
+}
+
+// The place behind so many bytes from a place on; where there are fewer, the place behind the last one.
+fn bytes_end(s: &[u8], at: usize, count: usize) -> usize
+    requires { ⌜ at ≤ length (now s) ⌝ }
+    ensures { λ r. ⌜ r ≡ bytesEnd count (now (s .entry)) at ⌝ }
+{
+    if s.len() - at < count {
+        s.len()
+    } else {
+        at + count
+    }
+}
+
+// The first place from a place on that holds no digit; where there is none before the end, the end.
+fn digits_end(s: &[u8], at: usize, end: usize) -> usize
+    requires { ⌜ end ≤ length (now s) ⌝ }
+    ensures { λ r. ⌜ r ≡ digitsEnd (end - at) (now (s .entry)) at ⌝ }
+{
+    let mut next = at;
+    while next < end {
+        if 9 < s[next] {
+            return next;
+        }
+        next += 1;
+    }
+    next
 }
 
 // So many bytes from a place on, each of them a digit.
 fn scan(s: &[u8], at: usize, count: usize) -> PlaceRead
+    requires { ⌜ at ≤ length (now s) ⌝ }
     ensures { λ r. ⌜ placeTold r ≡ scanAt count (now (s .entry)) at ⌝ }
 {
-    let mut left = count;
-    let mut next = at;
-    while 0 < left {
-        if s.len() <= next {
-            return PlaceRead::Refused(1);
-        }
-        if 9 < s[next] {
-            return PlaceRead::Refused(2);
-        }
-        left -= 1;
-        next += 1;
+    let end = bytes_end(s, at, count);
+    let next = digits_end(s, at, end);
+    if next < end {
+        return PlaceRead::Refused(Fault {
+            number: 2,
+            place: next,
+        });
     }
-    PlaceRead::Taken(next)
+    if s.len() - at < count {
+        return PlaceRead::Refused(Fault {
+            number: 1,
+            place: s.len(),
+        });
+    }
+    PlaceRead::Taken(end)
 }
 
 // A length from low to 15 and as many digits. The bytes passed are the number's own: they are copied where they are wanted.
@@ -35,7 +69,7 @@ pub fn read_digits(s: &[u8], at: usize, low: u16) -> PlaceRead
     ensures { λ r. ⌜ placeTold r ≡ digitsAt (now (s .entry)) at low ⌝ }
 {
     match read_field(s, at, low, 15) {
-        NumberRead::Refused(x) => PlaceRead::Refused(x),
+        NumberRead::Refused(fault) => PlaceRead::Refused(fault),
         NumberRead::Value(v, next) => {
             let count = v as usize;
             scan(s, next, count)
@@ -47,9 +81,12 @@ pub fn read_digits(s: &[u8], at: usize, low: u16) -> PlaceRead
 pub fn digits_in_range(number: [u8; 16], low: u16) -> bool
     ensures { λ r. ⌜ r ≡ digitsInRange low number ⌝ }
 {
-    match read_digits(&number, 0, low) {
-        PlaceRead::Taken(_) => true,
-        PlaceRead::Refused(_) => false,
+    match read_field(&number, 0, low, 15) {
+        NumberRead::Refused(_) => false,
+        NumberRead::Value(v, next) => {
+            let end = next + v as usize;
+            end <= digits_end(&number, next, end)
+        }
     }
 }
 

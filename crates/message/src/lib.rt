@@ -49,6 +49,13 @@ pub struct Message {
     pub body: Body,
 }
 
+// What is wrong with some bytes: document 01's number, and the place in the slice that was given. The first byte of a number that is faulty or out of range;
+// a digit that is over 9; the length of the slice where the bytes end too early.
+pub struct Fault {
+    pub number: u8,
+    pub place: usize,
+}
+
 // The body of a request of a kind.
 pub fn request_body(kind: Kind, service: u16, flags: u8) -> Body
     ensures { λ r. ⌜ r ≡ requestBody kind service flags ⌝ }

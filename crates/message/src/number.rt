@@ -1,12 +1,13 @@
 // Numbers in groups of seven bits, lowest group first, the top bit set on all but the last byte, shortest form, one or two bytes.
+use crate::Fault;
 ghost use mathlib.Core.Path.{_≡_};
 ghost use Rattle.message.specs.Number.{numberAt, fieldAt};
 ghost use Rattle.message.specs.Answers.{numberTold};
 
-// A number and the place of the first unread byte, or a refusal by its number in document 01.
+// A number and the place of the first unread byte, or what is wrong.
 pub enum NumberRead {
     Value(u16, usize),
-    Refused(u8),
+    Refused(Fault),
 }
 
 // The number at a place.
@@ -14,7 +15,8 @@ pub fn read_number(s: &[u8], at: usize) -> NumberRead
     ensures { λ r. ⌜ numberTold r ≡ numberAt (now (s .entry)) at ⌝ }
 {
     if s.len() <= at {
-        return NumberRead::Refused(1);
+        let place = s.len();
+        return NumberRead::Refused(Fault { number: 1, place });
     }
     let first = s[at] as u16;
     if first < 128 {
@@ -22,31 +24,40 @@ pub fn read_number(s: &[u8], at: usize) -> NumberRead
     }
     let next = at + 1;
     if s.len() <= next {
-        return NumberRead::Refused(1);
+        let end = s.len();
+        return NumberRead::Refused(Fault {
+            number: 1,
+            place: end,
+        });
     }
+    let wrong = Fault {
+        number: 1,
+        place: at,
+    };
     let second = s[next] as u16;
     if second == 0 {
-        return NumberRead::Refused(1);
+        return NumberRead::Refused(wrong);
     }
     if second < 128 {
         NumberRead::Value((first - 128) + 128 * second, next + 1)
     } else {
-        NumberRead::Refused(1)
+        NumberRead::Refused(wrong)
     }
 }
 
 // The number at a place, held to its field's range.
-pub fn read_field(s: &[u8], at: usize, low: u16, high: u16) -> NumberRead
-    ensures { λ r. ⌜ numberTold r ≡ fieldAt (now (s .entry)) at low high ⌝ }
+pub fn read_field(s: &[u8], place: usize, low: u16, high: u16) -> NumberRead
+    ensures { λ r. ⌜ numberTold r ≡ fieldAt (now (s .entry)) place low high ⌝ }
 {
-    match read_number(s, at) {
-        NumberRead::Refused(x) => NumberRead::Refused(x),
+    match read_number(s, place) {
+        NumberRead::Refused(fault) => NumberRead::Refused(fault),
         NumberRead::Value(v, next) => {
+            let wrong = Fault { number: 2, place };
             if v < low {
-                return NumberRead::Refused(2);
+                return NumberRead::Refused(wrong);
             }
             if high < v {
-                return NumberRead::Refused(2);
+                return NumberRead::Refused(wrong);
             }
             NumberRead::Value(v, next)
         }

@@ -3,6 +3,7 @@ use Prim.Native.Nat.{ℕ}
 use mathlib.Core.Path.{_≡_, refl, sym, _∙_, ap}
 use native.Mathlib.Omega.{arith}
 use Rattle.message.specs.Reading.{Read, took, refused}
+use Rattle.message.specs.declared.Fault.{Fault}
 use Rattle.message.specs.declared.Message.{Message}
 use Rattle.message.specs.declared.digits.PlaceRead.{PlaceRead}
 use Rattle.message.specs.declared.digits.PlaceRead.the-variants.{Taken, Refused}
@@ -19,7 +20,7 @@ answer-taken a (refused x) n e h =
     let z : _≡_ {A = ℕ} 0 1 = cc in
     absurd (omega arith)
 
-pub answer-refused : (a : Answer) (r : Read Message) (x : ℕ) → a ≡ readAnswer r → a .verdict ≡ Refused x → r ≡ refused x
+pub answer-refused : (a : Answer) (r : Read Message) (x : Fault) → a ≡ readAnswer r → a .verdict ≡ Refused x → r ≡ refused x
 answer-refused a (took m k) x e h =
     let v : Taken k ≡ Refused x = sym (ap (λ (y : Answer). y .verdict) e) ∙ h in
     let z : _≡_ {A = ℕ} 0 1 = cc in

@@ -9,6 +9,7 @@ use Rattle.lists.proofs.Choice.{pick-elim}
 use Rattle.message.specs.Reading.{Read, took, refused, andThen}
 use Rattle.message.specs.Number.{fieldAt, digitsAt}
 use Rattle.message.specs.Wire.{Fields, requestTail, requestAt, fieldsAt, plainAt}
+use Rattle.message.specs.declared.Fault.{Fault}
 use Rattle.message.specs.declared.Kind.{Kind}
 use Rattle.message.specs.declared.Kind.the-variants.{Ccbs, Ccnr}
 use Rattle.message.specs.declared.Body.{Body}
@@ -28,7 +29,7 @@ pub record Placed (s : List ℕ) (at : ℕ) (f : Fields) (n : ℕ) : Type 0 wher
 abbrev Places : List ℕ → ℕ → Read Fields → Type 0
 Places s at r = (f : Fields) (n : ℕ) → r ≡ took f n → Placed s at f n
 
-no-places : (s : List ℕ) (at x : ℕ) → Places s at (refused x)
+no-places : (s : List ℕ) (at : ℕ) (x : Fault) → Places s at (refused x)
 no-places s at x f n e = absurd (never-took e)
 
 plain-places : (s : List ℕ) (at : ℕ) (body : Body) (next : ℕ) → at ≤ next → next ≤ length s → Places s at (plainAt at body next)

@@ -1,4 +1,4 @@
--- What the reader's answers are: a message and the first unread place, or document 01's number.
+-- What the reader's answers are: a message and the first unread place, or what is wrong.
 use lib.ListN.{replicate}
 use Rattle.message.specs.Reading.{Read, took, refused}
 use Rattle.message.specs.Wire.{Fields}
@@ -13,7 +13,7 @@ use Rattle.reader.specs.declared.Answer.{Answer}
 
 abbrev pub fieldsTold : FieldsRead → Read Fields
 fieldsTold (F.Whole behindA behindB body next) = took (record { behindA = behindA; behindB = behindB; body = body }) next
-fieldsTold (F.Refused number) = refused number
+fieldsTold (F.Refused fault) = refused fault
 
 -- what stands for the message beside a refusal
 abbrev pub blankMessage : Message
@@ -22,4 +22,4 @@ blankMessage =
 
 abbrev pub readAnswer : Read Message → Answer
 readAnswer (took message next) = record { verdict = Taken next; message = message }
-readAnswer (refused number) = record { verdict = Refused number; message = blankMessage }
+readAnswer (refused fault) = record { verdict = Refused fault; message = blankMessage }

@@ -2,6 +2,7 @@
 // message once, so that no array is handed from function to function.
 use message::Body;
 use message::Carrier;
+use message::Fault;
 use message::Kind;
 use message::Message;
 use message::copied::copy_between;
@@ -17,7 +18,7 @@ ghost use Rattle.message.specs.Reading.{refused as refusedWith};
 ghost use Rattle.message.specs.Wire.{carrierOf, requestTail, requestAt, fieldsAt, between, behindHead, messageAt, plainAt};
 ghost use Rattle.reader.specs.Answers.{fieldsTold, readAnswer};
 
-// The places behind numberA and numberB, the body and the place of the first unread byte, or a refusal.
+// The places behind numberA and numberB, the body and the place of the first unread byte, or what is wrong.
 enum FieldsRead {
     Whole {
         behindA: usize,
@@ -25,10 +26,10 @@ enum FieldsRead {
         body: Body,
         next: usize,
     },
-    Refused(u8),
+    Refused(Fault),
 }
 
-// What was read: a message and the place of the first unread byte; or a refusal, beside a blank message.
+// What was read: a message and the place of the first unread byte; or what is wrong, beside a blank message.
 pub struct Answer {
     pub verdict: PlaceRead,
     pub message: Message,
@@ -51,9 +52,9 @@ fn request_tail(kind: Kind, s: &[u8], behindA: usize, behindB: usize) -> FieldsR
     ensures { λ r. ⌜ fieldsTold r ≡ requestTail kind (now (s .entry)) behindA behindB ⌝ }
 {
     match read_field(s, behindB, 0, 16383) {
-        NumberRead::Refused(x) => FieldsRead::Refused(x),
+        NumberRead::Refused(fault) => FieldsRead::Refused(fault),
         NumberRead::Value(service, after) => match read_field(s, after, 0, 5) {
-            NumberRead::Refused(x) => FieldsRead::Refused(x),
+            NumberRead::Refused(fault) => FieldsRead::Refused(fault),
             NumberRead::Value(v, next) => {
                 let flags = v as u8;
                 let body = request_body(kind, service, flags);
@@ -72,9 +73,9 @@ fn request(kind: Kind, s: &[u8], at: usize) -> FieldsRead
     ensures { λ r. ⌜ fieldsTold r ≡ requestAt kind (now (s .entry)) at ⌝ }
 {
     match read_digits(s, at, 0) {
-        PlaceRead::Refused(x) => FieldsRead::Refused(x),
+        PlaceRead::Refused(fault) => FieldsRead::Refused(fault),
         PlaceRead::Taken(behindA) => match read_digits(s, behindA, 1) {
-            PlaceRead::Refused(x) => FieldsRead::Refused(x),
+            PlaceRead::Refused(fault) => FieldsRead::Refused(fault),
             PlaceRead::Taken(behindB) => request_tail(kind, s, behindA, behindB),
         },
     }
@@ -108,7 +109,7 @@ fn field_by_field(read: FieldsRead) -> FieldsRead
             body,
             next,
         },
-        FieldsRead::Refused(x) => FieldsRead::Refused(x),
+        FieldsRead::Refused(fault) => FieldsRead::Refused(fault),
     }
 }
 
@@ -119,17 +120,17 @@ fn fields(typeNumber: u16, s: &[u8], at: usize) -> FieldsRead
         1 => field_by_field(request(Kind::Ccbs, s, at)),
         2 => field_by_field(request(Kind::Ccnr, s, at)),
         3 => match read_field(s, at, 0, 1) {
-            NumberRead::Refused(x) => FieldsRead::Refused(x),
+            NumberRead::Refused(fault) => FieldsRead::Refused(fault),
             NumberRead::Value(v, next) => plain(at, Body::RequestResult { keep: v as u8 }, next),
         },
         4 => match read_field(s, at, 1, 2) {
-            NumberRead::Refused(x) => FieldsRead::Refused(x),
+            NumberRead::Refused(fault) => FieldsRead::Refused(fault),
             NumberRead::Value(v, next) => plain(at, Body::RequestError { error: v as u8 }, next),
         },
         5 => plain(at, Body::CcExecPossible, at),
         6 => plain(at, Body::CcRingout, at),
         7 => match read_field(s, at, 1, 2) {
-            NumberRead::Refused(x) => FieldsRead::Refused(x),
+            NumberRead::Refused(fault) => FieldsRead::Refused(fault),
             NumberRead::Value(v, next) => plain(at, Body::RingoutError { error: v as u8 }, next),
         },
         8 => plain(at, Body::CcSuspend, at),
@@ -140,8 +141,8 @@ fn fields(typeNumber: u16, s: &[u8], at: usize) -> FieldsRead
     }
 }
 
-fn refused(x: u8) -> Answer
-    ensures { λ r. ⌜ r ≡ readAnswer (refusedWith x) ⌝ }
+fn refused(fault: Fault) -> Answer
+    ensures { λ r. ⌜ r ≡ readAnswer (refusedWith fault) ⌝ }
 {
     let blank = [0u8; 16];
     let message = Message {
@@ -152,7 +153,7 @@ fn refused(x: u8) -> Answer
         body: Body::CallFailed,
     };
     Answer {
-        verdict: PlaceRead::Refused(x),
+        verdict: PlaceRead::Refused(fault),
         message,
     }
 }
@@ -163,11 +164,12 @@ fn behind_head(typeNumber: u16, carrier: Carrier, s: &[u8], at: usize) -> Answer
     ensures { λ r. ⌜ r ≡ readAnswer (behindHead typeNumber carrier (now (s .entry)) at) ⌝ }
 {
     if s.len() - at < 16 {
-        return refused(1);
+        let place = s.len();
+        return refused(Fault { number: 1, place });
     }
     let from = at + 16;
     match fields(typeNumber, s, from) {
-        FieldsRead::Refused(x) => refused(x),
+        FieldsRead::Refused(fault) => refused(fault),
         FieldsRead::Whole {
             behindA,
             behindB,
@@ -197,9 +199,9 @@ pub fn read(s: &[u8]) -> Answer
     ensures { λ r. ⌜ r ≡ readAnswer (messageAt (now (s .entry))) ⌝ }
 {
     match read_field(s, 0, 1, 12) {
-        NumberRead::Refused(x) => refused(x),
+        NumberRead::Refused(fault) => refused(fault),
         NumberRead::Value(typeNumber, next) => match read_field(s, next, 1, 5) {
-            NumberRead::Refused(x) => refused(x),
+            NumberRead::Refused(fault) => refused(fault),
             NumberRead::Value(n, behind) => {
                 let carrier = carrier_of(n);
                 behind_head(typeNumber, carrier, s, behind)

@@ -21,19 +21,14 @@ use clerk::steps::start;
 use clerk_records::WORDS;
 use host_numbers::given::clerk_act_given;
 use host_numbers::given::timer_given;
+use lists::Found;
 use message::Kind;
 use printing::part;
 
-// What the desk is given, of which so many bytes were left unread. The next entry is told.
-fn play_given(
-    entry: Entry,
-    left: usize,
-    next: usize,
-    number: usize,
-    words: &mut [u64; WORDS],
-) -> Next {
+// What the desk is given. The next entry is told.
+fn play_given(entry: Entry, next: usize, number: usize, words: &mut [u64; WORDS]) -> Next {
     let outcome = step(words, entry);
-    print_outcome(number, outcome, left);
+    print_outcome(number, outcome, 0, Found::Nothing);
     Next::At(next)
 }
 
@@ -96,7 +91,7 @@ fn play_ask(script: &[u8], at: usize, number: usize, words: &mut [u64; WORDS]) -
         AskRead::Places(a, b, rest, next) => {
             if ask_listed(byte_in(script, at, 16), byte_in(script, rest, 2)) {
                 let entry = ask_entry(asking(script, at, a, b, rest));
-                return play_given(entry, 0, next, number, words);
+                return play_given(entry, next, number, words);
             }
             Next::Stop
         }
@@ -112,7 +107,11 @@ fn play_heard(
 ) -> Next {
     let read = bytes_entry(bytes, busy);
     let entry = read.entry;
-    play_given(entry, left_of(bytes.len(), read.next), next, number, words)
+    let fault = read.fault;
+    let left = left_of(bytes.len(), read.next);
+    let outcome = step(words, entry);
+    print_outcome(number, outcome, left, fault);
+    Next::At(next)
 }
 
 // Code 17: User A's word, and then a run.
@@ -170,7 +169,7 @@ fn play_named(code: u8, script: &[u8], at: usize, number: usize, words: &mut [u6
             let entry = named_entry(code, byte_before(script, next), identifier_at(script, at));
             match entry {
                 Entry::Refused(_) => Next::Stop,
-                Entry::Given(_) => play_given(entry, 0, next, number, words),
+                Entry::Given(_) => play_given(entry, next, number, words),
             }
         }
     }

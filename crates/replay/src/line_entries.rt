@@ -21,25 +21,24 @@ use line::entry::report_entry;
 use line::on_words::step;
 use line::start::start;
 use line_records::WORDS;
+use lists::Found;
 use printing::part;
 
-// What the desk is given, of which so many bytes were left unread. The next entry is told.
-fn play_given(
-    entry: Entry,
-    left: usize,
-    next: usize,
-    number: usize,
-    words: &mut [u64; WORDS],
-) -> Next {
+// What the desk is given. The next entry is told.
+fn play_given(entry: Entry, next: usize, number: usize, words: &mut [u64; WORDS]) -> Next {
     let outcome = step(words, entry);
-    print_outcome(number, outcome, left);
+    print_outcome(number, outcome, 0, Found::Nothing);
     Next::At(next)
 }
 
 fn play_heard(bytes: &[u8], next: usize, number: usize, words: &mut [u64; WORDS]) -> Next {
     let read = bytes_entry(bytes);
     let entry = read.entry;
-    play_given(entry, left_of(bytes.len(), read.next), next, number, words)
+    let fault = read.fault;
+    let left = left_of(bytes.len(), read.next);
+    let outcome = step(words, entry);
+    print_outcome(number, outcome, left, fault);
+    Next::At(next)
 }
 
 // Code 32.
@@ -60,7 +59,7 @@ fn play_report(script: &[u8], at: usize, number: usize, words: &mut [u64; WORDS]
                 return Next::Stop;
             }
             let entry = report_entry(digits_at(script, at), status == 1);
-            play_given(entry, 0, next, number, words)
+            play_given(entry, next, number, words)
         }
     }
 }
@@ -69,7 +68,7 @@ fn play_report(script: &[u8], at: usize, number: usize, words: &mut [u64; WORDS]
 fn play_look(script: &[u8], at: usize, number: usize, words: &mut [u64; WORDS]) -> Next {
     match behind_run(script, at, 0) {
         Next::Stop => Next::Stop,
-        Next::At(next) => play_given(look_entry(digits_at(script, at)), 0, next, number, words),
+        Next::At(next) => play_given(look_entry(digits_at(script, at)), next, number, words),
     }
 }
 
@@ -81,7 +80,7 @@ fn play_act(script: &[u8], at: usize, number: usize, words: &mut [u64; WORDS]) -
             let entry = line_act_given(identifier_at(script, at), byte_before(script, next) as u64);
             match entry {
                 Entry::Refused(_) => Next::Stop,
-                Entry::Given(_) => play_given(entry, 0, next, number, words),
+                Entry::Given(_) => play_given(entry, next, number, words),
             }
         }
     }
@@ -91,13 +90,7 @@ fn play_act(script: &[u8], at: usize, number: usize, words: &mut [u64; WORDS]) -
 fn play_guard(script: &[u8], at: usize, number: usize, words: &mut [u64; WORDS]) -> Next {
     match behind(script, at, 16) {
         Next::Stop => Next::Stop,
-        Next::At(next) => play_given(
-            guard_entry(identifier_at(script, at)),
-            0,
-            next,
-            number,
-            words,
-        ),
+        Next::At(next) => play_given(guard_entry(identifier_at(script, at)), next, number, words),
     }
 }
 
@@ -113,7 +106,7 @@ pub fn first_words() -> [u64; WORDS] {
 fn start_by(given: &[u8], settings: u8, number: usize, words: &mut [u64; WORDS]) {
     let step = start(given, settings % 2 == 1, 2 <= settings);
     let outcome = step.outcome;
-    print_outcome(number, outcome, 0);
+    print_outcome(number, outcome, 0, Found::Nothing);
     if outcome.refusal == 0 {
         let d = step.desk;
         let kept = d.words;

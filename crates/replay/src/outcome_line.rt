@@ -1,4 +1,5 @@
-// The line of a step: `N refusal message starts stops notice clear left`.
+// The line of a step: `N refusal message starts stops notice clear left place`.
+use crate::output::NOTHING;
 use crate::output::print_line;
 use crate::output::put_hex;
 use crate::output::put_numbers;
@@ -6,6 +7,7 @@ use desk::outcome::Outcome;
 use desk::outcome::Sending;
 use desk::outcome::done;
 use desk::outcome::no_timers;
+use lists::Found;
 use printing::Page;
 use printing::blank_page;
 use printing::part;
@@ -25,8 +27,16 @@ fn put_sending(page: Page, sending: Sending) -> Page {
     }
 }
 
-// What is told behind the message: two sums of timers, the notice, the word to clear the call, and how many bytes were left.
-fn put_told(page: Page, outcome: Outcome, left: usize) -> Page {
+// The place of a fault, or `-`.
+pub fn place_field(fault: Found) -> u64 {
+    match fault {
+        Found::Nothing => NOTHING,
+        Found::At(place) => place as u64,
+    }
+}
+
+// What is told behind the message: two sums of timers, the notice, the word to clear the call, how many bytes were left, and the place of a fault.
+fn put_told(page: Page, outcome: Outcome, left: usize, fault: Found) -> Page {
     let starts = outcome.starts;
     let stops = outcome.stops;
     let notice = outcome.notice;
@@ -36,19 +46,25 @@ fn put_told(page: Page, outcome: Outcome, left: usize) -> Page {
         notice_number(notice),
         flag_code(outcome.clear),
         left as u64,
+        place_field(fault),
     ];
     put_numbers(page, &numbers)
 }
 
-pub fn print_outcome(number: usize, outcome: Outcome, left: usize) {
+pub fn print_outcome(number: usize, outcome: Outcome, left: usize, fault: Found) {
     let sending = outcome.sending;
     let numbers = [number as u64, outcome.refusal as u64];
     let page = put_numbers(blank_page(), &numbers);
-    print_line(put_told(put_sending(page, sending), outcome, left));
+    print_line(put_told(put_sending(page, sending), outcome, left, fault));
 }
 
 // The line of a step that only starts a desk.
 pub fn print_started(number: usize) {
     let none = no_timers();
-    print_outcome(number, done(Sending::Nothing, none, none), 0);
+    print_outcome(
+        number,
+        done(Sending::Nothing, none, none),
+        0,
+        Found::Nothing,
+    );
 }

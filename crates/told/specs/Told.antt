@@ -2,6 +2,8 @@
 use Prim.Native.Nat.{ℕ, _+_}
 use mathlib.Core.List.{List, [], _∷_}
 use Rattle.lists.specs.Choice.{pick}
+use Rattle.lists.specs.declared.Found.{Found}
+use Rattle.lists.specs.declared.Found.the-variants as Found
 use Rattle.terms.specs.Codes.{flagCode}
 use Rattle.desk.specs.Letter.{messageOf}
 use Rattle.desk.specs.declared.outcome.Timers.{Timers}
@@ -39,11 +41,22 @@ unfoldable pub sentBuffer : List ℕ → Sending → List ℕ
 sentBuffer out Nothing = out
 sentBuffer out (Send l) = messageBuffer out 0 (messageOf l)
 
--- ---- the seven numbers: refusal, bytes written, first unread place, timers started, timers stopped, notice, clear the call
+-- ---- the nine numbers: refusal, bytes written, first unread place, timers started, timers stopped, notice, clear the call; and of bytes that cannot be read 1 and the place
+-- of the fault
 abbrev pub toldOf : Outcome → ℕ → ℕ → List ℕ
 toldOf outcome length next =
-    outcome .refusal ∷ length ∷ next ∷ timersNumber (outcome .starts) ∷ timersNumber (outcome .stops) ∷ noticeNumber (outcome .notice) ∷ flagCode (outcome .clear) ∷ []
+    outcome .refusal
+    ∷ length
+    ∷ next
+    ∷ timersNumber (outcome .starts)
+    ∷ timersNumber (outcome .stops)
+    ∷ noticeNumber (outcome .notice)
+    ∷ flagCode (outcome .clear)
+    ∷ 0
+    ∷ 0
+    ∷ []
 
 -- a refusal of the face itself: nothing was done, nothing is sent and nothing is read
-abbrev pub toldRefused : ℕ → List ℕ
-toldRefused number = number ∷ 0 ∷ 0 ∷ 0 ∷ 0 ∷ 0 ∷ 0 ∷ []
+abbrev pub toldRefused : ℕ → Found → List ℕ
+toldRefused number Found.Nothing = number ∷ 0 ∷ 0 ∷ 0 ∷ 0 ∷ 0 ∷ 0 ∷ 0 ∷ 0 ∷ []
+toldRefused number (Found.At place) = number ∷ 0 ∷ 0 ∷ 0 ∷ 0 ∷ 0 ∷ 0 ∷ 1 ∷ place ∷ []

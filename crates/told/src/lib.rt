@@ -1,11 +1,12 @@
-// An outcome told to a host: its message as bytes at the front of a lent buffer, and the rest as plain numbers. Seven numbers: the refusal; the bytes of the
-// message written, 0 for none; the first unread place; timers started; timers stopped; the notice; whether to clear the call. An inner room of the
-// library's face and of the programs: its functions are no public operations.
+// An outcome told to a host: its message as bytes at the front of a lent buffer, and the rest as plain numbers. Nine numbers: the refusal; the bytes of the
+// message written, 0 for none; the first unread place; timers started; timers stopped; the notice; whether to clear the call; whether bytes could not be read, and then
+// the place of the fault. An inner room of the library's face and of the programs: its functions are no public operations.
 use desk::letter::message_of;
 use desk::outcome::Notice;
 use desk::outcome::Outcome;
 use desk::outcome::Sending;
 use desk::outcome::Timers;
+use lists::Found;
 use terms::codes::flag_code;
 use writer::Written;
 ghost use mathlib.Core.Path.{_≡_};
@@ -14,7 +15,7 @@ ghost use Rattle.lists.specs.Choice.{pick};
 ghost use Rattle.told.specs.Told.{timersNumber, noticeNumber, sentWritten, sentBuffer, toldOf, toldRefused};
 
 // How many numbers a host is told of an outcome.
-pub const TOLD: usize = 7;
+pub const TOLD: usize = 9;
 
 // A bit of a sum.
 fn bit(choice: bool, value: u64) -> u64
@@ -88,14 +89,23 @@ pub fn tell(told: &mut [u64; TOLD], outcome: Outcome, length: usize, next: usize
         stopped,
         numbered,
         clear,
+        0,
+        0,
     ];
 }
 
-// A refusal that is the face's own: nothing was done, nothing is sent and nothing is read.
-pub fn refuse(told: &mut [u64; TOLD], number: u8) -> u64
-    ensures { λ r. ⌜ (r ≡ number) × (now (told .exit) ≡ toldRefused number) ⌝ }
+// A refusal that is the face's own: nothing was done, nothing is sent and nothing is read. Of bytes that cannot be read, the place of the fault is told.
+pub fn refuse(told: &mut [u64; TOLD], number: u8, fault: Found) -> u64
+    ensures { λ r. ⌜ (r ≡ number) × (now (told .exit) ≡ toldRefused number fault) ⌝ }
 {
     let refusal = number as u64;
-    *told = [refusal, 0, 0, 0, 0, 0, 0];
+    match fault {
+        Found::Nothing => {
+            *told = [refusal, 0, 0, 0, 0, 0, 0, 0, 0];
+        }
+        Found::At(place) => {
+            *told = [refusal, 0, 0, 0, 0, 0, 0, 1, place as u64];
+        }
+    }
     refusal
 }

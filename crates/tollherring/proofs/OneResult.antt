@@ -33,14 +33,15 @@ one-shown-line number number′ status status′ answer answer′ p q =
     let same = p ∙ sym q in
     (ap (λ (s : ShownLine). s .number) same, (ap (λ (s : ShownLine). s .status) same, ap (λ (s : ShownLine). s .answer) same))
 
--- a message that is read: identifier, the two numbers, the four numbers, how many bytes, the answer
+-- a message that is read: identifier, the two numbers, the four numbers, how many bytes, the place of a fault, the answer
 pub one-read :
-    (i i′ a a′ b b′ n n′ : List ℕ) (taken taken′ answer answer′ : ℕ) {definition : ReadFace} → readFace i a b n taken answer ≡ definition → readFace i′ a′ b′ n′ taken′ answer′ ≡ definition →
-    ((i ≡ i′) × ((a ≡ a′) × (b ≡ b′))) × ((n ≡ n′) × ((taken ≡ taken′) × (answer ≡ answer′)))
-one-read i i′ a a′ b b′ n n′ taken taken′ answer answer′ p q =
+    (i i′ a a′ b b′ n n′ : List ℕ) (taken taken′ fault fault′ answer answer′ : ℕ) {definition : ReadFace} → readFace i a b n taken fault answer ≡ definition →
+    readFace i′ a′ b′ n′ taken′ fault′ answer′ ≡ definition →
+    ((i ≡ i′) × ((a ≡ a′) × (b ≡ b′))) × ((n ≡ n′) × ((taken ≡ taken′) × ((fault ≡ fault′) × (answer ≡ answer′))))
+one-read i i′ a a′ b b′ n n′ taken taken′ fault fault′ answer answer′ p q =
     let same = p ∙ sym q in (
       (ap (λ (r : ReadFace). r .identifier) same, (ap (λ (r : ReadFace). r .numberA) same, ap (λ (r : ReadFace). r .numberB) same)),
-      (ap (λ (r : ReadFace). r .numbers) same, (ap (λ (r : ReadFace). r .taken) same, ap (λ (r : ReadFace). r .answer) same)),
+      (ap (λ (r : ReadFace). r .numbers) same, (ap (λ (r : ReadFace). r .taken) same, (ap (λ (r : ReadFace). r .fault) same, ap (λ (r : ReadFace). r .answer) same))),
     )
 
 -- a message that is written: the buffer, how many bytes, the answer

@@ -2,6 +2,7 @@
 use Prim.Native.Nat.{ℕ}
 use mathlib.Core.Path.{_≡_}
 use mathlib.Core.List.{List, [], _∷_}
+use Rattle.lists.specs.declared.Found.the-variants.{Nothing}
 use Rattle.desk.specs.Outcome.{refusedWith}
 use Rattle.desk.specs.declared.outcome.Outcome.{Outcome}
 use Rattle.desk.specs.declared.outcome.Sending.{Sending}
@@ -13,8 +14,8 @@ use Rattle.tollherring.specs.Face.{refusedFace, faced}
 abbrev pub NoRoomNothing : Type 0
 NoRoomNothing =
     (words after out : List ℕ) (outcome : Outcome) (next number : ℕ) → sentWritten out (outcome .sending) ≡ Refused number
-    → faced words after out outcome next ≡ refusedFace words out number
+    → faced words after out outcome next ≡ refusedFace words out number Nothing
 
 -- a refusal of a desk (`RefusedSame` in clerk_sound and line_sound) is told as its number, the bytes of its reply and what was read: no timer, no notice, no word to clear the call
 abbrev pub RefusedTold : Type 0
-RefusedTold = (number : ℕ) (reply : Sending) (length next : ℕ) → toldOf (refusedWith number reply) length next ≡ number ∷ length ∷ next ∷ 0 ∷ 0 ∷ 0 ∷ 0 ∷ []
+RefusedTold = (number : ℕ) (reply : Sending) (length next : ℕ) → toldOf (refusedWith number reply) length next ≡ number ∷ length ∷ next ∷ 0 ∷ 0 ∷ 0 ∷ 0 ∷ 0 ∷ 0 ∷ []

@@ -1,12 +1,14 @@
 -- What stands in the host's memory after a call, and the number that the call answers.
 use Prim.Native.Nat.{ℕ}
 use mathlib.Core.List.{List}
+use Rattle.lists.specs.declared.Found.{Found}
+use Rattle.lists.specs.declared.Found.the-variants.{Nothing}
 use Rattle.desk.specs.declared.outcome.Outcome.{Outcome}
 use Rattle.writer.specs.declared.Written.{Written}
 use Rattle.writer.specs.declared.Written.the-variants.{Wrote, Refused}
 use Rattle.told.specs.Told.{sentWritten, sentBuffer, toldOf, toldRefused}
 
--- the desk's words, the buffer for the message that is sent, the outcome's seven numbers, and the answer: the refusal's number or 0
+-- the desk's words, the buffer for the message that is sent, the outcome's nine numbers, and the answer: the refusal's number or 0
 pub record Face : Type 0 where
   pub words : List ℕ
   pub out : List ℕ
@@ -16,14 +18,14 @@ pub record Face : Type 0 where
 abbrev pub face : List ℕ → List ℕ → List ℕ → ℕ → Face
 face words out told answer = record { words = words; out = out; told = told; answer = answer }
 
--- refused by the face itself: the desk and the buffer stay as they were
-abbrev pub refusedFace : List ℕ → List ℕ → ℕ → Face
-refusedFace words out number = face words out (toldRefused number) number
+-- refused by the face itself: the desk and the buffer stay as they were. Of bytes that cannot be read there is the place of the fault
+abbrev pub refusedFace : List ℕ → List ℕ → ℕ → Found → Face
+refusedFace words out number fault = face words out (toldRefused number fault) number
 
 -- a step whose message was written is done; where the writer refused it (12: no room), nothing is
 abbrev pub written : Written → List ℕ → List ℕ → List ℕ → Outcome → ℕ → Face
 written (Wrote length) words after out outcome next = face after out (toldOf outcome length next) (outcome .refusal)
-written (Refused number) words after out outcome next = refusedFace words out number
+written (Refused number) words after out outcome next = refusedFace words out number Nothing
 
 -- a step that makes of `words` the words `after`
 unfoldable pub faced : List ℕ → List ℕ → List ℕ → Outcome → ℕ → Face

@@ -4,6 +4,8 @@ use mathlib.Core.List.{List}
 use lib.Dec.{eqb}
 use Rattle.lists.specs.Choice.{pick}
 use Rattle.lists.specs.Lists.{both}
+use Rattle.lists.specs.declared.Found.{Found}
+use Rattle.lists.specs.declared.Found.the-variants.{Nothing}
 use Rattle.line.specs.declared.steps.Stepped.{Stepped}
 use Rattle.line.specs.Start.{started}
 use Rattle.line.specs.Entry.{bytesEntry, lookEntry, guardEntry}
@@ -25,25 +27,25 @@ lineStartedWords words given keep retain = pick (both (isWord keep) (isWord reta
 unfoldable pub lineStartedAnswer : List ℕ → ℕ → ℕ → ℕ
 lineStartedAnswer given keep retain = pick (both (isWord keep) (isWord retain)) (started given (yes keep) (yes retain) .outcome .refusal) 2
 
--- what comes in at the entry: a refusal is told at once; an input is a step on the desk of these words. `next` is the first unread place of what was read for it
-unfoldable pub lineEntered : List ℕ → List ℕ → Entry → ℕ → Face
-lineEntered words out (Refused number) next = refusedFace words out number
-lineEntered words out (Given input) next = faced words (step (deskOf words) input .desk .words) out (step (deskOf words) input .outcome) next
+-- what comes in at the entry: a refusal is told at once; an input is a step on the desk of these words. `next` is the first unread place of what was read for it, `fault` that of a fault
+unfoldable pub lineEntered : List ℕ → List ℕ → Entry → ℕ → Found → Face
+lineEntered words out (Refused number) next fault = refusedFace words out number fault
+lineEntered words out (Given input) next fault = faced words (step (deskOf words) input .desk .words) out (step (deskOf words) input .outcome) next
 
 abbrev pub lineBytes : List ℕ → List ℕ → BytesEntry → Face
-lineBytes words out read = lineEntered words out (read .entry) (read .next)
+lineBytes words out read = lineEntered words out (read .entry) (read .next) (read .fault)
 
 unfoldable pub lineReceived : List ℕ → List ℕ → List ℕ → Face
 lineReceived words out bytes = lineBytes words out (bytesEntry bytes)
 
 unfoldable pub lineStatusReported : List ℕ → List ℕ → List ℕ → ℕ → Face
-lineStatusReported words out digits busy = lineEntered words out (reportGiven digits busy) 0
+lineStatusReported words out digits busy = lineEntered words out (reportGiven digits busy) 0 Nothing
 
 unfoldable pub lineLooked : List ℕ → List ℕ → List ℕ → Face
-lineLooked words out digits = lineEntered words out (lookEntry digits) 0
+lineLooked words out digits = lineEntered words out (lookEntry digits) 0 Nothing
 
 unfoldable pub lineActed : List ℕ → List ℕ → List ℕ → ℕ → Face
-lineActed words out identifier act = lineEntered words out (lineActGiven identifier act) 0
+lineActed words out identifier act = lineEntered words out (lineActGiven identifier act) 0 Nothing
 
 unfoldable pub lineGuarded : List ℕ → List ℕ → List ℕ → Face
-lineGuarded words out identifier = lineEntered words out (guardEntry identifier) 0
+lineGuarded words out identifier = lineEntered words out (guardEntry identifier) 0 Nothing

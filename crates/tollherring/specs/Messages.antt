@@ -19,19 +19,20 @@ pub record ReadFace : Type 0 where
   pub numberB : List ℕ
   pub numbers : List ℕ
   pub taken : ℕ
+  pub fault : ℕ
   pub answer : ℕ
 
-abbrev pub readFace : List ℕ → List ℕ → List ℕ → List ℕ → ℕ → ℕ → ReadFace
-readFace identifier numberA numberB numbers taken answer =
-    record { identifier = identifier; numberA = numberA; numberB = numberB; numbers = numbers; taken = taken; answer = answer }
+abbrev pub readFace : List ℕ → List ℕ → List ℕ → List ℕ → ℕ → ℕ → ℕ → ReadFace
+readFace identifier numberA numberB numbers taken fault answer =
+    record { identifier = identifier; numberA = numberA; numberB = numberB; numbers = numbers; taken = taken; fault = fault; answer = answer }
 
--- a refusal leaves the memory as it was
-abbrev pub readTold : Read Message → (ℕ → ReadFace) → ReadFace
-readTold (took m next) asItWas = readFace (m .identifier) (m .numberA) (m .numberB) (messageNumbers (m .carrier) (m .body)) next 0
-readTold (refused number) asItWas = asItWas number
+-- a message that is read leaves the place of a fault as it was; a refusal writes that place, and leaves the rest
+abbrev pub readTold : Read Message → (ℕ → ℕ → ReadFace) → ℕ → ReadFace
+readTold (took m next) asItWas fault = readFace (m .identifier) (m .numberA) (m .numberB) (messageNumbers (m .carrier) (m .body)) next fault 0
+readTold (refused found) asItWas fault = asItWas (found .place) (found .number)
 
-unfoldable pub messageRead : List ℕ → (ℕ → ReadFace) → ReadFace
-messageRead bytes asItWas = readTold (messageAt bytes) asItWas
+unfoldable pub messageRead : List ℕ → (ℕ → ℕ → ReadFace) → ℕ → ReadFace
+messageRead bytes asItWas fault = readTold (messageAt bytes) asItWas fault
 
 -- ---- writing: 2 for a type or a carrier that is none, and then what the writer says; a number that the type has no field for does not count
 abbrev pub onCarrier : CarrierGiven → Body → List ℕ → List ℕ → List ℕ → List ℕ → ℕ → ℕ → WriteFace

@@ -9,6 +9,7 @@ use host_numbers::given::ask_given;
 use host_numbers::given::clerk_act_given;
 use host_numbers::given::clerk_bytes_given;
 use host_numbers::given::timer_given;
+use lists::Found;
 use told::TOLD;
 use told::refuse;
 use told::send;
@@ -39,7 +40,7 @@ fn step_in(
             tell(told, outcome, length, next);
             outcome.refusal as u64
         }
-        Written::Refused(number) => refuse(told, number),
+        Written::Refused(number) => refuse(told, number, Found::Nothing),
     }
 }
 
@@ -79,12 +80,12 @@ pub extern "C" fn tollherring_clerk_ask(
         preference,
     );
     match entry {
-        Entry::Refused(number) => refuse(told, number),
+        Entry::Refused(number) => refuse(told, number, Found::Nothing),
         Entry::Given(input) => step_in(words, input, 0, out, told),
     }
 }
 
-// Bytes reach the clerk's end: 1, 2, 3, 6, 7, 8, 12.
+// Bytes reach the clerk's end: 1, 2, 3, 6, 7, 8, 12. Bytes that cannot be read have the place of the fault.
 #[no_mangle]
 pub extern "C" fn tollherring_clerk_receive(
     words: &mut [u64; WORDS],
@@ -97,8 +98,9 @@ pub extern "C" fn tollherring_clerk_receive(
 {
     let read = clerk_bytes_given(bytes, busy);
     let entry = read.entry;
+    let fault = read.fault;
     match entry {
-        Entry::Refused(number) => refuse(told, number),
+        Entry::Refused(number) => refuse(told, number, fault),
         Entry::Given(input) => step_in(words, input, read.next, out, told),
     }
 }
@@ -116,7 +118,7 @@ pub extern "C" fn tollherring_clerk_act(
 {
     let entry = clerk_act_given(*identifier, act);
     match entry {
-        Entry::Refused(number) => refuse(told, number),
+        Entry::Refused(number) => refuse(told, number, Found::Nothing),
         Entry::Given(input) => step_in(words, input, 0, out, told),
     }
 }
@@ -134,7 +136,7 @@ pub extern "C" fn tollherring_clerk_report(
 {
     let entry = timer_given(*identifier, timer);
     match entry {
-        Entry::Refused(number) => refuse(told, number),
+        Entry::Refused(number) => refuse(told, number, Found::Nothing),
         Entry::Given(input) => step_in(words, input, 0, out, told),
     }
 }

@@ -10,6 +10,7 @@ use line_plan::plan_for;
 use line_records::WORDS;
 use line_records::change::apply;
 use line_table::inputs::Input;
+use lists::Found;
 use told::TOLD;
 use told::refuse;
 use told::send;
@@ -41,7 +42,7 @@ fn step_in(
             tell(told, outcome, length, next);
             outcome.refusal as u64
         }
-        Written::Refused(number) => refuse(told, number),
+        Written::Refused(number) => refuse(told, number, Found::Nothing),
     }
 }
 
@@ -78,7 +79,7 @@ pub extern "C" fn tollherring_line_start(
     2
 }
 
-// Bytes reach the line's end: 1, 2, 3, 6, 7, 8, 12.
+// Bytes reach the line's end: 1, 2, 3, 6, 7, 8, 12. Bytes that cannot be read have the place of the fault.
 #[no_mangle]
 pub extern "C" fn tollherring_line_receive(
     words: &mut [u64; WORDS],
@@ -90,8 +91,9 @@ pub extern "C" fn tollherring_line_receive(
 {
     let read = bytes_entry(bytes);
     let entry = read.entry;
+    let fault = read.fault;
     match entry {
-        Entry::Refused(number) => refuse(told, number),
+        Entry::Refused(number) => refuse(told, number, fault),
         Entry::Given(input) => step_in(words, input, read.next, out, told),
     }
 }
@@ -109,7 +111,7 @@ pub extern "C" fn tollherring_line_report(
 {
     let entry = report_given(*digits, busy);
     match entry {
-        Entry::Refused(number) => refuse(told, number),
+        Entry::Refused(number) => refuse(told, number, Found::Nothing),
         Entry::Given(input) => step_in(words, input, 0, out, told),
     }
 }
@@ -126,7 +128,7 @@ pub extern "C" fn tollherring_line_look(
 {
     let entry = look_entry(*digits);
     match entry {
-        Entry::Refused(number) => refuse(told, number),
+        Entry::Refused(number) => refuse(told, number, Found::Nothing),
         Entry::Given(input) => step_in(words, input, 0, out, told),
     }
 }
@@ -144,7 +146,7 @@ pub extern "C" fn tollherring_line_act(
 {
     let entry = line_act_given(*identifier, act);
     match entry {
-        Entry::Refused(number) => refuse(told, number),
+        Entry::Refused(number) => refuse(told, number, Found::Nothing),
         Entry::Given(input) => step_in(words, input, 0, out, told),
     }
 }
@@ -161,7 +163,7 @@ pub extern "C" fn tollherring_line_guard(
 {
     let entry = guard_entry(*identifier);
     match entry {
-        Entry::Refused(number) => refuse(told, number),
+        Entry::Refused(number) => refuse(told, number, Found::Nothing),
         Entry::Given(input) => step_in(words, input, 0, out, told),
     }
 }

@@ -14,7 +14,7 @@ ghost use mathlib.Core.Path.{_≡_};
 ghost use Rattle.host_numbers.specs.Messages.{writeFace};
 ghost use Rattle.tollherring.specs.Messages.{readFace, messageRead, messageFaced};
 
-// One message from the front of some bytes, and how many it takes: 1, 2, and then nothing is written.
+// One message from the front of some bytes, and how many it takes: 1, 2, and then the place of the fault is written and nothing else.
 #[no_mangle]
 pub extern "C" fn tollherring_message_read(
     bytes: &[u8],
@@ -23,13 +23,17 @@ pub extern "C" fn tollherring_message_read(
     numberB: &mut [u8; 16],
     numbers: &mut [u64; 4],
     taken: &mut u64,
+    place: &mut u64,
 ) -> u64
-    ensures { λ r. ⌜ readFace (now (identifier .exit)) (now (numberA .exit)) (now (numberB .exit)) (now (numbers .exit)) (now (taken .exit)) r ≡ messageRead (now (bytes .entry)) (readFace (now (identifier .entry)) (now (numberA .entry)) (now (numberB .entry)) (now (numbers .entry)) (now (taken .entry))) ⌝ }
+    ensures { λ r. ⌜ readFace (now (identifier .exit)) (now (numberA .exit)) (now (numberB .exit)) (now (numbers .exit)) (now (taken .exit)) (now (place .exit)) r ≡ messageRead (now (bytes .entry)) (readFace (now (identifier .entry)) (now (numberA .entry)) (now (numberB .entry)) (now (numbers .entry)) (now (taken .entry))) (now (place .entry)) ⌝ }
 {
     let answer = reader::read(bytes);
     let verdict = answer.verdict;
     match verdict {
-        PlaceRead::Refused(refusal) => refusal as u64,
+        PlaceRead::Refused(fault) => {
+            *place = fault.place as u64;
+            fault.number as u64
+        }
         PlaceRead::Taken(next) => {
             let m = answer.message;
             let i = m.identifier;

@@ -10,7 +10,7 @@ use native.Mathlib.Omega.{arith}
 use borrow.Author.Tests.{ltb-false, lt-ltb, eqb-true, eqb-false}
 use Rattle.lists.specs.Words.{Bytes}
 use Rattle.lists.proofs.Choice.{pick-elim, pick-else}
-use Rattle.message.specs.Reading.{Read, took, refused, andThen}
+use Rattle.message.specs.Reading.{Read, took, refused, andThen, endedIn}
 use Rattle.message.specs.Number.{numberBytes, fieldAt, digitsAt, digitsBytes}
 use Rattle.message.specs.Format.{requestBody, typeNumber, carrierNumber, requestInRange, errorInRange, fieldsInRange, inRange, requestBytes, fieldBytes, messageBytes}
 use Rattle.message.specs.Equality.{Formed}
@@ -20,6 +20,7 @@ use Rattle.message.specs.declared.Kind.{Kind}
 use Rattle.message.specs.declared.Kind.the-variants.{Ccbs, Ccnr}
 use Rattle.message.specs.declared.Body.{Body}
 use Rattle.message.specs.declared.Body.the-variants.{CcbsRequest, CcnrRequest, RequestResult, RequestError, CcExecPossible, CcRingout, RingoutError, CcSuspend, CcResume, CcCancel, CallAlerts, CallFailed}
+use Rattle.message.specs.declared.Fault.{Fault}
 use Rattle.message.specs.declared.Message.{Message}
 use Rattle.message.proofs.Reading.{never-took, then-elim}
 use Rattle.message.proofs.NumberLaws.{field-read}
@@ -38,7 +39,7 @@ record Read-well (type : ℕ) (s : List ℕ) (at : ℕ) (f : Fields) (n : ℕ) :
 abbrev Well : ℕ → List ℕ → ℕ → Read Fields → Type 0
 Well type s at r = (f : Fields) (n : ℕ) → r ≡ took f n → Read-well type s at f n
 
-not-well : (type : ℕ) (s : List ℕ) (at x : ℕ) → Well type s at (refused x)
+not-well : (type : ℕ) (s : List ℕ) (at : ℕ) (x : Fault) → Well type s at (refused x)
 not-well type s at x f n e = absurd (never-took e)
 
 well-moved : (type : ℕ) (s : List ℕ) (at : ℕ) (f g : Fields) (n m : ℕ) → took f n ≡ took g m → Read-well type s at f n → Read-well type s at g m
@@ -149,7 +150,7 @@ identifier-shape :
     (at + 16 ≤ length s) × ((take 16 (drop at s) ≡ identifier) × (at + 16 ≡ next))
 unfolding identifierAt
 identifier-shape s at identifier next e =
-    let p = pick-else (ltb (length s) (at + 16)) (refused 1) _ _ never-took e in
+    let p = pick-else (ltb (length s) (at + 16)) (endedIn s) _ _ never-took e in
     let q = p .1 in
     (ltb-false (length s) (at + 16) (p .0), (cc, cc))
 
@@ -159,7 +160,7 @@ head-canonical :
 unfolding behindHead inRange
 head-canonical s at type number carrier byte head is lo hi =
     let Q : Read Message → Type 0 = λ r. (m : Message) (n : ℕ) → r ≡ took m n → Whole s m n in
-    let no : (x : ℕ) → Q (refused x) = λ x m n e. absurd (never-took e) in
+    let no : (x : Fault) → Q (refused x) = λ x m n e. absurd (never-took e) in
     then-elim Q (identifierAt s at) _ no (λ identifier next ei.
     then-elim Q (fieldsAt type s next) _ no (λ f behind ef.
     λ m n e.
@@ -182,7 +183,7 @@ pub canonical : (s : List ℕ) → Bytes s → (m : Message) (n : ℕ) → messa
 unfolding messageAt
 canonical s byte =
     let Q : Read Message → Type 0 = λ r. (m : Message) (n : ℕ) → r ≡ took m n → Whole s m n in
-    let no : (x : ℕ) → Q (refused x) = λ x m n e. absurd (never-took e) in
+    let no : (x : Fault) → Q (refused x) = λ x m n e. absurd (never-took e) in
     then-elim Q (fieldAt s 0 1 12) _ no (λ type next et.
     then-elim Q (fieldAt s next 1 5) _ no (λ number at en.
     let rt = field-read s 0 1 12 type next et in

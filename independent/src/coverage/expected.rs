@@ -1,5 +1,7 @@
 //! The rows of both desks, listed as a table in document 01's words.
 
+use super::expected_codec;
+
 /// A completed row: a state, an input, what is done.
 struct Done {
     state: String,
@@ -281,11 +283,10 @@ const LINE_EDGES: [&str; 13] = [
     "Look: a number of 16 digits: refusal 10",
 ];
 
-/// Rows on bytes, the same at both desks.
+/// Rows on bytes, the same at both desks: "the number reader and all above it
+/// also tell the place", so every fault of the codec is a row here too.
 fn bytes_rows(names: &mut Vec<String>, desk: &str) {
-    names.push(format!("{desk}: no bytes: refusal 1"));
-    names.push(format!("{desk}: bytes that hold no message: refusal 1"));
-    names.push(format!("{desk}: bytes that hold no message: refusal 2"));
+    names.extend(expected_codec::faults().iter().map(|fault| format!("{desk}: {fault}")));
     names.push(format!("{desk}: bytes follow a message that is taken"));
     names.push(format!("{desk}: bytes follow a message that is refused"));
 }

@@ -2,25 +2,30 @@
 
 use super::observed_codec;
 use crate::clerk::{self, Ask, ClerkDesk, FreeChoice};
-use crate::codec::{read_message, Carrier, Content, Identifier, Message, RequestFields, REMOTE_USER_BUSY_AGAIN};
+use crate::codec::{
+    read_message, Carrier, Content, Identifier, Message, Refusal, RequestFields, REMOTE_USER_BUSY_AGAIN,
+};
 use crate::line::{self, LineDesk};
 use crate::outcome::{Kind, Outcome, GUARD, T1, T2, T3};
 use crate::script::{Answer, Entry, Session};
 
 /// The rows of one entry; prints have none.
 pub fn names(before: &Session, entry: &Entry, answer: &Answer, after: &Session) -> Vec<String> {
-    if let (Entry::Write { bytes, place, size }, Answer::Written { refusal, .. }) = (entry, answer) {
-        return observed_codec::names(bytes, *place, *size, *refusal);
+    if let Entry::Write { bytes, place, size } = entry {
+        return observed_codec::names(bytes, *place, *size, answer);
     }
-    let Answer::Step { outcome, left } = answer else {
+    let Answer::Step { outcome, left, fault_place } = answer else {
         return Vec::new();
     };
     let desk = if is_at_clerk(entry) { "clerk" } else { "line" };
-    let mut names = if is_at_clerk(entry) {
-        clerk_names(&before.clerk, entry, outcome, &after.clerk)
-    } else {
-        line_names(&before.line, entry, outcome, &after.line)
+    let mut names = match refused_bytes(entry) {
+        Some(bytes) => vec![refused_bytes_name(bytes, outcome, *fault_place)],
+        None if is_at_clerk(entry) => clerk_names(&before.clerk, entry, outcome, &after.clerk),
+        None => line_names(&before.line, entry, outcome, &after.line),
     };
+    if fault_place.is_some() && refused_bytes(entry).is_none() {
+        names.push("a place, and no bytes were refused".to_string());
+    }
     names.extend(left_names(entry, outcome, *left));
     names.extend(deletion_name(before, entry, after));
     if let Some(refusal) = outcome.refusal {
@@ -104,22 +109,36 @@ fn deletion_name(before: &Session, entry: &Entry, after: &Session) -> Option<Str
     Some(format!("a record is deleted: {which}"))
 }
 
+/// The bytes of an entry, for a desk that gets some.
+fn bytes_of(entry: &Entry) -> Option<&[u8]> {
+    match entry {
+        Entry::ToClerk { bytes, .. } | Entry::ToLine { bytes } => Some(bytes),
+        _ => None,
+    }
+}
+
+/// Bytes that hold no message.
+fn refused_bytes(entry: &Entry) -> Option<&[u8]> {
+    bytes_of(entry).filter(|bytes| read_message(bytes).is_err())
+}
+
+/// Its row: the fault, the refusal and the place; no such refusal has a reply.
+fn refused_bytes_name(bytes: &[u8], outcome: &Outcome, fault_place: Option<usize>) -> String {
+    let refusal = outcome.refusal.map_or(0, |r| r.number());
+    let name = observed_codec::fault_name(bytes, refusal, fault_place);
+    if outcome.message.is_some() {
+        return format!("{name}, and a reply");
+    }
+    name
+}
+
 /// Bytes behind a message that was read.
 fn left_names(entry: &Entry, outcome: &Outcome, left: usize) -> Vec<String> {
-    let (Entry::ToClerk { bytes, .. } | Entry::ToLine { bytes }) = entry else {
-        return Vec::new();
-    };
-    if left == 0 || read_message(bytes).is_err() {
+    if left == 0 || bytes_of(entry).is_none() || refused_bytes(entry).is_some() {
         return Vec::new();
     }
     let judged = if outcome.refusal.is_some() { "refused" } else { "taken" };
     vec![format!("bytes follow a message that is {judged}")]
-}
-
-/// Bytes that hold no message.
-fn bad_bytes_name(bytes: &[u8], outcome: &Outcome) -> String {
-    let what = if bytes.is_empty() { "no bytes" } else { "bytes that hold no message" };
-    format!("{what}: {}", outcome_text(outcome, ""))
 }
 
 // The clerk's desk.
@@ -178,7 +197,7 @@ fn clerk_names(before: &ClerkDesk, entry: &Entry, outcome: &Outcome, after: &Cle
             names
         }
         Entry::ToClerk { user_a_busy, bytes } => match read_message(bytes) {
-            Err(_) => vec![bad_bytes_name(bytes, outcome)],
+            Err(_) => Vec::new(),
             Ok((message, _)) => {
                 let acknowledged = matches!(message.content, Content::RequestResult { .. });
                 let state_after = clerk_state_after(after, &message.identifier, acknowledged);
@@ -313,7 +332,7 @@ fn line_names(before: &LineDesk, entry: &Entry, outcome: &Outcome, after: &LineD
             names
         }
         Entry::ToLine { bytes } => match read_message(bytes) {
-            Err(_) => vec![bad_bytes_name(bytes, outcome)],
+            Err(_) => Vec::new(),
             Ok((message, _)) => match &message.content {
                 Content::CcbsRequest(fields) => request_names(before, &message, Kind::Ccbs, fields, outcome),
                 Content::CcnrRequest(fields) => request_names(before, &message, Kind::Ccnr, fields, outcome),
@@ -364,7 +383,7 @@ fn start_edge(lines: &[line::Line], outcome: &Outcome) -> Option<String> {
 
 /// Look and report: 15 digits against 16.
 fn number_edge(input: &str, digits: &[u8], outcome: &Outcome) -> Option<String> {
-    let known = outcome.refusal.map_or(true, |r| r.number() != 10);
+    let known = outcome.refusal != Some(Refusal::NoSuchLine);
     match (digits.len(), known) {
         (15, true) => Some(format!("{input}: the number of a line of 15 digits: {}", edge_outcome(outcome))),
         (16, false) => Some(format!("{input}: a number of 16 digits: {}", edge_outcome(outcome))),

@@ -1,9 +1,11 @@
-//! Names the codec's rows that one write (code 48) reached.
+//! Names the codec's rows that one write (code 48) reached, and the row of bytes
+//! that hold no message, at either desk too.
 //!
-//! The first fault is found here by a walk of its own, and not by the reader;
-//! the outcome in the name is the reader's and the writer's.
+//! The first fault and its place are found here by a walk of its own, and not by
+//! the reader; the outcome in the name is the reader's and the writer's.
 
 use crate::codec::{read_message, Content, RequestFields};
+use crate::script::Answer;
 
 fn type_name(number: u32) -> &'static str {
     match number {
@@ -22,66 +24,93 @@ fn type_name(number: u32) -> &'static str {
     }
 }
 
-/// The bytes that have not been walked over.
+/// READINGS-02, request 2, in the words of the rows.
+const AT_LENGTH: &str = "at the bytes' length";
+const AT_NUMBER: &str = "at the number's first byte";
+const AT_DIGIT: &str = "at the digit";
+
+/// The first fault as the walk finds it: its name, its place and the words for
+/// that place.
+struct Found {
+    name: String,
+    place: usize,
+    words: &'static str,
+}
+
+impl Found {
+    fn of(self, what: &str) -> Found {
+        Found { name: format!("{what}: {}", self.name), ..self }
+    }
+}
+
+/// All of the bytes, and how many of them have been walked over.
 struct Walk<'a> {
-    rest: &'a [u8],
+    bytes: &'a [u8],
+    walked: usize,
 }
 
 impl Walk<'_> {
-    fn advance(&mut self, count: usize) {
-        self.rest = self.rest.get(count..).unwrap_or(&[]);
+    fn rest(&self) -> &[u8] {
+        self.bytes.get(self.walked..).unwrap_or(&[])
+    }
+
+    fn ended(&self, name: &str) -> Found {
+        Found { name: name.to_string(), place: self.bytes.len(), words: AT_LENGTH }
+    }
+
+    /// A fault of what begins where the walk stands.
+    fn faulty(&self, name: &str, words: &'static str) -> Found {
+        Found { name: name.to_string(), place: self.walked, words }
     }
 
     /// A number and its range, or what is wrong with it.
-    fn number(&mut self, lowest: u32, highest: u32) -> Result<u32, String> {
-        let (number, length, form) = match *self.rest {
-            [] => return Err("bytes end before it".to_string()),
+    fn number(&mut self, lowest: u32, highest: u32) -> Result<u32, Found> {
+        let (number, length, form) = match *self.rest() {
+            [] => return Err(self.ended("bytes end before it")),
             [first, ..] if first < 128 => (u32::from(first), 1, "one byte"),
-            [_] => return Err("ends inside".to_string()),
-            [_, second] if second >= 128 => return Err("over two bytes, nothing behind".to_string()),
-            [_, second, ..] if second >= 128 => return Err("over two bytes".to_string()),
-            [_, 0, ..] => return Err("not shortest".to_string()),
+            [_] => return Err(self.ended("ends inside")),
+            [_, second] if second >= 128 => return Err(self.faulty("over two bytes, nothing behind", AT_NUMBER)),
+            [_, second, ..] if second >= 128 => return Err(self.faulty("over two bytes", AT_NUMBER)),
+            [_, 0, ..] => return Err(self.faulty("not shortest", AT_NUMBER)),
             [first, second, ..] => (u32::from(first) % 128 + 128 * u32::from(second), 2, "two bytes"),
         };
-        if number < lowest {
-            return Err(format!("is {number}"));
-        }
-        if number == highest + 1 {
-            return Err(format!("is {number}"));
+        if number < lowest || number == highest + 1 {
+            return Err(self.faulty(&format!("is {number}"), AT_NUMBER));
         }
         if number > highest {
-            return Err(format!("over {} in {form}", highest + 1));
+            return Err(self.faulty(&format!("over {} in {form}", highest + 1), AT_NUMBER));
         }
-        self.advance(length);
+        self.walked += length;
         Ok(number)
     }
 
-    fn field(&mut self, name: &str, lowest: u32, highest: u32) -> Result<u32, String> {
-        self.number(lowest, highest).map_err(|fault| format!("{name}: {fault}"))
+    fn field(&mut self, name: &str, lowest: u32, highest: u32) -> Result<u32, Found> {
+        self.number(lowest, highest).map_err(|found| found.of(name))
     }
 
-    fn identifier(&mut self) -> Result<(), String> {
-        if self.rest.len() < 16 {
-            return Err(format!("identifier: bytes end before byte {}", self.rest.len() + 1));
+    fn identifier(&mut self) -> Result<(), Found> {
+        let there = self.rest().len();
+        if there < 16 {
+            return Err(self.ended(&format!("identifier: bytes end before byte {}", there + 1)));
         }
-        self.advance(16);
+        self.walked += 16;
         Ok(())
     }
 
-    fn digits(&mut self, name: &str, fewest: u32) -> Result<(), String> {
+    fn digits(&mut self, name: &str, fewest: u32) -> Result<(), Found> {
         let count = self.field(&format!("count of {name}"), fewest, 15)?;
         for place in 1..=count {
-            match self.rest.first() {
-                None => return Err(format!("{name}: bytes end before digit {place}")),
-                Some(10..=255) => return Err(format!("{name}: digit {place} is over 9")),
-                Some(_) => self.advance(1),
+            match self.rest().first() {
+                None => return Err(self.ended(&format!("{name}: bytes end before digit {place}"))),
+                Some(10..=255) => return Err(self.faulty(&format!("{name}: digit {place} is over 9"), AT_DIGIT)),
+                Some(_) => self.walked += 1,
             }
         }
         Ok(())
     }
 
     /// What stands behind the type.
-    fn behind_type(&mut self, number: u32) -> Result<(), String> {
+    fn behind_type(&mut self, number: u32) -> Result<(), Found> {
         self.field("carrier", 1, 5)?;
         self.identifier()?;
         match number {
@@ -104,15 +133,33 @@ impl Walk<'_> {
 }
 
 /// The type's name and the length of a message that is there, or its fault.
-fn walk(bytes: &[u8]) -> Result<(&'static str, usize), String> {
+fn walk(bytes: &[u8]) -> Result<(&'static str, usize), Found> {
+    let mut walk = Walk { bytes, walked: 0 };
     if bytes.is_empty() {
-        return Err("no bytes".to_string());
+        return Err(walk.ended("no bytes"));
     }
-    let mut walk = Walk { rest: bytes };
     let number = walk.field("type", 1, 12)?;
     let name = type_name(number);
-    walk.behind_type(number).map_err(|fault| format!("{name}: {fault}"))?;
-    Ok((name, bytes.len() - walk.rest.len()))
+    walk.behind_type(number).map_err(|found| found.of(name))?;
+    Ok((name, walk.walked))
+}
+
+/// The words for the place that was told; one that the walk doesn't find makes
+/// a row that is not listed.
+fn place_words(found: &Found, told: Option<usize>) -> &'static str {
+    if told == Some(found.place) {
+        found.words
+    } else {
+        "at another place"
+    }
+}
+
+/// The row of bytes that hold no message, without the desk's name.
+pub fn fault_name(bytes: &[u8], refusal: u32, told: Option<usize>) -> String {
+    match walk(bytes) {
+        Ok((name, _)) => format!("{name}: no fault: refusal {refusal}"),
+        Err(found) => format!("{}: refusal {refusal} {}", found.name, place_words(&found, told)),
+    }
 }
 
 fn service_class(service: u32) -> &'static str {
@@ -171,27 +218,40 @@ fn room_names(name: &str, length: usize, place: usize, size: usize) -> Vec<Strin
     names
 }
 
-pub fn names(bytes: &[u8], place: usize, size: usize, refusal: u32) -> Vec<String> {
+/// The rows of bytes that were written, or had no room.
+fn message_names(bytes: &[u8], name: &str, rooms: Vec<String>, answer: &Answer) -> Vec<String> {
+    let Answer::Written { refusal, fault_place, .. } = answer else {
+        return Vec::new();
+    };
+    let mut names = rooms;
+    if *refusal == 0 {
+        names.extend(written_names(bytes, name));
+    }
+    let outcome = if *refusal == 0 { "written".to_string() } else { format!("refusal {refusal}") };
+    let place = if fault_place.is_some() { " with a place" } else { "" };
+    names.iter().map(|name| format!("{name}: {outcome}{place}")).collect()
+}
+
+/// The rows of bytes that hold no message.
+fn refused_names(bytes: &[u8], room: Option<usize>, answer: &Answer) -> Vec<String> {
+    let Answer::Written { refusal, fault_place, .. } = answer else {
+        return Vec::new();
+    };
+    let mut names = vec![fault_name(bytes, *refusal, *fault_place)];
+    match room {
+        None => names.push(format!("bytes refused, place past the end: refusal {refusal}")),
+        Some(0..=17) => names.push(format!("bytes refused, room for no message: refusal {refusal}")),
+        Some(_) => {}
+    }
+    names
+}
+
+pub fn names(bytes: &[u8], place: usize, size: usize, answer: &Answer) -> Vec<String> {
     let mut names = match walk(bytes) {
-        Ok((name, length)) => {
-            let mut names = room_names(name, length, place, size);
-            if refusal == 0 {
-                names.extend(written_names(bytes, name));
-            }
-            names
-        }
-        Err(fault) => {
-            let mut names = vec![fault];
-            match size.checked_sub(place) {
-                None => names.push("bytes refused, place past the end".to_string()),
-                Some(0..=17) => names.push("bytes refused, room for no message".to_string()),
-                Some(_) => {}
-            }
-            names
-        }
+        Ok((name, length)) => message_names(bytes, name, room_names(name, length, place, size), answer),
+        Err(_) => refused_names(bytes, size.checked_sub(place), answer),
     };
     names.sort();
     names.dedup();
-    let outcome = if refusal == 0 { "written".to_string() } else { format!("refusal {refusal}") };
-    names.iter().map(|name| format!("codec: {name}: {outcome}")).collect()
+    names.iter().map(|name| format!("codec: {name}")).collect()
 }

@@ -1,8 +1,8 @@
 //! Directed scripts for the clerk's desk.
 
 use super::{
-    bytes_of, contents_without_requests, damaged, request_content, requests_on_edges, spread_identifier, to_clerk,
-    with_choice, with_identifier, AskEntry, Case, Scripts, ACCEPT, TIMER, USER_A_FREE, USER_CANCELS,
+    bad_input, bytes_of, contents_without_requests, damaged, request_content, requests_on_edges, spread_identifier,
+    to_clerk, with_choice, with_identifier, AskEntry, Case, Scripts, ACCEPT, TIMER, USER_A_FREE, USER_CANCELS,
 };
 use crate::codec::{Carrier, Content, Identifier};
 use crate::outcome::{Connection, Kind};
@@ -403,6 +403,7 @@ pub fn scripts() -> Scripts {
     lives(&mut scripts);
     full_desk(&mut scripts);
     bad_bytes(&mut scripts);
+    bad_input::at_clerk(&mut scripts);
     every_state(&mut scripts);
     scripts
 }

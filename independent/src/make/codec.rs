@@ -1,7 +1,8 @@
 //! Directed scripts for the reader and the writer: code 48 entries only.
 //!
 //! Messages are put together here from parts, by hand and without the writer
-//! of codec.rs, so that a fault there is not repeated here.
+//! of codec.rs, so that a fault there is not repeated here. The bad ones among
+//! them are also handed to both desks (bad_input.rs).
 
 use super::{spread_identifier, write_entry, Scripts};
 
@@ -135,14 +136,33 @@ fn all_carriers(scripts: &mut Scripts) {
     }
 }
 
-/// "every truncation".
-fn truncations(scripts: &mut Scripts) {
+fn write_each(scripts: &mut Scripts, inputs: Vec<Vec<u8>>) {
+    for bytes in inputs {
+        scripts.add(&write_roomy(&bytes));
+    }
+}
+
+/// "every truncation", and the whole message.
+fn truncations() -> Vec<Vec<u8>> {
+    let mut inputs = Vec::new();
     for parts in each_good_message() {
         let bytes = joined(&parts);
-        for length in 0..=bytes.len() {
-            scripts.add(&write_roomy(bytes.get(..length).unwrap_or(&bytes)));
-        }
+        inputs.extend((0..=bytes.len()).map(|length| bytes.get(..length).unwrap_or(&bytes).to_vec()));
     }
+    inputs
+}
+
+/// Bytes with one of them replaced by each of the 256 values, its own too.
+pub fn replaced_at(bytes: &[u8], place: usize) -> Vec<Vec<u8>> {
+    let mut inputs = Vec::new();
+    for value in 0..=255 {
+        let mut changed = bytes.to_vec();
+        if let Some(byte) = changed.get_mut(place) {
+            *byte = value;
+        }
+        inputs.push(changed);
+    }
+    inputs
 }
 
 /// "every byte replaced by every one of the 256 values".
@@ -150,37 +170,46 @@ fn replacements(scripts: &mut Scripts) {
     for parts in each_good_message() {
         let bytes = joined(&parts);
         for place in 0..bytes.len() {
-            for value in 0..=255 {
-                let mut changed = bytes.clone();
-                if let Some(byte) = changed.get_mut(place) {
-                    *byte = value;
-                }
-                scripts.add(&write_roomy(&changed));
-            }
+            write_each(scripts, replaced_at(&bytes, place));
         }
     }
 }
 
+/// The shortest and the longest request of both kinds, and every good message
+/// of the other types.
+pub fn shortest_and_longest() -> Vec<Vec<u8>> {
+    let mut messages = Vec::new();
+    for type_number in 1..=12 {
+        let most = if type_number <= 2 { 2 } else { usize::MAX };
+        let good = good_messages(type_number, usual_carrier(type_number));
+        messages.extend(good.iter().take(most).map(|parts| joined(parts)));
+    }
+    messages
+}
+
 /// "trailing bytes behind a good message": few, many and all that N allows,
 /// harmless or such that they would be a fault if they were read.
-fn trailing_bytes(scripts: &mut Scripts) {
+fn trailing_bytes() -> Vec<Vec<u8>> {
+    let mut inputs = Vec::new();
     for parts in each_good_message() {
         let bytes = joined(&parts);
         for filler in [0x00, 0x01, 0x0A, 0x7F, 0x80, 0xFF] {
             for count in [1, 2, 3, 16, 53, 255 - bytes.len()] {
                 let mut longer = bytes.clone();
                 longer.extend(vec![filler; count]);
-                scripts.add(&write_roomy(&longer));
+                inputs.push(longer);
             }
         }
         let mut twice = bytes.clone();
         twice.extend_from_slice(&bytes);
-        scripts.add(&write_roomy(&twice));
+        inputs.push(twice);
     }
+    inputs
 }
 
-/// Forms that are tried in the place of every number.
-const FORMS: [&[u8]; 20] = [
+/// Forms that are tried in the place of every number. The single bytes at the
+/// end are next to the edges of the ranges.
+pub const FORMS: [&[u8]; 28] = [
     &[0x80, 0x00],
     &[0x80, 0x80, 0x01],
     &[0xFF, 0x7F],
@@ -201,11 +230,19 @@ const FORMS: [&[u8]; 20] = [
     &[0xFF, 0xFF, 0x7F],
     &[0x80],
     &[0xFF],
+    &[0x00],
+    &[0x02],
+    &[0x03],
+    &[0x06],
+    &[0x0D],
+    &[0x10],
+    &[0x11],
+    &[0x7F],
 ];
 
 /// Every form in the place of one number, with the rest of the message behind
 /// it and with nothing behind it.
-fn forms_at(scripts: &mut Scripts, parts: &[Part], place: usize) {
+fn forms_at(parts: &[Part], place: usize) -> Vec<Vec<u8>> {
     let mut forms: Vec<Vec<u8>> = FORMS.iter().map(|form| form.to_vec()).collect();
     if let Some(Part::Number(form)) = parts.get(place) {
         // The same number, not in its shortest form.
@@ -216,26 +253,53 @@ fn forms_at(scripts: &mut Scripts, parts: &[Part], place: usize) {
         longer.push(0);
         forms.push(longer);
     }
+    let mut inputs = Vec::new();
     for form in forms {
         let mut changed = parts.to_vec();
         if let Some(part) = changed.get_mut(place) {
             *part = Part::Number(form);
         }
-        scripts.add(&write_roomy(&joined(&changed)));
+        inputs.push(joined(&changed));
         changed.truncate(place + 1);
-        scripts.add(&write_roomy(&joined(&changed)));
+        inputs.push(joined(&changed));
     }
+    inputs
 }
 
 /// "two-byte forms in every field's place".
-fn number_forms(scripts: &mut Scripts) {
+fn number_forms() -> Vec<Vec<u8>> {
+    let mut inputs = Vec::new();
     for parts in each_good_message() {
         for (place, part) in parts.iter().enumerate() {
             if let Part::Number(_) = part {
-                forms_at(scripts, &parts, place);
+                inputs.extend(forms_at(&parts, place));
             }
         }
     }
+    inputs
+}
+
+/// Each digit of the longest requests over 9, with the rest of the message
+/// behind it, with nothing behind it, and with FF behind it, which no digit and
+/// no length is: "first fault from the left".
+fn digits_over_9() -> Vec<Vec<u8>> {
+    let mut inputs = Vec::new();
+    for type_number in [1, 2] {
+        let fields = Fields { digits_a: 15, digits_b: 15, service: &[0xFF, 0x7F], flags: 5 };
+        let bytes = joined(&request(type_number, 1, fields));
+        // Behind the head and the length of numberA, and behind that of numberB.
+        for place in (19..34).chain(35..50) {
+            for value in [10, 15, 16, 127, 128, 255] {
+                let mut changed = bytes.clone();
+                changed[place] = value;
+                inputs.push(changed.clone());
+                inputs.push(changed[..=place].to_vec());
+                changed[place + 1] = 0xFF;
+                inputs.push(changed);
+            }
+        }
+    }
+    inputs
 }
 
 /// Every pair of bytes in the place of the service: each of the numbers 0 to
@@ -257,29 +321,45 @@ fn every_service(scripts: &mut Scripts) {
 
 /// A request with digit counts and digits out of range or on the edge:
 /// "15 against 16 digits".
-fn digit_counts(scripts: &mut Scripts) {
+fn digit_counts() -> Vec<Vec<u8>> {
+    let mut inputs = Vec::new();
     for type_number in [1, 2] {
         for count_a in 0..=20 {
             for count_b in 0..=20 {
                 let fields = Fields { digits_a: count_a, digits_b: count_b, service: &[0x05], flags: 1 };
-                scripts.add(&write_roomy(&joined(&request(type_number, 1, fields))));
+                inputs.push(joined(&request(type_number, 1, fields)));
             }
         }
     }
+    inputs
 }
 
 /// "flags 5 against 6", "service 16383 (the reader can't read more)".
-fn flags_and_services(scripts: &mut Scripts) {
+fn flags_and_services() -> Vec<Vec<u8>> {
+    let mut inputs = Vec::new();
     let services: [&'static [u8]; 7] =
         [&[0], &[0x7F], &[0x80, 0x01], &[0xFF, 0x01], &[0xFE, 0x7F], &[0xFF, 0x7F], &[0x80, 0x80, 0x01]];
     for service in services {
         for flags in 0..=8 {
             for type_number in [1, 2] {
                 let fields = Fields { digits_a: 3, digits_b: 2, service, flags };
-                scripts.add(&write_roomy(&joined(&request(type_number, 1, fields))));
+                inputs.push(joined(&request(type_number, 1, fields)));
             }
         }
     }
+    inputs
+}
+
+/// What the reader has to refuse, and what stands next to it, but for the
+/// replaced bytes.
+pub fn bad_input() -> Vec<Vec<u8>> {
+    let mut inputs = truncations();
+    inputs.extend(number_forms());
+    inputs.extend(digits_over_9());
+    inputs.extend(trailing_bytes());
+    inputs.extend(digit_counts());
+    inputs.extend(flags_and_services());
+    inputs
 }
 
 /// Places and sizes around the length of a message: exactly enough, one less,
@@ -342,11 +422,7 @@ pub fn scripts() -> Scripts {
     let mut scripts = Scripts::default();
     // The small groups stand first, so that a difference shows early.
     all_carriers(&mut scripts);
-    truncations(&mut scripts);
-    number_forms(&mut scripts);
-    trailing_bytes(&mut scripts);
-    digit_counts(&mut scripts);
-    flags_and_services(&mut scripts);
+    write_each(&mut scripts, bad_input());
     writers_room(&mut scripts);
     refused_bytes_in_every_room(&mut scripts);
     every_room(&mut scripts);

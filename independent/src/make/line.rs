@@ -1,8 +1,8 @@
 //! Directed scripts for the line desk.
 
 use super::{
-    bytes_of, contents_without_requests, damaged, look, report, request_content, requests_on_edges, spread_identifier,
-    start_line, to_line, with_choice, with_identifier, Case, Scripts, ACT, GUARD_RUNS_OUT,
+    bad_input, bytes_of, contents_without_requests, damaged, look, report, request_content, requests_on_edges,
+    spread_identifier, start_line, to_line, with_choice, with_identifier, Case, Scripts, ACT, GUARD_RUNS_OUT,
 };
 use crate::codec::{Carrier, Content, Identifier};
 use crate::outcome::{Connection, Kind};
@@ -597,6 +597,7 @@ pub fn scripts() -> Scripts {
     no_such_line(&mut scripts);
     starts(&mut scripts);
     bad_bytes(&mut scripts);
+    bad_input::at_line(&mut scripts);
     every_state(&mut scripts);
     scripts
 }

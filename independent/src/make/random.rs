@@ -1,6 +1,7 @@
 //! Random scripts: two desks over two wires, played inside the generator, so
 //! that deep states are reached.
 
+use super::codec::FORMS;
 use super::{
     bytes_of, contents_without_requests, look, report, request_content, start_line, to_clerk, to_line, with_choice,
     with_identifier, write_entry, AskEntry, Scripts, ACCEPT, ACT, GUARD_RUNS_OUT, PRINT_CLERK, PRINT_LINE, START_CLERK,
@@ -75,12 +76,13 @@ enum Move {
     StrayRequest,
     BadAsk,
     BadNumber,
+    BadBytes,
     Restart,
     Write,
     Print,
 }
 
-const MOVES: [(Move, [usize; 3]); 17] = [
+const MOVES: [(Move, [usize; 3]); 18] = [
     (Move::Ask, [16, 40, 14]),
     (Move::DeliverToLine, [80, 60, 50]),
     (Move::DeliverToClerk, [80, 60, 50]),
@@ -95,6 +97,7 @@ const MOVES: [(Move, [usize; 3]); 17] = [
     (Move::StrayRequest, [1, 40, 4]),
     (Move::BadAsk, [1, 4, 2]),
     (Move::BadNumber, [1, 1, 2]),
+    (Move::BadBytes, [2, 2, 12]),
     (Move::Restart, [0, 0, 1]),
     (Move::Write, [1, 1, 3]),
     (Move::Print, [25, 25, 25]),
@@ -554,6 +557,59 @@ impl Player {
         }
     }
 
+    /// A byte of a number or a digit: all but the identifier's sixteen.
+    fn place_of_field(&mut self, length: usize) -> usize {
+        let thrown = self.dice.below(length.saturating_sub(16));
+        if thrown < 2 {
+            thrown
+        } else {
+            thrown + 16
+        }
+    }
+
+    /// A message with a fault in it, mostly, and often with more behind that:
+    /// a cut end, a number in another form, a byte that is out of most ranges.
+    fn with_fault(&mut self, mut bytes: Vec<u8>) -> Vec<u8> {
+        let place = self.place_of_field(bytes.len());
+        match self.dice.below(3) {
+            0 => bytes.truncate(self.dice.below(bytes.len())),
+            1 => {
+                let form = self.dice.pick(&FORMS).unwrap_or(&[0x80]);
+                let behind = bytes.get(place + 1..).unwrap_or(&[]).to_vec();
+                bytes.truncate(place);
+                bytes.extend_from_slice(form);
+                if !self.dice.once_in(3) {
+                    bytes.extend(behind);
+                }
+            }
+            _ => {
+                let value = 6 + self.dice.below(250) as u8;
+                if let Some(byte) = bytes.get_mut(place) {
+                    *byte = value;
+                }
+                if self.dice.once_in(3) {
+                    bytes.truncate(place + 1);
+                }
+            }
+        }
+        bytes
+    }
+
+    /// Bytes that hold no message, mostly, for either desk or a write; half of
+    /// them would have been requests, which have the most fields.
+    fn bad_bytes(&mut self) {
+        let content = if self.dice.once_in(2) { self.some_request() } else { self.some_content() };
+        let carrier = self.dice.pick(&Carrier::ALL).unwrap_or(Carrier::Setup);
+        let identifier = self.some_identifier();
+        let bytes = self.with_fault(bytes_of(carrier, identifier, content));
+        let entry = match self.dice.below(5) {
+            0 | 1 => to_line(&bytes),
+            2 | 3 => to_clerk(self.dice.once_in(2), &bytes),
+            _ => write_entry(&bytes, self.dice.below(12) as u8, self.dice.below(75) as u8),
+        };
+        self.put(&entry);
+    }
+
     /// A desk is started anew, the line desk sometimes in vain.
     fn restart(&mut self) {
         let nothing: [(Vec<u8>, u8); 0] = [];
@@ -638,6 +694,7 @@ impl Player {
             Move::StrayRequest => self.stray_request(),
             Move::BadAsk => self.ask(true),
             Move::BadNumber => self.bad_number(),
+            Move::BadBytes => self.bad_bytes(),
             Move::Restart => self.restart(),
             Move::Write => self.write(),
             Move::Print => self.print(),
@@ -667,6 +724,7 @@ pub fn scripts(seed: u64, entries: usize) -> Scripts {
 #[cfg(test)]
 mod tests {
     use super::*;
+    use std::collections::BTreeSet;
 
     #[test]
     fn the_same_seed_gives_the_same_scripts() {
@@ -686,6 +744,29 @@ mod tests {
         let entries: usize = made.full.iter().map(|script| crate::make::count_entries(script)).sum();
         assert_eq!(entries, 20000);
         assert!(made.full.iter().all(|script| script.len() < crate::make::LARGEST_SCRIPT));
+    }
+
+    #[test]
+    fn faults_at_many_places_are_told_by_both_desks_and_by_writes() {
+        let mut places = [BTreeSet::new(), BTreeSet::new(), BTreeSet::new()];
+        for script in scripts(11, 40000).into_cases() {
+            let Some((entry, _)) = take_entry(&script) else {
+                continue;
+            };
+            let whose = match entry {
+                Entry::ToClerk { .. } => 0,
+                Entry::ToLine { .. } => 1,
+                _ => 2,
+            };
+            match Session::default().play(&entry) {
+                Answer::Step { fault_place, .. } | Answer::Written { fault_place, .. } => {
+                    places[whose].extend(fault_place);
+                }
+                Answer::Printed { .. } => {}
+            }
+        }
+        // The longest message has 53 bytes, and the bytes can end behind 52.
+        assert!(places.iter().all(|told| told.len() > 25 && told.iter().all(|place| *place < 53)), "{places:?}");
     }
 
     #[test]

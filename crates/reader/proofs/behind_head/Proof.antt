@@ -29,8 +29,8 @@ add-from c = search needs
 fields-requires : tie.Need-fields-requires
 fields-requires c κs = search needs
 
-enum-known-x : tie.Need-enum-known-x
-enum-known-x c = search needs
+enum-known-fault : tie.Need-enum-known-fault
+enum-known-fault c = search needs
 
 refused-requires-2 : tie.Need-refused-requires-2
 refused-requires-2 c κs = search needs
@@ -49,7 +49,7 @@ copy-between-requires-3 c κs = search needs
 
 returns-2 : tie.Need-returns-2
 unfolding behindHead identifierAt
-returns-2 c = let a = c .before .before .before .before .before .before .before .args in rw (c .refused2 .ensures, le-ltb (length (now (a .s))) (a .at + 16) (omega arith), sym (c .before .before .before .before .fields .ensures) ∙ ap fieldsTold (c .before .before .x .given .1))
+returns-2 c = let a = c .before .before .before .before .before .before .before .args in rw (c .refused2 .ensures, le-ltb (length (now (a .s))) (a .at + 16) (omega arith), sym (c .before .before .before .before .fields .ensures) ∙ ap fieldsTold (c .before .before .fault .given .1))
 
 returns-3 : tie.Need-returns-3
 unfolding behindHead identifierAt
@@ -78,7 +78,7 @@ behind-head-spec =
     returns
     add-from
     fields-requires
-    enum-known-x
+    enum-known-fault
     refused-requires-2
     enum-known-behindA
     copy-between-requires

@@ -24,8 +24,8 @@ field-by-field-requires-2 c κs = search needs
 read-field-requires : tie.Need-read-field-requires
 read-field-requires c κs = search needs
 
-enum-known-x : tie.Need-enum-known-x
-enum-known-x c = search needs
+enum-known-fault : tie.Need-enum-known-fault
+enum-known-fault c = search needs
 
 enum-known-v : tie.Need-enum-known-v
 enum-known-v c = search needs
@@ -39,8 +39,8 @@ plain-requires c κs = search needs
 read-field-requires-2 : tie.Need-read-field-requires-2
 read-field-requires-2 c κs = search needs
 
-enum-known-x-2 : tie.Need-enum-known-x-2
-enum-known-x-2 c = search needs
+enum-known-fault-2 : tie.Need-enum-known-fault-2
+enum-known-fault-2 c = search needs
 
 enum-known-v-2 : tie.Need-enum-known-v-2
 enum-known-v-2 c = search needs
@@ -60,8 +60,8 @@ plain-requires-4 c κs = search needs
 read-field-requires-3 : tie.Need-read-field-requires-3
 read-field-requires-3 c κs = search needs
 
-enum-known-x-3 : tie.Need-enum-known-x-3
-enum-known-x-3 c = search needs
+enum-known-fault-3 : tie.Need-enum-known-fault-3
+enum-known-fault-3 c = search needs
 
 enum-known-v-3 : tie.Need-enum-known-v-3
 enum-known-v-3 c = search needs
@@ -97,7 +97,7 @@ returns-2 c = rw (c .before .before .match .keys2, c .field-by-field2 .ensures, 
 
 returns-3 : tie.Need-returns-3
 unfolding fieldsAt
-returns-3 c = rw (c .before .before .before .before .match .keys3, sym (c .before .before .before .read-field .ensures) ∙ ap numberTold (c .before .x .given .1))
+returns-3 c = rw (c .before .before .before .before .match .keys3, sym (c .before .before .before .read-field .ensures) ∙ ap numberTold (c .before .fault .given .1))
 
 returns-4 : tie.Need-returns-4
 unfolding fieldsAt
@@ -105,7 +105,7 @@ returns-4 c = rw (c .before .before .before .before .before .match .keys3, sym (
 
 returns-5 : tie.Need-returns-5
 unfolding fieldsAt
-returns-5 c = rw (c .before .before .before .before .match .keys4, sym (c .before .before .before .read-field2 .ensures) ∙ ap numberTold (c .before .x2 .given .1))
+returns-5 c = rw (c .before .before .before .before .match .keys4, sym (c .before .before .before .read-field2 .ensures) ∙ ap numberTold (c .before .fault2 .given .1))
 
 returns-6 : tie.Need-returns-6
 unfolding fieldsAt
@@ -121,7 +121,7 @@ returns-8 c = rw (c .before .match .keys6, c .plain4 .ensures)
 
 returns-9 : tie.Need-returns-9
 unfolding fieldsAt
-returns-9 c = rw (c .before .before .before .before .match .keys7, sym (c .before .before .before .read-field3 .ensures) ∙ ap numberTold (c .before .x3 .given .1))
+returns-9 c = rw (c .before .before .before .before .match .keys7, sym (c .before .before .before .read-field3 .ensures) ∙ ap numberTold (c .before .fault3 .given .1))
 
 returns-10 : tie.Need-returns-10
 unfolding fieldsAt
@@ -156,19 +156,19 @@ fields-spec =
     request-requires-2
     field-by-field-requires-2
     read-field-requires
-    enum-known-x
+    enum-known-fault
     enum-known-v
     cast-t20
     plain-requires
     read-field-requires-2
-    enum-known-x-2
+    enum-known-fault-2
     enum-known-v-2
     cast-t24
     plain-requires-2
     plain-requires-3
     plain-requires-4
     read-field-requires-3
-    enum-known-x-3
+    enum-known-fault-3
     enum-known-v-3
     cast-t30
     plain-requires-5

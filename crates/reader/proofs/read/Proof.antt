@@ -10,8 +10,8 @@ use Rattle.reader.proofs.read.Tie as tie
 read-field-requires : tie.Need-read-field-requires
 read-field-requires c κs = search needs
 
-enum-known-x : tie.Need-enum-known-x
-enum-known-x c = search needs
+enum-known-fault : tie.Need-enum-known-fault
+enum-known-fault c = search needs
 
 refused-requires : tie.Need-refused-requires
 refused-requires c κs = search needs
@@ -22,8 +22,8 @@ enum-known-typeNumber c = search needs
 read-field-requires-2 : tie.Need-read-field-requires-2
 read-field-requires-2 c κs = search needs
 
-enum-known-x-2 : tie.Need-enum-known-x-2
-enum-known-x-2 c = search needs
+enum-known-fault-2 : tie.Need-enum-known-fault-2
+enum-known-fault-2 c = search needs
 
 refused-requires-2 : tie.Need-refused-requires-2
 refused-requires-2 c κs = search needs
@@ -39,11 +39,11 @@ behind-head-requires c κs = field-read _ _ _ _ _ _ (sym (c .before .before .bef
 
 returns : tie.Need-returns
 unfolding messageAt
-returns c = rw (c .refused .ensures, sym (c .before .before .before .before .read-field .ensures) ∙ ap numberTold (c .before .before .x .given .1))
+returns c = rw (c .refused .ensures, sym (c .before .before .before .before .read-field .ensures) ∙ ap numberTold (c .before .before .fault .given .1))
 
 returns-2 : tie.Need-returns-2
 unfolding messageAt
-returns-2 c = rw (c .refused2 .ensures, sym (c .before .before .before .before .before .before .before .before .read-field .ensures) ∙ ap numberTold (c .before .before .before .before .before .before .typeNumber .given .1), sym (c .before .before .before .before .read-field2 .ensures) ∙ ap numberTold (c .before .before .x2 .given .1))
+returns-2 c = rw (c .refused2 .ensures, sym (c .before .before .before .before .before .before .before .before .read-field .ensures) ∙ ap numberTold (c .before .before .before .before .before .before .typeNumber .given .1), sym (c .before .before .before .before .read-field2 .ensures) ∙ ap numberTold (c .before .before .fault2 .given .1))
 
 returns-3 : tie.Need-returns-3
 unfolding messageAt
@@ -54,11 +54,11 @@ read-spec =
     tie.close
     (tie.spec
     read-field-requires
-    enum-known-x
+    enum-known-fault
     refused-requires
     enum-known-typeNumber
     read-field-requires-2
-    enum-known-x-2
+    enum-known-fault-2
     refused-requires-2
     enum-known-n
     carrier-of-requires

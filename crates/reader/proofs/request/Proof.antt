@@ -9,8 +9,8 @@ use Rattle.reader.proofs.request.Tie as tie
 read-digits-requires : tie.Need-read-digits-requires
 read-digits-requires c κs = search needs
 
-enum-known-x : tie.Need-enum-known-x
-enum-known-x c = search needs
+enum-known-fault : tie.Need-enum-known-fault
+enum-known-fault c = search needs
 
 enum-known-behindA : tie.Need-enum-known-behindA
 enum-known-behindA c = search needs
@@ -18,8 +18,8 @@ enum-known-behindA c = search needs
 read-digits-requires-2 : tie.Need-read-digits-requires-2
 read-digits-requires-2 c κs = search needs
 
-enum-known-x-2 : tie.Need-enum-known-x-2
-enum-known-x-2 c = search needs
+enum-known-fault-2 : tie.Need-enum-known-fault-2
+enum-known-fault-2 c = search needs
 
 enum-known-behindB : tie.Need-enum-known-behindB
 enum-known-behindB c = search needs
@@ -29,11 +29,11 @@ request-tail-requires c κs = search needs
 
 returns : tie.Need-returns
 unfolding requestAt
-returns c = rw (sym (c .before .before .before .read-digits .ensures) ∙ ap placeTold (c .before .x .given .1))
+returns c = rw (sym (c .before .before .before .read-digits .ensures) ∙ ap placeTold (c .before .fault .given .1))
 
 returns-2 : tie.Need-returns-2
 unfolding requestAt
-returns-2 c = rw (sym (c .before .before .before .before .before .before .before .read-digits .ensures) ∙ ap placeTold (c .before .before .before .before .before .behindA .given .1), sym (c .before .before .before .read-digits2 .ensures) ∙ ap placeTold (c .before .x2 .given .1))
+returns-2 c = rw (sym (c .before .before .before .before .before .before .before .read-digits .ensures) ∙ ap placeTold (c .before .before .before .before .before .behindA .given .1), sym (c .before .before .before .read-digits2 .ensures) ∙ ap placeTold (c .before .fault2 .given .1))
 
 returns-3 : tie.Need-returns-3
 unfolding requestAt
@@ -44,10 +44,10 @@ request-spec =
     tie.close
     (tie.spec
     read-digits-requires
-    enum-known-x
+    enum-known-fault
     enum-known-behindA
     read-digits-requires-2
-    enum-known-x-2
+    enum-known-fault-2
     enum-known-behindB
     request-tail-requires
     returns

@@ -11,8 +11,8 @@ use Rattle.reader.proofs.request_tail.Tie as tie
 read-field-requires : tie.Need-read-field-requires
 read-field-requires c κs = search needs
 
-enum-known-x : tie.Need-enum-known-x
-enum-known-x c = search needs
+enum-known-fault : tie.Need-enum-known-fault
+enum-known-fault c = search needs
 
 enum-known-service : tie.Need-enum-known-service
 enum-known-service c = search needs
@@ -20,8 +20,8 @@ enum-known-service c = search needs
 read-field-requires-2 : tie.Need-read-field-requires-2
 read-field-requires-2 c κs = search needs
 
-enum-known-x-2 : tie.Need-enum-known-x-2
-enum-known-x-2 c = search needs
+enum-known-fault-2 : tie.Need-enum-known-fault-2
+enum-known-fault-2 c = search needs
 
 enum-known-v : tie.Need-enum-known-v
 enum-known-v c = search needs
@@ -34,11 +34,11 @@ request-body-requires c κs = search needs
 
 returns : tie.Need-returns
 unfolding requestTail
-returns c = rw (sym (c .before .before .before .read-field .ensures) ∙ ap numberTold (c .before .x .given .1))
+returns c = rw (sym (c .before .before .before .read-field .ensures) ∙ ap numberTold (c .before .fault .given .1))
 
 returns-2 : tie.Need-returns-2
 unfolding requestTail
-returns-2 c = rw (sym (c .before .before .before .before .before .before .before .read-field .ensures) ∙ ap numberTold (c .before .before .before .before .before .service .given .1), sym (c .before .before .before .read-field2 .ensures) ∙ ap numberTold (c .before .x2 .given .1))
+returns-2 c = rw (sym (c .before .before .before .before .before .before .before .read-field .ensures) ∙ ap numberTold (c .before .before .before .before .before .service .given .1), sym (c .before .before .before .read-field2 .ensures) ∙ ap numberTold (c .before .fault2 .given .1))
 
 returns-3 : tie.Need-returns-3
 unfolding requestTail
@@ -49,10 +49,10 @@ request-tail-spec =
     tie.close
     (tie.spec
     read-field-requires
-    enum-known-x
+    enum-known-fault
     enum-known-service
     read-field-requires-2
-    enum-known-x-2
+    enum-known-fault-2
     enum-known-v
     cast-flags
     request-body-requires

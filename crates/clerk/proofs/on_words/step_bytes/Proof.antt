@@ -16,7 +16,7 @@ step-requires c κs = search needs
 returns : tie.Need-returns
 unfolding receivedBytes
 returns c =
-    ap (λ (step : Stepped). withNext step (c .before .before .bytes-entry .result .next)) (c .step .ensures)
+    ap (λ (step : Stepped). withNext step (c .before .before .bytes-entry .result .next) (c .before .before .bytes-entry .result .fault)) (c .step .ensures)
     ∙ ap (readStep (deskOf (now (c .before .before .before .before .args .words)))) (c .before .before .bytes-entry .ensures)
 
 pub step-bytes-spec : {M : Type 1} → statement M

@@ -14,7 +14,7 @@ step-requires c κs = search needs
 
 returns : tie.Need-returns
 unfolding receivedBytes
-returns c = rw (← c .before .before .bytes-entry .ensures) (ap (λ (step : Stepped). withNext step (c .before .before .bytes-entry .result .next)) (c .step .ensures))
+returns c = rw (← c .before .before .bytes-entry .ensures) (ap (λ (step : Stepped). withNext step (c .before .before .bytes-entry .result .next) (c .before .before .bytes-entry .result .fault)) (c .step .ensures))
 
 pub step-bytes-spec : {M : Type 1} → statement M
 step-bytes-spec = tie.close (tie.spec bytes-entry-requires step-requires returns)

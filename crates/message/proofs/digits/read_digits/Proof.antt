@@ -3,14 +3,15 @@ use mathlib.Core.Path.{sym, _∙_, ap}
 use Rattle.message.specs.Number.{digitsAt}
 use Rattle.message.specs.Answers.{numberTold}
 use borrow.Author.Needs.{needs}
+use Rattle.message.proofs.NumberLaws.{field-read}
 use Rattle.message.proofs.digits.read_digits.Statement.{statement}
 use Rattle.message.proofs.digits.read_digits.Tie as tie
 
 read-field-requires : tie.Need-read-field-requires
 read-field-requires c κs = search needs
 
-enum-known-x : tie.Need-enum-known-x
-enum-known-x c = search needs
+enum-known-fault : tie.Need-enum-known-fault
+enum-known-fault c = search needs
 
 enum-known-v : tie.Need-enum-known-v
 enum-known-v c = search needs
@@ -19,11 +20,11 @@ cast-count : tie.Need-cast-count
 cast-count c = search needs
 
 scan-requires : tie.Need-scan-requires
-scan-requires c κs = search needs
+scan-requires c κs = field-read _ _ _ _ _ _ (sym (c .before .before .before .read-field .ensures) ∙ ap numberTold (c .before .v .given .1)) .ends
 
 returns : tie.Need-returns
 unfolding digitsAt
-returns c = rw (sym (c .before .before .before .read-field .ensures) ∙ ap numberTold (c .before .x .given .1))
+returns c = rw (sym (c .before .before .before .read-field .ensures) ∙ ap numberTold (c .before .fault .given .1))
 
 returns-2 : tie.Need-returns-2
 unfolding digitsAt
@@ -34,7 +35,7 @@ read-digits-spec =
     tie.close
     (tie.spec
     read-field-requires
-    enum-known-x
+    enum-known-fault
     enum-known-v
     cast-count
     scan-requires

@@ -10,8 +10,8 @@ use Rattle.message.proofs.number.read_field.Tie as tie
 read-number-requires : tie.Need-read-number-requires
 read-number-requires c κs = search needs
 
-enum-known-x : tie.Need-enum-known-x
-enum-known-x c = search needs
+enum-known-fault : tie.Need-enum-known-fault
+enum-known-fault c = search needs
 
 enum-known-v : tie.Need-enum-known-v
 enum-known-v c = search needs
@@ -26,7 +26,7 @@ returns-2 c = rw (sym (c .before .before .before .before .before .read-number .e
 
 returns-3 : tie.Need-returns-3
 unfolding fieldAt
-returns-3 c = rw (sym (c .before .before .before .read-number .ensures) ∙ ap numberTold (c .before .x .given .1))
+returns-3 c = rw (sym (c .before .before .before .read-number .ensures) ∙ ap numberTold (c .before .fault .given .1))
 
 returns-4 : tie.Need-returns-4
 unfolding fieldAt
@@ -35,4 +35,4 @@ returns-4 c = rw (sym (c .before .before .before .before .before .read-number .e
 pub read-field-spec : {M : Type 1} → statement M
 read-field-spec =
     tie.close
-    (tie.spec read-number-requires enum-known-x enum-known-v returns returns-2 returns-3 returns-4)
+    (tie.spec read-number-requires enum-known-fault enum-known-v returns returns-2 returns-3 returns-4)

@@ -17,8 +17,8 @@ shared-slice-read-first c = search needs
 cast-first : tie.Need-cast-first
 cast-first c = omega (arith, c .shared-slice-known .given (c .before .before .args .at))
 
-add-t10 : tie.Need-add-t10
-add-t10 c = search needs
+add-t14 : tie.Need-add-t14
+add-t14 c = search needs
 
 returns-2 : tie.Need-returns-2
 unfolding numberAt
@@ -41,14 +41,14 @@ returns-4 : tie.Need-returns-4
 unfolding numberAt
 returns-4 c = simp (lt-leb _ _ (c .before .before .before .before .before .if1 .left), le-ltb _ _ (c .before .before .before .if2 .left), lt-leb _ _ (c .before .before .if3 .left), eq-eqb _ _ (c .if4 .taken))
 
-mul-t14 : tie.Need-mul-t14
-mul-t14 c = search needs
+mul-t19 : tie.Need-mul-t19
+mul-t19 c = search needs
 
-add-t15 : tie.Need-add-t15
-add-t15 c = omega (arith, c .before .before .before .before .before .shared-slice-known .given (c .before .before .before .before .before .before .before .args .at))
+add-t20 : tie.Need-add-t20
+add-t20 c = omega (arith, c .before .before .before .before .before .shared-slice-known .given (c .before .before .before .before .before .before .before .args .at))
 
-add-t16 : tie.Need-add-t16
-add-t16 c = search needs
+add-t21 : tie.Need-add-t21
+add-t21 c = search needs
 
 returns-5 : tie.Need-returns-5
 unfolding numberAt
@@ -65,15 +65,15 @@ read-number-spec =
     returns
     shared-slice-read-first
     cast-first
-    add-t10
+    add-t14
     returns-2
     add-next
     returns-3
     shared-slice-read-second
     cast-second
     returns-4
-    mul-t14
-    add-t15
-    add-t16
+    mul-t19
+    add-t20
+    add-t21
     returns-5
     returns-6)

@@ -24,7 +24,7 @@ message-numbers-requires c κs = search needs
 
 returns : tie.Need-returns
 unfolding messageRead
-returns c = let a = c .before .before .before .before .before .args in rw (answer-refused (c .before .before .before .read .result) (messageAt (now (a .bytes))) _ (c .before .before .before .read .ensures) (c .before .verdict .given .1))
+returns c = let a = c .before .before .before .before .before .before .args in rw (answer-refused (c .before .before .before .before .read .result) (messageAt (now (a .bytes))) _ (c .before .before .before .before .read .ensures) (c .before .before .verdict .given .1))
 
 returns-2 : tie.Need-returns-2
 unfolding messageRead

@@ -1,0 +1,4 @@
+pub mod Readers
+pub mod Fields
+pub mod Messages
+pub mod Claims

@@ -1,0 +1,227 @@
+//! Tests of request 2 of document 02, "Say where the bytes went wrong". The
+//! places are stated here by hand, after READINGS-02 and REPLAY-02.
+
+use super::*;
+
+/// The refusal's number and the place, as a printed line has them.
+type Told = (u32, usize);
+
+fn told<T>(read: Read<'_, T>) -> Option<Told> {
+    read.err().map(|fault| (fault.refusal.number(), fault.place))
+}
+
+fn of_number(bytes: &[u8]) -> Option<Told> {
+    told(read_number(bytes))
+}
+
+fn of_digits(bytes: &[u8], fewest: u32) -> Option<Told> {
+    told(read_digits(bytes, fewest))
+}
+
+fn of_message(bytes: &[u8]) -> Option<Told> {
+    told(read_message(bytes))
+}
+
+/// Type and carrier, sixteen bytes a0 to af, and the fields.
+fn with_fields(type_number: u8, fields: &[u8]) -> Vec<u8> {
+    let mut bytes = vec![type_number, 1];
+    bytes.extend(0xA0..=0xAF);
+    bytes.extend_from_slice(fields);
+    bytes
+}
+
+/// numberA 1 2, numberB 3 0 0, service 300, flags 5: the places 18 to 20, 21 to
+/// 24, 25 and 26, 27.
+const FIELDS: [u8; 10] = [2, 1, 2, 3, 3, 0, 0, 0xAC, 0x02, 5];
+
+/// A good message of each of the twelve types, each small field in each value,
+/// a request with a withheld numberA and the longest one.
+fn good_messages() -> Vec<Vec<u8>> {
+    let mut longest = vec![15];
+    longest.extend([9; 15]);
+    longest.push(15);
+    longest.extend([0; 15]);
+    longest.extend([0xFF, 0x7F, 5]);
+    let mut messages = Vec::new();
+    for type_number in 1..=12 {
+        let fields: Vec<&[u8]> = match type_number {
+            1 | 2 => vec![&FIELDS, &[0, 1, 7, 0, 0], &longest],
+            3 => vec![&[0], &[1]],
+            4 | 7 => vec![&[1], &[2]],
+            _ => vec![&[]],
+        };
+        messages.extend(fields.iter().map(|fields| with_fields(type_number, fields)));
+    }
+    messages
+}
+
+#[test]
+fn the_good_messages_are_good_and_of_every_type() {
+    for bytes in good_messages() {
+        let (message, rest) = read_message(&bytes).unwrap();
+        assert_eq!((message.content.type_number(), rest.len()), (u32::from(bytes[0]), 0));
+    }
+    assert_eq!(good_messages().last().map(|bytes| bytes[0]), Some(12));
+}
+
+#[test]
+fn a_number_that_ended_has_the_slices_length() {
+    // "also where 80 is the last byte"; "`80` at the end".
+    assert_eq!(of_number(&[]), Some((1, 0)));
+    assert_eq!(of_number(&[0x80]), Some((1, 1)));
+    assert_eq!(of_number(&[0xFF]), Some((1, 1)));
+}
+
+#[test]
+fn a_faulty_number_has_its_first_byte() {
+    // "80 80 is one already"; 80 00 is not shortest.
+    assert_eq!(of_number(&[0x80, 0x80]), Some((1, 0)));
+    assert_eq!(of_number(&[0x80, 0x80, 0x01]), Some((1, 0)));
+    assert_eq!(of_number(&[0xFF, 0xFF]), Some((1, 0)));
+    assert_eq!(of_number(&[0x80, 0x00]), Some((1, 0)));
+    assert_eq!(of_number(&[0x80, 0x00, 0x05]), Some((1, 0)));
+    assert_eq!(of_number(&[0xAC, 0x02]), None);
+}
+
+#[test]
+fn digits_tell_the_place_in_their_own_slice() {
+    // "A length of digits out of range: that length's byte."
+    assert_eq!(of_digits(&[16, 1], 0), Some((2, 0)));
+    assert_eq!(of_digits(&[16], 0), Some((2, 0)));
+    assert_eq!(of_digits(&[0], 1), Some((2, 0)));
+    assert_eq!(of_digits(&[0x80, 0x01], 1), Some((2, 0)));
+    assert_eq!(of_digits(&[0x82, 0x00, 1, 2], 1), Some((1, 0)));
+    // "A digit over 9: its byte."
+    assert_eq!(of_digits(&[3, 10, 11, 12], 1), Some((2, 1)));
+    assert_eq!(of_digits(&[3, 9, 0, 0x80], 1), Some((2, 3)));
+    assert_eq!(of_digits(&[2, 9, 10], 1), Some((2, 2)));
+    // "inside identifier or digits": the slice's length.
+    assert_eq!(of_digits(&[], 0), Some((1, 0)));
+    assert_eq!(of_digits(&[0x80], 0), Some((1, 1)));
+    assert_eq!(of_digits(&[3, 9, 0], 1), Some((1, 3)));
+    assert_eq!(of_digits(&[0], 0), None);
+}
+
+#[test]
+fn every_truncation_of_every_type_has_its_length() {
+    for bytes in good_messages() {
+        for length in 0..bytes.len() {
+            assert_eq!(of_message(&bytes[..length]), Some((1, length)), "{length} of {bytes:?}");
+        }
+    }
+}
+
+#[test]
+fn trailing_garbage_is_no_fault_and_moves_none() {
+    for bytes in good_messages() {
+        for garbage in [&[0x80][..], &[0x80, 0x80], &[0xFF; 60], &[0; 3]] {
+            let longer = [&bytes, garbage].concat();
+            assert_eq!(read_message(&longer).map(|(_, rest)| rest), Ok(garbage));
+        }
+    }
+    assert_eq!(of_message(&[with_fields(3, &[2]), vec![0x80; 9]].concat()), Some((2, 18)));
+    assert_eq!(of_message(&[13, 0x80, 0x80]), Some((2, 0)));
+}
+
+#[test]
+fn a_type_out_of_range_or_faulty_is_at_0() {
+    for behind in [&[][..], &[1], &[0x80, 0x80]] {
+        for value in [0, 13, 127] {
+            assert_eq!(of_message(&[&[value], behind].concat()), Some((2, 0)));
+        }
+        for faulty in [&[0x80, 0x00][..], &[0x81, 0x00], &[0x80, 0x80], &[0x8C, 0xFF]] {
+            assert_eq!(of_message(&[faulty, behind].concat()), Some((1, 0)));
+        }
+        // 80 01 is 128.
+        assert_eq!(of_message(&[&[0x80, 0x01], behind].concat()), Some((2, 0)));
+    }
+    assert_eq!(of_message(&[0x80]), Some((1, 1)));
+}
+
+#[test]
+fn every_type_tells_a_fault_of_its_carrier_at_1() {
+    for type_number in 1..=12 {
+        for value in (0..=0).chain(6..=127) {
+            assert_eq!(of_message(&[type_number, value]), Some((2, 1)));
+        }
+        assert_eq!(of_message(&[type_number, 0x80, 0x80]), Some((1, 1)));
+        assert_eq!(of_message(&[type_number, 0x81, 0x00, 7]), Some((1, 1)));
+        assert_eq!(of_message(&[type_number, 0x80, 0x01, 7]), Some((2, 1)));
+        assert_eq!(of_message(&[type_number, 0x80]), Some((1, 2)));
+    }
+}
+
+#[test]
+fn keep_and_errors_are_at_18() {
+    for (type_number, good) in [(3, 0..=1), (4, 1..=2), (7, 1..=2)] {
+        for value in 0..=127 {
+            let expected = if good.contains(&value) { None } else { Some((2, 18)) };
+            assert_eq!(of_message(&with_fields(type_number, &[value])), expected);
+        }
+        assert_eq!(of_message(&with_fields(type_number, &[0x81, 0x01])), Some((2, 18)));
+        assert_eq!(of_message(&with_fields(type_number, &[0x81, 0x00])), Some((1, 18)));
+        assert_eq!(of_message(&with_fields(type_number, &[0x80, 0x80])), Some((1, 18)));
+        assert_eq!(of_message(&with_fields(type_number, &[0x81])), Some((1, 19)));
+    }
+}
+
+/// The request of FIELDS with one byte of its fields changed.
+fn changed(type_number: u8, place: usize, value: u8) -> Vec<u8> {
+    let mut bytes = with_fields(type_number, &FIELDS);
+    bytes[place] = value;
+    bytes
+}
+
+#[test]
+fn a_requests_numbers_are_told_at_their_first_bytes() {
+    for type_number in [1, 2] {
+        for (place, value) in [(18, 16), (21, 0), (21, 16), (27, 6), (27, 127)] {
+            assert_eq!(of_message(&changed(type_number, place, value)), Some((2, place)));
+        }
+        // 80 makes one number of two bytes: 80 01 for the length of numberA,
+        // 80 03 for that of numberB, the end of the bytes for the flags.
+        assert_eq!(of_message(&changed(type_number, 18, 0x80)), Some((2, 18)));
+        assert_eq!(of_message(&changed(type_number, 21, 0x80)), Some((2, 21)));
+        assert_eq!(of_message(&changed(type_number, 27, 0x80)), Some((1, 28)));
+        // The second byte is the fault, the first one is told.
+        assert_eq!(of_message(&changed(type_number, 26, 0)), Some((1, 25)));
+        assert_eq!(of_message(&changed(type_number, 26, 0x80)), Some((1, 25)));
+        // A service of one byte, so that 02 is read as the flags and 05 is left.
+        assert_eq!(of_message(&changed(type_number, 25, 0x7F)), None);
+    }
+}
+
+#[test]
+fn a_digit_over_9_is_told_at_its_byte() {
+    for type_number in [1, 2] {
+        for place in [19, 20, 22, 23, 24] {
+            for value in 10..=255 {
+                assert_eq!(of_message(&changed(type_number, place, value)), Some((2, place)));
+                assert_eq!(of_message(&changed(type_number, place, value)[..=place]), Some((2, place)));
+            }
+        }
+    }
+}
+
+#[test]
+fn the_first_fault_from_the_left_is_told() {
+    let mut bytes = with_fields(1, &FIELDS);
+    for (place, value) in [(27, 9), (26, 0), (23, 10), (21, 16), (20, 10), (18, 99), (1, 6), (0, 0)] {
+        bytes[place] = value;
+        let first = if place == 26 { 25 } else { place };
+        assert_eq!(of_message(&bytes).map(|(_, place)| place), Some(first));
+    }
+}
+
+#[test]
+fn no_byte_of_an_identifier_is_a_fault() {
+    for bytes in good_messages() {
+        for place in 2..18 {
+            for value in 0..=255 {
+                let mut other = bytes.clone();
+                other[place] = value;
+                assert_eq!(of_message(&other), None);
+            }
+        }
+    }
+}
