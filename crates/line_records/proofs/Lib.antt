@@ -1,3 +1,4 @@
 pub mod RecordsLaws
 pub mod LinesLaws
 pub mod ChangeLaws
+pub mod SearchLaws

@@ -7,9 +7,9 @@ use crate::places::load;
 use crate::places::put_record;
 use crate::places::remove_record;
 use crate::places::turn_record;
+use crate::search::is_marked;
 use line_table::line::with_status;
 use line_table::record::Change;
-use line_table::search::is_marked;
 use lists::words::Words;
 ghost use mathlib.Core.Path.{_≡_};
 ghost use Rattle.line_records.specs.Layout.{places};
@@ -19,8 +19,8 @@ ghost use Rattle.line_records.specs.Change.{markPlace, marked, statusSto
 fn mark_place(words: &mut [u64; WORDS], i: usize, number: Words)
     ensures { λ r. ⌜ now (words .exit) ≡ markPlace number i (now (words .entry)) ⌝ }
 {
-    let r = load(words, i);
-    if is_marked(number, r) {
+    if is_marked(words, i, number) {
+        let r = load(words, i);
         let state = r.state;
         turn_record(words, i, state, true, r.suspended);
     }

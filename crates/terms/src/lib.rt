@@ -49,24 +49,61 @@ pub fn no_terms() -> Terms
     }
 }
 
+// What the terms at the front of some words say of one thing: its words alone are read. Of too few words, what no terms say.
+pub fn identifier_at(row: &[u64]) -> Words
+    ensures { λ r. ⌜ r ≡ termsAt (now (row .entry)) .identifier ⌝ }
+{
+    if WIDTH <= row.len() {
+        return Words {
+            low: row[0],
+            high: row[1],
+        };
+    }
+    Words { low: 0, high: 0 }
+}
+
+pub fn number_a_at(row: &[u64]) -> Words
+    ensures { λ r. ⌜ r ≡ termsAt (now (row .entry)) .numberA ⌝ }
+{
+    if WIDTH <= row.len() {
+        return Words {
+            low: row[2],
+            high: row[3],
+        };
+    }
+    Words { low: 0, high: 0 }
+}
+
+pub fn number_b_at(row: &[u64]) -> Words
+    ensures { λ r. ⌜ r ≡ termsAt (now (row .entry)) .numberB ⌝ }
+{
+    if WIDTH <= row.len() {
+        return Words {
+            low: row[4],
+            high: row[5],
+        };
+    }
+    Words { low: 0, high: 0 }
+}
+
+pub fn kind_at(row: &[u64]) -> Kind
+    ensures { λ r. ⌜ r ≡ termsAt (now (row .entry)) .kind ⌝ }
+{
+    if WIDTH <= row.len() {
+        return kind_of(row[7]);
+    }
+    Kind::Ccbs
+}
+
 // The terms at the front of some words; of too few words, none.
 pub fn terms_of(row: &[u64]) -> Terms
     ensures { λ r. ⌜ r ≡ termsAt (now (row .entry)) ⌝ }
 {
     if WIDTH <= row.len() {
-        let identifier = Words {
-            low: row[0],
-            high: row[1],
-        };
-        let numberA = Words {
-            low: row[2],
-            high: row[3],
-        };
-        let numberB = Words {
-            low: row[4],
-            high: row[5],
-        };
-        let kind = kind_of(row[7]);
+        let identifier = identifier_at(row);
+        let numberA = number_a_at(row);
+        let numberB = number_b_at(row);
+        let kind = kind_at(row);
         let keep = keep_of(row[8]);
         let connection = connection_of(row[9]);
         return Terms {

@@ -7,32 +7,20 @@ use borrow.Author.Needs.{needs}
 use Rattle.terms.proofs.terms_of.Statement.{statement}
 use Rattle.terms.proofs.terms_of.Tie as tie
 
-shared-slice-read-kind-of : tie.Need-shared-slice-read-kind-of
-shared-slice-read-kind-of c = search needs
+identifier-at-requires : tie.Need-identifier-at-requires
+identifier-at-requires c κs = search needs
+
+number-a-at-requires : tie.Need-number-a-at-requires
+number-a-at-requires c κs = search needs
+
+number-b-at-requires : tie.Need-number-b-at-requires
+number-b-at-requires c κs = search needs
+
+kind-at-requires : tie.Need-kind-at-requires
+kind-at-requires c κs = search needs
 
 shared-slice-read-keep-of : tie.Need-shared-slice-read-keep-of
 shared-slice-read-keep-of c = search needs
-
-shared-slice-read-kind-of-2 : tie.Need-shared-slice-read-kind-of-2
-shared-slice-read-kind-of-2 c = search needs
-
-shared-slice-read-keep-of-2 : tie.Need-shared-slice-read-keep-of-2
-shared-slice-read-keep-of-2 c = search needs
-
-shared-slice-read-kind-of-3 : tie.Need-shared-slice-read-kind-of-3
-shared-slice-read-kind-of-3 c = search needs
-
-shared-slice-read-keep-of-3 : tie.Need-shared-slice-read-keep-of-3
-shared-slice-read-keep-of-3 c = search needs
-
-shared-slice-read-kind-of-4 : tie.Need-shared-slice-read-kind-of-4
-shared-slice-read-kind-of-4 c = search needs
-
-kind-of-requires : tie.Need-kind-of-requires
-kind-of-requires c κs = search needs
-
-shared-slice-read-keep-of-4 : tie.Need-shared-slice-read-keep-of-4
-shared-slice-read-keep-of-4 c = search needs
 
 keep-of-requires : tie.Need-keep-of-requires
 keep-of-requires c κs = search needs
@@ -43,14 +31,15 @@ shared-slice-read-connection-of c = search needs
 connection-of-requires : tie.Need-connection-of-requires
 connection-of-requires c κs = search needs
 
-shared-slice-read-t13 : tie.Need-shared-slice-read-t13
-shared-slice-read-t13 c = search needs
+shared-slice-read-t11 : tie.Need-shared-slice-read-t11
+shared-slice-read-t11 c = search needs
 
 returns : tie.Need-returns
 unfolding termsOf
 returns c =
-    let row = now (c .before .before .before .before .before .before .before .before .before .before .before .before .before .before .before .args .row) in
-    rw (terms-at row (c .before .before .before .before .before .before .before .before .before .before .before .before .before .if1 .taken), c .before .before .before .before .before .kind-of .ensures, c .before .before .before .keep-of .ensures, c .before .connection-of .ensures)
+    let asked = c .before .before .before .before .before in
+    let row = now (asked .before .before .before .before .before .before .args .row) in
+    rw (asked .before .before .before .identifier-at .ensures, asked .before .before .number-a-at .ensures, asked .before .number-b-at .ensures, asked .kind-at .ensures, c .before .before .before .keep-of .ensures, c .before .connection-of .ensures, terms-at row (asked .before .before .before .before .if1 .taken))
 
 no-terms-requires : tie.Need-no-terms-requires
 no-terms-requires c κs = search needs
@@ -63,19 +52,15 @@ pub terms-of-spec : {M : Type 1} → statement M
 terms-of-spec =
     tie.close
     (tie.spec
-    shared-slice-read-kind-of
+    identifier-at-requires
+    number-a-at-requires
+    number-b-at-requires
+    kind-at-requires
     shared-slice-read-keep-of
-    shared-slice-read-kind-of-2
-    shared-slice-read-keep-of-2
-    shared-slice-read-kind-of-3
-    shared-slice-read-keep-of-3
-    shared-slice-read-kind-of-4
-    kind-of-requires
-    shared-slice-read-keep-of-4
     keep-of-requires
     shared-slice-read-connection-of
     connection-of-requires
-    shared-slice-read-t13
+    shared-slice-read-t11
     returns
     no-terms-requires
     returns-2)

@@ -1,6 +1,7 @@
 -- What was counted is what the places before i hold.
 use Prim.Native.Nat.{_≤_, _-_, _+_}
-use mathlib.Core.Path.{_≡_, sym, _∙_}
+use mathlib.Core.Path.{_≡_, sym}
+use mathlib.Core.Bool.{true, false}
 use mathlib.Core.Logic.{⊎-elim}
 use native.Mathlib.Omega.{arith}
 use borrow.Author.Needs.{needs}
@@ -12,6 +13,7 @@ use Rattle.line_table.specs.Search.{ofLine}
 use Rattle.line_records.specs.Layout.{places}
 use Rattle.line_records.specs.Records.{records, blank}
 use Rattle.line_records.proofs.RecordsLaws.{records-length}
+use Rattle.line_records.proofs.SearchLaws.{row-told}
 use Rattle.line_records.proofs.search.count_line.Statement.{statement}
 use Rattle.line_records.proofs.search.count_line.Tie as tie
 
@@ -24,11 +26,11 @@ abbrev μ-loop : tie.MeasureT-loop
 loop-holds : tie.Need-loop-holds Inv-loop μ-loop
 loop-holds c = (omega arith, (omega arith, omega arith))
 
-load-requires : tie.Need-load-requires Inv-loop μ-loop
-load-requires c κs = search needs
+row-of-requires : tie.Need-row-of-requires Inv-loop μ-loop
+row-of-requires c κs = search needs
 
-of-line-requires : tie.Need-of-line-requires Inv-loop μ-loop
-of-line-requires c κs = search needs
+is-of-line-requires : tie.Need-is-of-line-requires Inv-loop μ-loop
+is-of-line-requires c κs = search needs
 
 add-found : tie.Need-add-found Inv-loop μ-loop
 add-found c = omega arith
@@ -41,14 +43,15 @@ loop-less c = omega arith
 
 loop-again : tie.Need-loop-again Inv-loop μ-loop
 loop-again c =
-    let a = c .before .before .before .before .before .args in
+    let a = c .before .before .before .before .before .before .args in
     let rs = records (now (a .words)) in
     let k = records-length (now (a .words)) in
     let p = ofLine (a .number) in
-    let l = c .before .before .before .before .loop in
+    let l = c .before .before .before .before .before .loop in
+    let told = row-told (now (a .words)) _ (l .i) (c .before .before .before .before .loop-test .taken) (c .before .before .row-of .ensures .0) p (c .before .is-of-line .ensures) in
     ⊎-elim
-    (λ w. omega (arith, count-hit p rs (l .i) (l .found) blank (omega arith) (rw (c .before .before .load .ensures) at (sym (c .before .of-line .ensures) ∙ w .0 .taken)) (l .inv .1 .1), w .1))
-    (λ w. omega (arith, count-miss p rs (l .i) (l .found) blank (omega arith) (rw (c .before .before .load .ensures) at (sym (c .before .of-line .ensures) ∙ w .0 .left)) (l .inv .1 .1), w .1))
+    (λ w. omega (arith, count-hit p rs (l .i) (l .found) blank (omega arith) (told true (w .0 .taken)) (l .inv .1 .1), w .1))
+    (λ w. omega (arith, count-miss p rs (l .i) (l .found) blank (omega arith) (told false (w .0 .left)) (l .inv .1 .1), w .1))
     (c .if1 .came)
 
 returns : tie.Need-returns Inv-loop μ-loop
@@ -65,8 +68,8 @@ count-line-spec =
     Inv-loop
     μ-loop
     loop-holds
-    load-requires
-    of-line-requires
+    row-of-requires
+    is-of-line-requires
     add-found
     add-i
     loop-less

@@ -1,7 +1,7 @@
 -- A search for each.
 use borrow.Author.Needs.{needs}
-use Rattle.line_table.proofs.search.is_sought.Statement.{statement}
-use Rattle.line_table.proofs.search.is_sought.Tie as tie
+use Rattle.line_records.proofs.search.is_sought.Statement.{statement}
+use Rattle.line_records.proofs.search.is_sought.Tie as tie
 
 enum-known-sought : tie.Need-enum-known-sought
 enum-known-sought c = search needs
