@@ -77,6 +77,7 @@ typedef struct tollherring_outcome {
 #define TOLLHERRING_BUSY_AGAIN_KEPT 7
 #define TOLLHERRING_BUSY_AGAIN_ENDED 8
 #define TOLLHERRING_CANCELLED 9
+#define TOLLHERRING_BUSY_AGAIN_WAITING 10 /* busy again, now waiting for free: the request was CCNR, was kept and is CCBS from now on */
 
 /* refusals */
 #define TOLLHERRING_BYTES_END 1       /* bytes end inside a message: the place is their length; or a number is over two bytes or not shortest: it is less */

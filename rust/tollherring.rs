@@ -98,6 +98,8 @@ numbered! {
         BusyAgainKept = 7,
         BusyAgainEnded = 8,
         Cancelled = 9,
+        /// Busy again, now waiting for free: the request was CCNR, was kept and is CCBS from now on.
+        BusyAgainWaiting = 10,
     }
 }
 

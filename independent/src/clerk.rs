@@ -265,6 +265,20 @@ impl Record {
         self.state = State::Suspended;
         Outcome::done().sending(self.sends_suspend())
     }
+
+    /// "busy again and keep, Invoked, "busy again, kept""; READINGS 13: it
+    /// names no timer. Request 5 of document 02: "Only a record that was CCNR
+    /// has the notice "busy again, now waiting for free" (notice 10); one that
+    /// is CCBS, a converted one the next time too, has "busy again, kept"."
+    fn on_busy_again_kept(&mut self) -> Outcome {
+        let notice = match self.kind {
+            Kind::Ccbs => Notice::BusyAgainKept,
+            Kind::Ccnr => Notice::NowWaitingForFree,
+        };
+        self.kind = Kind::Ccbs;
+        self.state = State::Invoked;
+        Outcome::done().telling(notice)
+    }
 }
 
 impl ClerkDesk {
@@ -381,11 +395,7 @@ impl ClerkDesk {
             return self.delete(place).telling(Notice::Failed);
         }
         match self.records.get_mut(place) {
-            Some(record) if record.keep == Some(true) => {
-                // READINGS 13: ""busy again, kept" name none" (of the timers).
-                record.state = State::Invoked;
-                Outcome::done().telling(Notice::BusyAgainKept)
-            }
+            Some(record) if record.keep == Some(true) => record.on_busy_again_kept(),
             _ => self.delete(place).telling(Notice::BusyAgainEnded),
         }
     }
@@ -500,6 +510,24 @@ mod tests {
         let ended = Outcome::done().telling(Notice::BusyAgainEnded).stopping(T2);
         assert_eq!(desk.take(&busy_again(), false), ended);
         assert!(desk.records.is_empty());
+    }
+
+    #[test]
+    fn request_5_a_ccnr_record_met_busy_again_becomes_ccbs_once() {
+        let mut desk = ClerkDesk::default();
+        desk.ask(&Ask { kind: Kind::Ccnr, ..an_ask(ID, true) });
+        desk.take(&message(Carrier::Connect, ID, Content::RequestResult { keep: 1 }), false);
+        for notice in [Notice::NowWaitingForFree, Notice::BusyAgainKept, Notice::BusyAgainKept] {
+            desk.take(&message(Carrier::Facility, ID, Content::CcExecPossible), false);
+            desk.accept(&ID);
+            assert_eq!(desk.take(&busy_again(), false), Outcome::done().telling(notice));
+            assert_eq!((desk.records[0].kind, desk.records[0].state), (Kind::Ccbs, State::Invoked));
+        }
+        // Without keep it ends as before, whatever the kind.
+        let mut desk = ringing_out(true, 0);
+        desk.records[0].kind = Kind::Ccnr;
+        let ended = Outcome::done().telling(Notice::BusyAgainEnded).stopping(T2);
+        assert_eq!(desk.take(&busy_again(), false), ended);
     }
 
     #[test]

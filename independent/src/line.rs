@@ -357,7 +357,10 @@ impl LineDesk {
 
     /// "ccRingout in Await: line free, clear the suspended mark, Alert. Line
     /// busy: send remoteUserBusyAgain; keep, Invoked with activity marked and
-    /// the suspended mark cleared; otherwise delete."
+    /// the suspended mark cleared; otherwise delete." Request 5 of document 02:
+    /// "The line's end makes a CCNR record CCBS when it sends
+    /// remoteUserBusyAgain and keeps"; "The line's allowed kinds are not asked
+    /// again."
     fn on_ringout(&mut self, place: usize) -> Outcome {
         let busy = self.records.get(place).is_some_and(|r| self.line_busy(&r.number_b));
         let Some(record) = self.records.get_mut(place) else {
@@ -373,6 +376,7 @@ impl LineDesk {
         if !record.keep {
             return self.delete(place).sending(answer);
         }
+        record.kind = Kind::Ccbs;
         record.state = State::Invoked;
         record.active = true;
         record.suspended = false;
@@ -609,6 +613,38 @@ mod tests {
                 assert!(desk.records.is_empty());
             }
         }
+    }
+
+    #[test]
+    fn request_5_a_kept_ccnr_record_becomes_ccbs_on_any_line() {
+        // "The line's allowed kinds are not asked again."
+        let only_ccnr = Line { allows_ccbs: false, ..line(&[1]) };
+        let mut desk = LineDesk::start(vec![only_ccnr], true, true).unwrap();
+        desk.take(&request(1, Kind::Ccnr, &[1], &[1], 1));
+        desk.report(&[1], true);
+        desk.report(&[1], false);
+        for _ in 0..2 {
+            assert_eq!(desk.look(&[1]).refusal, None);
+            desk.report(&[1], true);
+            let outcome = desk.take(&message(Carrier::Setup, [1; 16], Content::CcRingout));
+            let content = Content::RingoutError { error: REMOTE_USER_BUSY_AGAIN };
+            let answer = message(Carrier::ReleaseComplete, [1; 16], content);
+            assert_eq!(outcome, Outcome::done().sending(answer));
+            let record = &desk.records[0];
+            assert_eq!((record.kind, record.state, record.active), (Kind::Ccbs, State::Invoked, true));
+            desk.report(&[1], false);
+        }
+    }
+
+    #[test]
+    fn request_5_a_ccringout_that_finds_the_line_free_keeps_the_kind() {
+        let mut desk = desk(&[&[1]], true, true);
+        desk.report(&[1], true);
+        desk.take(&request(1, Kind::Ccnr, &[1], &[1], 1));
+        desk.report(&[1], false);
+        desk.look(&[1]);
+        desk.take(&message(Carrier::Setup, [1; 16], Content::CcRingout));
+        assert_eq!((desk.records[0].kind, desk.records[0].state), (Kind::Ccnr, State::Alert));
     }
 
     #[test]

@@ -1,5 +1,5 @@
-//! An independent reference program for the desks of document 01 and request 2
-//! of document 02, written from the papers alone: 01-scope.md, READINGS.md,
+//! An independent reference program for the desks of document 01 and requests 2
+//! and 5 of document 02, written from the papers alone: 01-scope.md, READINGS.md,
 //! REPLAY.md, STORY.md, 02-change-requests.md, READINGS-02.md, REPLAY-02.md and
 //! H.450.9.
 

@@ -65,7 +65,8 @@ impl Connection {
     }
 }
 
-/// READINGS 12: "Clerk's notices, nine". The line desk has none.
+/// READINGS 12: "Clerk's notices, nine", and with request 5 of document 02 a
+/// tenth. The line desk has none.
 #[derive(Clone, Copy, PartialEq, Eq, Debug)]
 pub enum Notice {
     Accepted,
@@ -77,10 +78,12 @@ pub enum Notice {
     BusyAgainKept,
     BusyAgainEnded,
     Cancelled,
+    NowWaitingForFree,
 }
 
 impl Notice {
-    /// REPLAY: "`notice`: 0 none, 1 accepted, 2 denied short, .."
+    /// REPLAY: "`notice`: 0 none, 1 accepted, 2 denied short, .."; REPLAY-02:
+    /// "Notice 10 is "busy again, now waiting for free"".
     pub fn number(self) -> u32 {
         match self {
             Notice::Accepted => 1,
@@ -92,6 +95,7 @@ impl Notice {
             Notice::BusyAgainKept => 7,
             Notice::BusyAgainEnded => 8,
             Notice::Cancelled => 9,
+            Notice::NowWaitingForFree => 10,
         }
     }
 
@@ -106,6 +110,7 @@ impl Notice {
             Notice::BusyAgainKept => "busy again, kept",
             Notice::BusyAgainEnded => "busy again, ended",
             Notice::Cancelled => "cancelled",
+            Notice::NowWaitingForFree => "busy again, now waiting for free",
         }
     }
 }

@@ -1,5 +1,5 @@
 //! Plays a script: entries in, lines out, as REPLAY.md has them, and REPLAY-02.md
-//! in its section on request 2.
+//! in its sections on requests 2 and 5.
 
 use crate::clerk::{Ask, ClerkDesk, FreeChoice, Timer};
 use crate::codec::{message_bytes, read_message, write_message, Fault, Identifier};
@@ -524,6 +524,43 @@ mod tests {
         // "`-` else, and so with 12".
         assert_eq!(played(&from_hex("30 12 0a 04 a0..af 00 02")), "0 12 0 eeee -\n");
         assert_eq!(played(&from_hex("30 12 0a 04 a0..af 03 02")), "0 12 0 eeee -\n");
+    }
+
+    /// The lines behind a prefix of entries; `ID` in a line is a0 to af.
+    fn lines_behind(script: &str, count: usize) -> Vec<String> {
+        let identifier: String = (0xA0..=0xAF).map(|byte| format!("{byte:02x}")).collect();
+        let text = played(&from_hex(script)).replace(&identifier, "ID");
+        text.lines().skip(count).map(str::to_string).collect()
+    }
+
+    #[test]
+    fn request_5_the_kind_is_printed_as_it_is_now() {
+        // CCNR, can-keep; the result with keep in Connect; then twice: offered,
+        // accepted, busy again.
+        let again = "11 00 12 05 03 a0..af 12 a0..af 11 00 13 07 04 a0..af 01";
+        let start = "10 a0..af 02 00 01 05 00 00 01 00 11 00 13 03 02 a0..af 01";
+        let lines = lines_behind(&format!("{start} 40 {again} 40 {again} 40"), 2);
+        let expected = [
+            "2 c 1",
+            "c ID 2 - 5 0 1 1 1 2",
+            "3 0 - 4 0 4 0 0 -",
+            "4 0 0601ID 0 4 0 0 0 -",
+            "5 0 - 0 0 10 0 0 -",
+            "6 c 1",
+            "c ID 1 - 5 0 1 1 1 2",
+            "7 0 - 4 0 4 0 0 -",
+            "8 0 0601ID 0 4 0 0 0 -",
+            "9 0 - 0 0 7 0 0 -",
+            "10 c 1",
+            "c ID 1 - 5 0 1 1 1 2",
+        ];
+        assert_eq!(lines, expected);
+        // The line's end: a line that allows CCNR alone, busy at the request.
+        let start = "01 01 01 05 02 03 21 01 05 01 20 17 02 01 a0..af 00 01 05 00 01 21 01 05 00 22 01 05";
+        let lines = lines_behind(&format!("{start} 21 01 05 01 20 12 06 01 a0..af 41"), 5);
+        let expected =
+            ["5 0 - 0 0 0 0 0 -", "6 0 0704ID01 0 0 0 0 0 -", "7 l 1 1", "l 5 2 1", "r ID 1 - 5 0 1 1 1 1 0"];
+        assert_eq!(lines, expected);
     }
 
     #[test]

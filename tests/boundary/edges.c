@@ -105,7 +105,7 @@ static void sane(const struct entry *e, const struct desks *before, const struct
     size_t i;
     EXPECT(o->refusal < TOLLHERRING_NO_ROOM);
     EXPECT(o->length == 0 || (o->length >= TOLLHERRING_MESSAGE_LEAST && o->length <= TOLLHERRING_MESSAGE_MOST));
-    EXPECT(o->next <= e->length && o->starts <= 15 && o->stops <= 15 && o->notice <= TOLLHERRING_CANCELLED && o->clear <= 1);
+    EXPECT(o->next <= e->length && o->starts <= 15 && o->stops <= 15 && o->notice <= TOLLHERRING_BUSY_AGAIN_WAITING && o->clear <= 1);
     if (o->refusal != 0) {
         EXPECT(memcmp(before, &t->desks, sizeof *before) == 0);
         EXPECT(o->starts == 0 && o->stops == 0 && o->notice == 0 && o->clear == 0);

@@ -266,7 +266,7 @@ fn lists() {
         }
     }
     list(Refusal::from_number, Refusal::number, 1, 12);
-    list(Notice::from_number, Notice::number, 1, 9);
+    list(Notice::from_number, Notice::number, 1, 10);
     list(Kind::from_number, Kind::number, 1, 2);
     list(Preference::from_number, Preference::number, 0, 2);
     list(Act::from_number, Act::number, 1, 4);

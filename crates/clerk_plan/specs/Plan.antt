@@ -65,7 +65,7 @@ rowDecision i r l message row =
     (Refuse 7 (replyUnfit message (l .carrier)))
 
 abbrev pub recordDecision : ℕ → Record → Letter → Bool → RecordMessage → Decision
-recordDecision i r l busy message = rowDecision i r l message (rowFor message busy (r .terms .keep))
+recordDecision i r l busy message = rowDecision i r l message (rowFor message busy (r .terms .keep) (r .terms .kind))
 
 abbrev pub messageFound : List Record → Letter → Bool → RecordMessage → Found → Decision
 messageFound rs l busy message Nothing = Refuse 6 (replyUnmatched message)

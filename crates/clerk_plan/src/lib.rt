@@ -90,7 +90,8 @@ fn decide_record(place: usize, r: Record, l: Letter, busy: bool, message: Record
 {
     let terms = r.terms;
     let keep = terms.keep;
-    decide_row(place, r, l, message, row_for(message, busy, keep))
+    let kind = terms.kind;
+    decide_row(place, r, l, message, row_for(message, busy, keep, kind))
 }
 
 // A message, by the record with its identifier: 3, 6, 7, 8.

@@ -15,8 +15,6 @@ use Rattle.lists.specs.Words.{sameWords}
 use Rattle.lists.specs.declared.words.Words.{Words}
 use Rattle.lists.proofs.Choice.{pick-elim}
 use Rattle.lists.proofs.Lists.{without-past}
-use Rattle.desk.specs.declared.Connection.{Connection}
-use Rattle.desk.specs.declared.Keep.{Keep}
 use Rattle.store.specs.Rows.{stateWord, live, free, hasIdentifier, rows, blankRow, rowsFit, found, removedRow}
 use Rattle.store.proofs.RowsLaws.{fit-from, put-length, turn-length, drop-length}
 use Rattle.store.proofs.Decoded.{identified-live, free-live, decoded-length, decoded-past, decoded-found, decoded-at, decoded-put, decoded-turn, decoded-drop}
@@ -27,6 +25,7 @@ use Rattle.terms.proofs.TermsLaws.{terms-back, terms-front, word-from, terms-ch
 use Rattle.clerk_table.specs.declared.table.State.{State}
 use Rattle.clerk_table.specs.declared.table.State.the-variants.{Free, WaitAck, Invoked, WaitAnswer, Ringout, Suspended}
 use Rattle.clerk_table.specs.declared.record.Record.{Record}
+use Rattle.clerk_table.specs.declared.record.Turned.{Turned}
 use Rattle.clerk_table.specs.declared.record.Change.{Change}
 use Rattle.clerk_table.specs.declared.record.Change.the-variants.{Stay, Put, Turn, Remove}
 use Rattle.clerk_records.specs.Codes.{stateOf, stateCode}
@@ -47,16 +46,15 @@ pub record-back : (r : Record) → recordOf (recordWords r) ≡ r
 unfolding recordOf
 record-back r = rw (terms-back (r .terms) _, state-back (r .state), flag-back (r .canKeep))
 
--- a row with other choices and another state: can-keep, behind them, is read as it was
+-- a row that is turned: can-keep, behind what is put anew, is read as it was
 record-turned :
-    (keep : Keep) (connection : Connection) (state : State) (row : List ℕ) → width ≤ length row →
-    recordOf (take choicesAt row ++ over (turnedWords keep connection state) (drop choicesAt row)) ≡ turned keep connection state (recordOf row)
+    (t : Turned) (row : List ℕ) → width ≤ length row → recordOf (take choicesAt row ++ over (turnedWords t) (drop choicesAt row)) ≡ turned t (recordOf row)
 unfolding recordOf
-record-turned keep connection state row long =
-    let words = over (turnedWords keep connection state) (drop choicesAt row) in
+record-turned t row long =
+    let words = over (turnedWords t) (drop choicesAt row) in
     let new = word-from choicesAt row words (omega arith) in
-    let behind : getD words 3 0 ≡ getD row canKeepAt 0 = getD-drop 3 (drop choicesAt row) 0 0 ∙ getD-drop choicesAt row 3 0 in
-    rw (terms-chosen row _ keep connection (omega arith), new 2, state-back state, new 3 ∙ behind)
+    let behind : getD words 4 0 ≡ getD row canKeepAt 0 = getD-drop 4 (drop choicesAt row) 0 0 ∙ getD-drop choicesAt row 4 0 in
+    rw (terms-chosen row _ (t .keep) (t .connection) (t .kind) (omega arith), new 3, state-back (t .state), new 4 ∙ behind)
 
 -- a state word from 1 to the last is a record in use
 state-live : (w : ℕ) → both (ltb 0 w) (leb w lastState) ≡ inUse (stateOf w)
@@ -124,9 +122,9 @@ applied-length ws l (Put i r) =
     pick-elim (λ (x : List ℕ). length x ≡ words) (ltb i places)
     (λ t. put-length width places ws i (recordWords r) refl (ltb-true i places t) (omega arith) ∙ l)
     (λ f. l)
-applied-length ws l (Turn i keep connection state) =
+applied-length ws l (Turn i turn) =
     pick-elim (λ (x : List ℕ). length x ≡ words) (ltb i places)
-    (λ t. turn-length width places ws i choicesAt (turnedWords keep connection state) (omega arith) (ltb-true i places t) (omega arith) ∙ l)
+    (λ t. turn-length width places ws i choicesAt (turnedWords turn) (omega arith) (ltb-true i places t) (omega arith) ∙ l)
     (λ f. l)
 applied-length ws l (Remove i) =
     pick-elim (λ (x : List ℕ). length x ≡ words) (rowsFit width places (length ws))
@@ -148,14 +146,13 @@ put-records ws i r l =
     (λ f. sym (set-out (map recordOf (rows width places ws)) i r (omega (arith, ltb-false i places f, decoded-length width places recordOf ws))))
 
 turn-records :
-    (ws : List ℕ) (i : ℕ) (keep : Keep) (connection : Connection) (state : State) → length ws ≡ words →
-    records (applied ws (Turn i keep connection state)) ≡ set (records ws) i (turned keep connection state (getD (records ws) i blank))
+    (ws : List ℕ) (i : ℕ) (turn : Turned) → length ws ≡ words → records (applied ws (Turn i turn)) ≡ set (records ws) i (turned turn (getD (records ws) i blank))
 unfolding applied records
-turn-records ws i keep connection state l =
+turn-records ws i turn l =
     let rs = map recordOf (rows width places ws) in
-    let r = turned keep connection state (getD rs i blank) in
+    let r = turned turn (getD rs i blank) in
     pick-elim (λ (x : List ℕ). map recordOf (rows width places x) ≡ set rs i r) (ltb i places)
-    (λ t. decoded-turn width places recordOf choicesAt (turnedWords keep connection state) (turned keep connection state) (record-turned keep connection state) record-front ws i (omega arith) (ltb-true i places t) (omega arith))
+    (λ t. decoded-turn width places recordOf choicesAt (turnedWords turn) (turned turn) (record-turned turn) record-front ws i (omega arith) (ltb-true i places t) (omega arith))
     (λ f. sym (set-out rs i r (omega (arith, ltb-false i places f, decoded-length width places recordOf ws))))
 
 remove-records : (ws : List ℕ) (i : ℕ) → length ws ≡ words → records (applied ws (Remove i)) ≡ without blank (records ws) i
@@ -170,5 +167,5 @@ pub records-applied : (ws : List ℕ) → length ws ≡ words → (c : Change) �
 unfolding applied
 records-applied ws l Stay = refl
 records-applied ws l (Put i r) = put-records ws i r l
-records-applied ws l (Turn i keep connection state) = turn-records ws i keep connection state l
+records-applied ws l (Turn i turn) = turn-records ws i turn l
 records-applied ws l (Remove i) = remove-records ws i l

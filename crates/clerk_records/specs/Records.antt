@@ -10,14 +10,13 @@ use Rattle.lists.specs.Words.{sameWords}
 use Rattle.lists.specs.declared.Found.{Found}
 use Rattle.lists.specs.declared.words.Words.{Words}
 use Rattle.store.specs.Rows.{stateWord, rows, putRow, turnRow, removedRow}
-use Rattle.desk.specs.declared.Connection.{Connection}
-use Rattle.desk.specs.declared.Keep.{Keep}
 use Rattle.terms.specs.Codes.{flagCode}
-use Rattle.terms.specs.Terms.{choicesAt, termsOf, choiceWords, termsWords, withChoices}
+use Rattle.terms.specs.Terms.{choicesAt, termsOf, choiceWords, termsWords, withChoices, withKind}
 use Rattle.clerk_table.specs.Record.{withState, withTerms}
 use Rattle.clerk_table.specs.declared.table.State.{State}
 use Rattle.clerk_table.specs.declared.table.State.the-variants.{Free, WaitAck, Invoked, WaitAnswer, Ringout, Suspended}
 use Rattle.clerk_table.specs.declared.record.Record.{Record}
+use Rattle.clerk_table.specs.declared.record.Turned.{Turned}
 use Rattle.clerk_table.specs.declared.record.Change.{Change}
 use Rattle.clerk_table.specs.declared.record.Change.the-variants.{Stay, Put, Turn, Remove}
 use Rattle.clerk_records.specs.Codes.{stateOf, stateCode}
@@ -32,8 +31,8 @@ abbrev pub recordWords : Record → List ℕ
 recordWords r = termsWords (r .terms) ++ (stateCode (r .state) ∷ flagCode (r .canKeep) ∷ [])
 
 -- the words of a row that a turn puts anew, from the choices on
-abbrev pub turnedWords : Keep → Connection → State → List ℕ
-turnedWords keep connection state = choiceWords keep connection ++ (stateCode state ∷ [])
+abbrev pub turnedWords : Turned → List ℕ
+turnedWords t = choiceWords (t .keep) (t .connection) (t .kind) ++ (stateCode (t .state) ∷ [])
 
 -- what a free place holds, and what is read past the last
 abbrev pub blank : Record
@@ -70,20 +69,20 @@ unfoldable pub place : List Record → Found
 place rs = first unused rs
 
 -- ---- a planned change
--- a record with other choices and in another state
-abbrev pub turned : Keep → Connection → State → Record → Record
-turned keep connection state r = withState (withTerms r (withChoices (r .terms) keep connection)) state
+-- a record with other choices, of another kind and in another state
+abbrev pub turned : Turned → Record → Record
+turned t r = withState (withTerms r (withKind (withChoices (r .terms) (t .keep) (t .connection)) (t .kind))) (t .state)
 
 -- the records afterwards
 abbrev pub recordsAfter : List Record → Change → List Record
 recordsAfter rs Stay = rs
 recordsAfter rs (Put i r) = set rs i r
-recordsAfter rs (Turn i keep connection state) = set rs i (turned keep connection state (getD rs i blank))
+recordsAfter rs (Turn i t) = set rs i (turned t (getD rs i blank))
 recordsAfter rs (Remove i) = without blank rs i
 
 -- the words afterwards; a place that is not there changes nothing
 unfoldable pub applied : List ℕ → Change → List ℕ
 applied words Stay = words
 applied words (Put i r) = pick (ltb i places) (putRow width words i (recordWords r)) words
-applied words (Turn i keep connection state) = pick (ltb i places) (turnRow width words i choicesAt (turnedWords keep connection state)) words
+applied words (Turn i t) = pick (ltb i places) (turnRow width words i choicesAt (turnedWords t)) words
 applied words (Remove i) = removedRow width places words i

@@ -8,14 +8,14 @@ use crate::codes::state_code;
 use crate::codes::state_of;
 use clerk_table::record::Change;
 use clerk_table::record::Record;
+use clerk_table::record::Turned;
 use clerk_table::table::State;
-use desk::Connection;
-use desk::Keep;
 use lists::Found;
 use lists::words::Words;
 use terms::codes::connection_code;
 use terms::codes::flag_code;
 use terms::codes::keep_code;
+use terms::codes::kind_code;
 use terms::no_terms;
 use terms::put_terms;
 use terms::terms_of;
@@ -105,22 +105,27 @@ fn put_in(words: &mut [u64], i: usize, r: Record)
     put_words(&mut words[at..], r);
 }
 
-// The choices and the state over the front of some words: they stand in a row one behind the other.
-fn turn_words(words: &mut [u64], keep: Keep, connection: Connection, state: State)
-    requires { ⌜ length (turnedWords keep connection state) ≤ length (now words) ⌝ }
-    ensures { λ q. ⌜ now (words .exit) ≡ over (turnedWords keep connection state) (now (words .entry)) ⌝ }
+// What a turn gives, over the front of some words: in a row it stands one behind the other.
+fn turn_words(words: &mut [u64], t: Turned)
+    requires { ⌜ length (turnedWords t) ≤ length (now words) ⌝ }
+    ensures { λ q. ⌜ now (words .exit) ≡ over (turnedWords t) (now (words .entry)) ⌝ }
 {
+    let keep = t.keep;
+    let connection = t.connection;
+    let kind = t.kind;
+    let state = t.state;
     words[0] = keep_code(keep);
     words[1] = connection_code(connection);
-    words[2] = state_code(state);
+    words[2] = kind_code(kind);
+    words[3] = state_code(state);
 }
 
-fn turn_in(words: &mut [u64], i: usize, keep: Keep, connection: Connection, state: State)
+fn turn_in(words: &mut [u64], i: usize, t: Turned)
     requires { ⌜ (i < Layout.places) × (Layout.words ≤ length (now words)) ⌝ }
-    ensures { λ q. ⌜ now (words .exit) ≡ turnRow Layout.width (now (words .entry)) i choicesAt (turnedWords keep connection state) ⌝ }
+    ensures { λ q. ⌜ now (words .exit) ≡ turnRow Layout.width (now (words .entry)) i choicesAt (turnedWords t) ⌝ }
 {
     let at = i * WIDTH + terms::CHOICES_AT;
-    turn_words(&mut words[at..], keep, connection, state);
+    turn_words(&mut words[at..], t);
 }
 
 // A planned change, made in place.
@@ -134,9 +139,9 @@ pub fn apply(words: &mut [u64; WORDS], change: Change)
                 put_in(words, i, r);
             }
         }
-        Change::Turn(i, keep, connection, state) => {
+        Change::Turn(i, t) => {
             if i < PLACES {
-                turn_in(words, i, keep, connection, state);
+                turn_in(words, i, t);
             }
         }
         Change::Remove(i) => store::remove(words, WIDTH, PLACES, i),

@@ -10,6 +10,8 @@ use Rattle.lists.specs.declared.Found.{Found}
 use Rattle.lists.specs.declared.Found.the-variants.{At, Nothing}
 use Rattle.lists.specs.declared.words.Words.{Words}
 use Rattle.lists.proofs.Choice.{pick-elim, no-true}
+use Rattle.message.specs.declared.Kind.{Kind}
+use Rattle.message.specs.declared.Kind.the-variants.{Ccbs, Ccnr}
 use Rattle.message.specs.declared.Carrier.{Carrier}
 use Rattle.message.specs.declared.Carrier.the-variants.{Setup, Connect, Facility, ReleaseComplete, Alerting}
 use Rattle.desk.specs.Carriers.{carrierFits}
@@ -22,14 +24,15 @@ use Rattle.terms.specs.declared.request.Request.{Request}
 use Rattle.places.specs.Places.{Moved, stays, turns, stores, removes}
 use Rattle.places.proofs.Holding.{meant-its}
 use Rattle.clerk_table.specs.Table.{holdsIn}
-use Rattle.clerk_table.specs.Record.{withState}
+use Rattle.terms.specs.Terms.{withKind}
+use Rattle.clerk_table.specs.Record.{withState, withTerms}
 use Rattle.clerk_table.specs.Step.{rowTaken}
 use Rattle.clerk_table.specs.Inputs.{namesOf, messageFor, rowFor, rowOfAct, rowOfTimer, errorRow, possibleRow, busyAgainRow, ringoutErrorRow, keepChosen, connectionMeant, acknowledged, settled}
 use Rattle.clerk_table.specs.declared.table.State.{State}
 use Rattle.clerk_table.specs.declared.table.State.the-variants.{Free, WaitAck, Invoked, WaitAnswer, Ringout, Suspended}
 use Rattle.clerk_table.specs.declared.table.Home.the-variants.{InInvoked, InWaitAnswer, InRingout, InSuspended}
 use Rattle.clerk_table.specs.declared.table.Row.{Row}
-use Rattle.clerk_table.specs.declared.table.Row.the-variants.{Accepted, DeniedShort, DeniedLong, Recalls, Suspends, RingsOut, Resumes, GoesOn, Completes, CallFails, BusyAgainKept, BusyAgainEnded, NotMatched, LineCancels, UserCancels, T1RunsOut, T2RunsOut, T3RunsOut}
+use Rattle.clerk_table.specs.declared.table.Row.the-variants.{Accepted, DeniedShort, DeniedLong, Recalls, Suspends, RingsOut, Resumes, GoesOn, Completes, CallFails, BusyAgainKept, BusyAgainWaiting, BusyAgainEnded, NotMatched, LineCancels, UserCancels, T1RunsOut, T2RunsOut, T3RunsOut}
 use Rattle.clerk_table.specs.declared.table.Timer.{Timer}
 use Rattle.clerk_table.specs.declared.table.Timer.the-variants.{T1, T2, T3}
 use Rattle.clerk_table.specs.declared.record.Record.{Record}
@@ -114,6 +117,7 @@ later GoesOn = true
 later Completes = true
 later CallFails = true
 later BusyAgainKept = true
+later BusyAgainWaiting = true
 later BusyAgainEnded = true
 later NotMatched = true
 later LineCancels = true
@@ -129,13 +133,14 @@ possible-later : (busy : Bool) → later (possibleRow busy) ≡ true
 possible-later true = refl
 possible-later false = refl
 
-busy-again-later : (keep : Keep) → later (busyAgainRow keep) ≡ true
-busy-again-later Keep.Empty = refl
-busy-again-later Keep.Ends = refl
-busy-again-later Keep.Keeps = refl
+busy-again-later : (keep : Keep) (kind : Kind) → later (busyAgainRow keep kind) ≡ true
+busy-again-later Keep.Empty kind = refl
+busy-again-later Keep.Ends kind = refl
+busy-again-later Keep.Keeps Ccbs = refl
+busy-again-later Keep.Keeps Ccnr = refl
 
-ringout-error-later : (error : ℕ) (keep : Keep) → later (ringoutErrorRow error keep) ≡ true
-ringout-error-later error keep = pick-elim (λ row. later row ≡ true) (eqb error 1) (λ t. busy-again-later keep) (λ f. refl)
+ringout-error-later : (error : ℕ) (keep : Keep) (kind : Kind) → later (ringoutErrorRow error keep kind) ≡ true
+ringout-error-later error keep kind = pick-elim (λ row. later row ≡ true) (eqb error 1) (λ t. busy-again-later keep kind) (λ f. refl)
 
 act-later : (act : Act) → later (rowOfAct act) ≡ true
 act-later Accept = refl
@@ -154,9 +159,11 @@ module _ (identifier : Words) (rs : List Record) (i : ℕ) (sound : Sound rs) (u
   r = getD rs i blank
 
   -- from state to state behind the acknowledgment
-  turned : (s : State) → (r .state ≡ WaitAck → ⊥) → behind s ≡ true → Moved clerkView Turned Whole identifier rs (recordsAfter rs (Turn i (r .terms .keep) (r .terms .connection) s))
-  turned s away b =
-      turns i (withState r s) u own (behind-used s b) own
+  turned :
+      (kind : Kind) (s : State) → (r .state ≡ WaitAck → ⊥) → behind s ≡ true →
+      Moved clerkView Turned Whole identifier rs (recordsAfter rs (Turn i (record { keep = r .terms .keep; connection = r .terms .connection; kind = kind; state = s })))
+  turned kind s away b =
+      turns i (withState (withTerms r (withKind (r .terms) kind)) s) u own (behind-used s b) own
       (record {
         before = λ e. absurd (not-waiting s b e);
         behind = λ n. sound .each i u .behind away;
@@ -187,14 +194,15 @@ module _ (identifier : Words) (rs : List Record) (i : ℕ) (sound : Sound rs) (u
   row-later Accepted b h = absurd (no-true b)
   row-later DeniedShort b h = gone
   row-later DeniedLong b h = gone
-  row-later Recalls b h = turned WaitAnswer (λ e. no-true (sym (ap (holdsIn InInvoked) e) ∙ h)) refl
-  row-later Suspends b h = turned Suspended (λ e. no-true (sym (ap (holdsIn InInvoked) e) ∙ h)) refl
-  row-later RingsOut b h = turned Ringout (λ e. no-true (sym (ap (holdsIn InWaitAnswer) e) ∙ h)) refl
-  row-later Resumes b h = turned Invoked (λ e. no-true (sym (ap (holdsIn InSuspended) e) ∙ h)) refl
-  row-later GoesOn b h = turned WaitAnswer (λ e. no-true (sym (ap (holdsIn InSuspended) e) ∙ h)) refl
+  row-later Recalls b h = turned (r .terms .kind) WaitAnswer (λ e. no-true (sym (ap (holdsIn InInvoked) e) ∙ h)) refl
+  row-later Suspends b h = turned (r .terms .kind) Suspended (λ e. no-true (sym (ap (holdsIn InInvoked) e) ∙ h)) refl
+  row-later RingsOut b h = turned (r .terms .kind) Ringout (λ e. no-true (sym (ap (holdsIn InWaitAnswer) e) ∙ h)) refl
+  row-later Resumes b h = turned (r .terms .kind) Invoked (λ e. no-true (sym (ap (holdsIn InSuspended) e) ∙ h)) refl
+  row-later GoesOn b h = turned (r .terms .kind) WaitAnswer (λ e. no-true (sym (ap (holdsIn InSuspended) e) ∙ h)) refl
   row-later Completes b h = gone
   row-later CallFails b h = gone
-  row-later BusyAgainKept b h = turned Invoked (λ e. no-true (sym (ap (holdsIn InRingout) e) ∙ h)) refl
+  row-later BusyAgainKept b h = turned (r .terms .kind) Invoked (λ e. no-true (sym (ap (holdsIn InRingout) e) ∙ h)) refl
+  row-later BusyAgainWaiting b h = turned Ccbs Invoked (λ e. no-true (sym (ap (holdsIn InRingout) e) ∙ h)) refl
   row-later BusyAgainEnded b h = gone
   row-later NotMatched b h = gone
   row-later LineCancels b h = gone
@@ -204,12 +212,12 @@ module _ (identifier : Words) (rs : List Record) (i : ℕ) (sound : Sound rs) (u
   row-later T3RunsOut b h = gone
 
   row-message :
-      (message : RecordMessage) (carrier : Carrier) (busy : Bool) → holdsFor (rowFor message busy (r .terms .keep)) r ≡ true →
-      Goes identifier rs (rowTaken i (settled (Meant.Record message) carrier r) (rowFor message busy (r .terms .keep)))
+      (message : RecordMessage) (carrier : Carrier) (busy : Bool) → holdsFor (rowFor message busy (r .terms .keep) (r .terms .kind)) r ≡ true →
+      Goes identifier rs (rowTaken i (settled (Meant.Record message) carrier r) (rowFor message busy (r .terms .keep) (r .terms .kind)))
   row-message (Message.Result keep) carrier busy h = row-accepted keep carrier
   row-message (Message.Error error) carrier busy h = row-later (errorRow error) (error-later error) h
   row-message Message.ExecPossible carrier busy h = row-later (possibleRow busy) (possible-later busy) h
-  row-message (Message.RingoutError error) carrier busy h = row-later (ringoutErrorRow error (r .terms .keep)) (ringout-error-later error (r .terms .keep)) h
+  row-message (Message.RingoutError error) carrier busy h = row-later (ringoutErrorRow error (r .terms .keep) (r .terms .kind)) (ringout-error-later error (r .terms .keep) (r .terms .kind)) h
   row-message Message.Cancel carrier busy h = row-later LineCancels refl h
   row-message Message.Alerts carrier busy h = row-later Completes refl h
   row-message Message.Failed carrier busy h = row-later CallFails refl h
@@ -223,12 +231,12 @@ module _ (rs : List Record) (sound : Sound rs) where
   -- messages
   means-row :
       (l : Letter) (busy : Bool) (message : RecordMessage) → messageFor (l .body) ≡ Meant.Record message → (i : ℕ) → meant (l .identifier) rs ≡ At i →
-      Means (Input.Message l busy) (rowDecision i (getD rs i blank) l message (rowFor message busy (getD rs i blank .terms .keep)))
+      Means (Input.Message l busy) (rowDecision i (getD rs i blank) l message (rowFor message busy (getD rs i blank .terms .keep) (getD rs i blank .terms .kind)))
   unfolding planOf meant
   means-row l busy message e i f =
       let its = meant-its clerkView rs (l .identifier) i f in
       let r = getD rs i blank in
-      let row = rowFor message busy (r .terms .keep) in
+      let row = rowFor message busy (r .terms .keep) (r .terms .kind) in
       pick-elim (Means (Input.Message l busy)) (holdsFor row r)
       (λ h.
       pick-elim (Means (Input.Message l busy)) (carrierFits (l .body) (r .terms .connection) (l .carrier))

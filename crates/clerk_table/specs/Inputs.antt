@@ -3,6 +3,8 @@ use Prim.Native.Nat.{ℕ}
 use mathlib.Core.Bool.{Bool}
 use lib.Dec.{eqb}
 use Rattle.lists.specs.Choice.{pick}
+use Rattle.message.specs.declared.Kind.{Kind}
+use Rattle.message.specs.declared.Kind.the-variants.{Ccbs, Ccnr}
 use Rattle.message.specs.declared.Carrier.{Carrier}
 use Rattle.message.specs.declared.Carrier.the-variants.{Setup, Connect, Facility, ReleaseComplete, Alerting}
 use Rattle.message.specs.declared.Body.{Body}
@@ -61,24 +63,29 @@ errorRow error = pick (eqb error 1) Row.DeniedShort Row.DeniedLong
 abbrev pub possibleRow : Bool → Row
 possibleRow busy = pick busy Row.Suspends Row.Recalls
 
-abbrev pub busyAgainRow : Keep → Row
-busyAgainRow Empty = Row.BusyAgainEnded
-busyAgainRow Ends = Row.BusyAgainEnded
-busyAgainRow Keeps = Row.BusyAgainKept
+-- kept: a no-reply request goes on as one that waits for free
+abbrev pub keptRow : Kind → Row
+keptRow Ccbs = Row.BusyAgainKept
+keptRow Ccnr = Row.BusyAgainWaiting
+
+abbrev pub busyAgainRow : Keep → Kind → Row
+busyAgainRow Empty kind = Row.BusyAgainEnded
+busyAgainRow Ends kind = Row.BusyAgainEnded
+busyAgainRow Keeps kind = keptRow kind
 
 -- 1 remoteUserBusyAgain, 2 failureToMatch
-abbrev pub ringoutErrorRow : ℕ → Keep → Row
-ringoutErrorRow error keep = pick (eqb error 1) (busyAgainRow keep) Row.NotMatched
+abbrev pub ringoutErrorRow : ℕ → Keep → Kind → Row
+ringoutErrorRow error keep kind = pick (eqb error 1) (busyAgainRow keep kind) Row.NotMatched
 
--- by the host's word on User A and by the record's keep choice
-abbrev pub rowFor : RecordMessage → Bool → Keep → Row
-rowFor (Message.Result keep) busy chosen = Row.Accepted
-rowFor (Message.Error error) busy chosen = errorRow error
-rowFor Message.ExecPossible busy chosen = possibleRow busy
-rowFor (Message.RingoutError error) busy chosen = ringoutErrorRow error chosen
-rowFor Message.Cancel busy chosen = Row.LineCancels
-rowFor Message.Alerts busy chosen = Row.Completes
-rowFor Message.Failed busy chosen = Row.CallFails
+-- by the host's word on User A and by the record's keep choice and kind
+abbrev pub rowFor : RecordMessage → Bool → Keep → Kind → Row
+rowFor (Message.Result keep) busy chosen kind = Row.Accepted
+rowFor (Message.Error error) busy chosen kind = errorRow error
+rowFor Message.ExecPossible busy chosen kind = possibleRow busy
+rowFor (Message.RingoutError error) busy chosen kind = ringoutErrorRow error chosen kind
+rowFor Message.Cancel busy chosen kind = Row.LineCancels
+rowFor Message.Alerts busy chosen kind = Row.Completes
+rowFor Message.Failed busy chosen kind = Row.CallFails
 
 -- ---- acts and timers
 abbrev pub rowOfAct : Act → Row

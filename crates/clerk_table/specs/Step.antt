@@ -5,6 +5,8 @@ use Rattle.lists.specs.Choice.{pick}
 use Rattle.desk.specs.Outcome.{noTimers}
 use Rattle.desk.specs.Sends.{sent}
 use Rattle.desk.specs.declared.outcome.Timers.{Timers}
+use Rattle.terms.specs.Terms.{kindAfter}
+use Rattle.terms.specs.declared.Becomes.{Becomes}
 use Rattle.clerk_table.specs.Table.{effectOf}
 use Rattle.clerk_table.specs.declared.table.State.{State}
 use Rattle.clerk_table.specs.declared.table.State.the-variants.{Free, WaitAck, Invoked, WaitAnswer, Ringout, Suspended}
@@ -22,9 +24,10 @@ use Rattle.clerk_table.specs.declared.record.Change.{Change}
 use Rattle.clerk_table.specs.declared.record.Change.the-variants.{Turn, Remove}
 use Rattle.clerk_table.specs.declared.record.Plan.{Plan}
 
-abbrev pub changed : Next → ℕ → Record → Change
-changed Gone place r = Remove place
-changed (To state) place r = Turn place (r .terms .keep) (r .terms .connection) state
+abbrev pub changed : Next → Becomes → ℕ → Record → Change
+changed Gone kind place r = Remove place
+changed (To state) kind place r =
+    Turn place (record { keep = r .terms .keep; connection = r .terms .connection; kind = kindAfter kind (r .terms .kind); state = state })
 
 abbrev pub only : Timer → Timers
 only T1 = record { t1 = true; t2 = false; t3 = false; guard = false }
@@ -64,7 +67,7 @@ cleared clears state = pick clears (inRingout state) false
 unfoldable pub rowTaken : ℕ → Record → Row → Plan
 rowTaken place r row =
     record {
-      change = changed (effectOf row .next) place r;
+      change = changed (effectOf row .next) (effectOf row .kind) place r;
       outcome = record {
         refusal = 0;
         sending = sent (effectOf row .sends) (r .terms .identifier) (r .terms .connection);

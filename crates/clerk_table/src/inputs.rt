@@ -11,6 +11,7 @@ use desk::sends::Sends;
 use lists::words::Words;
 use message::Body;
 use message::Carrier;
+use message::Kind;
 use terms::request::Names;
 use terms::request::Request;
 use terms::request::letter_names;
@@ -109,34 +110,37 @@ fn possible_row(busy: bool) -> Row
     Row::Recalls
 }
 
-fn busy_again_row(keep: Keep) -> Row
-    ensures { λ r. ⌜ r ≡ busyAgainRow keep ⌝ }
+fn busy_again_row(keep: Keep, kind: Kind) -> Row
+    ensures { λ r. ⌜ r ≡ busyAgainRow keep kind ⌝ }
 {
     match keep {
         Keep::Empty => Row::BusyAgainEnded,
         Keep::Ends => Row::BusyAgainEnded,
-        Keep::Keeps => Row::BusyAgainKept,
+        Keep::Keeps => match kind {
+            Kind::Ccbs => Row::BusyAgainKept,
+            Kind::Ccnr => Row::BusyAgainWaiting,
+        },
     }
 }
 
-fn ringout_error_row(error: u8, keep: Keep) -> Row
-    ensures { λ r. ⌜ r ≡ ringoutErrorRow error keep ⌝ }
+fn ringout_error_row(error: u8, keep: Keep, kind: Kind) -> Row
+    ensures { λ r. ⌜ r ≡ ringoutErrorRow error keep kind ⌝ }
 {
     if error == 1 {
-        return busy_again_row(keep);
+        return busy_again_row(keep, kind);
     }
     Row::NotMatched
 }
 
-// The row of a message about a record, by the host's word on User A and by the record's keep choice.
-pub fn row_for(message: RecordMessage, busy: bool, keep: Keep) -> Row
-    ensures { λ r. ⌜ r ≡ rowFor message busy keep ⌝ }
+// The row of a message about a record, by the host's word on User A and by the record's keep choice and kind.
+pub fn row_for(message: RecordMessage, busy: bool, keep: Keep, kind: Kind) -> Row
+    ensures { λ r. ⌜ r ≡ rowFor message busy keep kind ⌝ }
 {
     match message {
         RecordMessage::Result(_) => Row::Accepted,
         RecordMessage::Error(error) => error_row(error),
         RecordMessage::ExecPossible => possible_row(busy),
-        RecordMessage::RingoutError(error) => ringout_error_row(error, keep),
+        RecordMessage::RingoutError(error) => ringout_error_row(error, keep, kind),
         RecordMessage::Cancel => Row::LineCancels,
         RecordMessage::Alerts => Row::Completes,
         RecordMessage::Failed => Row::CallFails,

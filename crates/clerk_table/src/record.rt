@@ -7,6 +7,7 @@ use desk::outcome::Outcome;
 use desk::outcome::Sending;
 use desk::outcome::refused;
 use desk::sends::Sends;
+use message::Kind;
 use terms::Terms;
 use terms::request::Request;
 ghost use mathlib.Core.Path.{_≡_};
@@ -27,12 +28,19 @@ pub enum Decision {
     Store(usize, Request),
 }
 
-// What becomes of the desk: nothing; a new record put at a place; the record of a place turned, which is given these choices and this state and keeps all else; the
-// record of a place removed.
+// What a row changes in a record that it turns; all else of the record stays.
+pub struct Turned {
+    pub keep: Keep,
+    pub connection: Connection,
+    pub kind: Kind,
+    pub state: State,
+}
+
+// What becomes of the desk: nothing; a new record put at a place; the record of a place turned; the record of a place removed.
 pub enum Change {
     Stay,
     Put(usize, Record),
-    Turn(usize, Keep, Connection, State),
+    Turn(usize, Turned),
     Remove(usize),
 }
 

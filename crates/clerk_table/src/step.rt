@@ -2,6 +2,7 @@
 use crate::record::Change;
 use crate::record::Plan;
 use crate::record::Record;
+use crate::record::Turned;
 use crate::table::Next;
 use crate::table::Row;
 use crate::table::Starts;
@@ -13,11 +14,13 @@ use desk::outcome::Outcome;
 use desk::outcome::Timers;
 use desk::outcome::no_timers;
 use desk::sends::sent_for;
+use terms::Becomes;
+use terms::kind_after;
 ghost use mathlib.Core.Path.{_≡_};
 ghost use Rattle.clerk_table.specs.Step.{changed, only, started, running, stopped, cleared, rowTaken};
 
-fn changed_to(next: Next, place: usize, r: Record) -> Change
-    ensures { λ q. ⌜ q ≡ changed next place r ⌝ }
+fn changed_to(next: Next, becomes: Becomes, place: usize, r: Record) -> Change
+    ensures { λ q. ⌜ q ≡ changed next becomes place r ⌝ }
 {
     match next {
         Next::Gone => Change::Remove(place),
@@ -25,7 +28,17 @@ fn changed_to(next: Next, place: usize, r: Record) -> Change
             let terms = r.terms;
             let keep = terms.keep;
             let connection = terms.connection;
-            Change::Turn(place, keep, connection, state)
+            let before = terms.kind;
+            let kind = kind_after(becomes, before);
+            Change::Turn(
+                place,
+                Turned {
+                    keep,
+                    connection,
+                    kind,
+                    state,
+                },
+            )
         }
     }
 }
@@ -115,6 +128,7 @@ pub fn take_row(place: usize, r: Record, row: Row) -> Plan
 {
     let effect = effect_of(row);
     let next = effect.next;
+    let becomes = effect.kind;
     let sends = effect.sends;
     let starts = effect.starts;
     let stops = effect.stops;
@@ -123,7 +137,7 @@ pub fn take_row(place: usize, r: Record, row: Row) -> Plan
     let terms = r.terms;
     let identifier = terms.identifier;
     let connection = terms.connection;
-    let change = changed_to(next, place, r);
+    let change = changed_to(next, becomes, place, r);
     let sending = sent_for(sends, identifier, connection);
     let started = timers_started(starts);
     let stopped = timers_stopped(stops, state);

@@ -3,10 +3,13 @@
 use desk::outcome::Notice;
 use desk::sends::Sends;
 use message::Body;
+use message::Kind;
+use terms::Becomes;
 ghost use mathlib.Core.Path.{_≡_};
 ghost use mathlib.Core.Bool.{false};
 ghost use Rattle.message.specs.declared.Body.the-variants.{CcCancel};
 ghost use Rattle.desk.specs.declared.sends.Sends.the-variants as Sends;
+ghost use Rattle.terms.specs.declared.Becomes.the-variants as Becomes;
 ghost use Rattle.clerk_table.specs.declared.table.Next.the-variants.{Gone, To};
 ghost use Rattle.clerk_table.specs.declared.table.Starts.the-variants as Starts;
 ghost use Rattle.clerk_table.specs.declared.table.Stops.the-variants as Stops;
@@ -43,8 +46,10 @@ pub enum Row {
     Completes,
     // type 12, call failed, in Ringout (8.1.2.4, last paragraph, and 8.1.1.6 a: mend M2)
     CallFails,
-    // type 7, ringout error 1 (busy again), in Ringout, keep chosen (8.1.2.4)
+    // type 7, ringout error 1 (busy again), in Ringout, keep chosen, CCBS (8.1.2.4)
     BusyAgainKept,
+    // type 7, ringout error 1 (busy again), in Ringout, keep chosen, CCNR, which goes on as CCBS (8.1.2.4; 6.2.1.3: document 02, Ask 5)
+    BusyAgainWaiting,
     // type 7, ringout error 1 (busy again), in Ringout, keep not chosen (8.1.2.4)
     BusyAgainEnded,
     // type 7, ringout error 2 (failureToMatch), in Ringout (8.1.2.4)
@@ -96,9 +101,10 @@ pub enum Stops {
     Running,
 }
 
-// What becomes of the record, what is sent, started and stopped, and what the host is told.
+// What becomes of the record and of its kind, what is sent, started and stopped, and what the host is told.
 pub struct Effect {
     pub next: Next,
+    pub kind: Becomes,
     pub sends: Sends,
     pub starts: Starts,
     pub stops: Stops,
@@ -117,15 +123,17 @@ pub struct Rule {
 fn goes(
     home: Home,
     state: State,
+    kind: Becomes,
     sends: Sends,
     starts: Starts,
     stops: Stops,
     notice: Notice,
 ) -> Rule
-    ensures { λ r. ⌜ r ≡ rule home (To state) sends starts stops notice false ⌝ }
+    ensures { λ r. ⌜ r ≡ rule home (To state) kind sends starts stops notice false ⌝ }
 {
     let effect = Effect {
         next: Next::To(state),
+        kind,
         sends,
         starts,
         stops,
@@ -137,10 +145,11 @@ fn goes(
 
 // The record is deleted, and nothing is sent.
 fn ends(home: Home, notice: Notice, clears: bool) -> Rule
-    ensures { λ r. ⌜ r ≡ rule home Gone Sends.Nothing Starts.Nothing Stops.Running notice clears ⌝ }
+    ensures { λ r. ⌜ r ≡ rule home Gone Becomes.Nothing Sends.Nothing Starts.Nothing Stops.Running notice clears ⌝ }
 {
     let effect = Effect {
         next: Next::Gone,
+        kind: Becomes::Nothing,
         sends: Sends::Nothing,
         starts: Starts::Nothing,
         stops: Stops::Running,
@@ -152,10 +161,11 @@ fn ends(home: Home, notice: Notice, clears: bool) -> Rule
 
 // The record is deleted, and a ccCancel is sent.
 fn cancels(home: Home, notice: Notice, clears: bool) -> Rule
-    ensures { λ r. ⌜ r ≡ rule home Gone (Sends.One CcCancel) Starts.Nothing Stops.Running notice clears ⌝ }
+    ensures { λ r. ⌜ r ≡ rule home Gone Becomes.Nothing (Sends.One CcCancel) Starts.Nothing Stops.Running notice clears ⌝ }
 {
     let effect = Effect {
         next: Next::Gone,
+        kind: Becomes::Nothing,
         sends: Sends::One(Body::CcCancel),
         starts: Starts::Nothing,
         stops: Stops::Running,
@@ -173,6 +183,7 @@ pub fn rule_of(row: Row) -> Rule
         Row::Accepted => goes(
             Home::InWaitAck,
             State::Invoked,
+            Becomes::Nothing,
             Sends::Nothing,
             Starts::One(Timer::T2),
             Stops::One(Timer::T1),
@@ -183,6 +194,7 @@ pub fn rule_of(row: Row) -> Rule
         Row::Recalls => goes(
             Home::InInvoked,
             State::WaitAnswer,
+            Becomes::Nothing,
             Sends::Nothing,
             Starts::One(Timer::T3),
             Stops::Nothing,
@@ -191,6 +203,7 @@ pub fn rule_of(row: Row) -> Rule
         Row::Suspends => goes(
             Home::InInvoked,
             State::Suspended,
+            Becomes::Nothing,
             Sends::One(Body::CcSuspend),
             Starts::Nothing,
             Stops::Nothing,
@@ -199,6 +212,7 @@ pub fn rule_of(row: Row) -> Rule
         Row::RingsOut => goes(
             Home::InWaitAnswer,
             State::Ringout,
+            Becomes::Nothing,
             Sends::One(Body::CcRingout),
             Starts::Nothing,
             Stops::One(Timer::T3),
@@ -207,6 +221,7 @@ pub fn rule_of(row: Row) -> Rule
         Row::Resumes => goes(
             Home::InSuspended,
             State::Invoked,
+            Becomes::Nothing,
             Sends::One(Body::CcResume),
             Starts::Nothing,
             Stops::Nothing,
@@ -215,6 +230,7 @@ pub fn rule_of(row: Row) -> Rule
         Row::GoesOn => goes(
             Home::InSuspended,
             State::WaitAnswer,
+            Becomes::Nothing,
             Sends::Nothing,
             Starts::One(Timer::T3),
             Stops::Nothing,
@@ -225,10 +241,20 @@ pub fn rule_of(row: Row) -> Rule
         Row::BusyAgainKept => goes(
             Home::InRingout,
             State::Invoked,
+            Becomes::Nothing,
             Sends::Nothing,
             Starts::Nothing,
             Stops::Nothing,
             Notice::BusyAgainKept,
+        ),
+        Row::BusyAgainWaiting => goes(
+            Home::InRingout,
+            State::Invoked,
+            Becomes::One(Kind::Ccbs),
+            Sends::Nothing,
+            Starts::Nothing,
+            Stops::Nothing,
+            Notice::BusyAgainWaiting,
         ),
         Row::BusyAgainEnded => ends(Home::InRingout, Notice::BusyAgainEnded, false),
         Row::NotMatched => ends(Home::InRingout, Notice::Failed, false),

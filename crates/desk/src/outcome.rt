@@ -28,6 +28,7 @@ pub enum Notice {
     BusyAgainKept,
     BusyAgainEnded,
     Cancelled,
+    BusyAgainWaiting,
 }
 
 pub struct Outcome {

@@ -15,16 +15,16 @@ use Rattle.lists.specs.declared.words.Words.{Words}
 use Rattle.lists.proofs.Choice.{pick-elim}
 use Rattle.lists.proofs.Lists.{without-past, mapFrom, map-start, map-next, map-done}
 use Rattle.line_table.specs.Line.{withStatus}
-use Rattle.line_table.specs.Record.{moved}
+use Rattle.line_table.specs.Record.{turned, activity, activated}
 use Rattle.line_table.specs.Search.{marks}
-use Rattle.line_table.specs.declared.table.State.{State}
 use Rattle.line_table.specs.declared.record.Record.{Record}
+use Rattle.line_table.specs.declared.record.Turned.{Turned}
 use Rattle.line_table.specs.declared.record.Change.{Change}
 use Rattle.line_table.specs.declared.record.Change.the-variants.{Stay, Put, Turn, Remove, Report}
 use Rattle.line_records.specs.Layout as Layout
 use Rattle.line_records.specs.Records.{blank, records, putRecord, turnRecord, removed}
 use Rattle.line_records.specs.Lines.{noLine, lines, putLine, keeps, retains}
-use Rattle.line_records.specs.Change.{activated, markPlace, marked, statusStored, withReport, applied, marking, recordsAfter, linesAfter}
+use Rattle.line_records.specs.Change.{markPlace, marked, statusStored, withReport, applied, marking, recordsAfter, linesAfter}
 use Rattle.line_records.proofs.RecordsLaws.{records-length, records-put, records-turn, records-drop}
 use Rattle.line_records.proofs.LinesLaws.{lines-length, lines-same, keeps-same, retains-same, settings-behind, putRow-length, putRow-behind, turnRow-length, turnRow-behind, dropRow-length, dropRow-behind, overLine-length, overLine-behind, records-overLine, lines-put}
 
@@ -47,26 +47,26 @@ put-records words i r l =
     (λ f. sym (set-out (records words) i r (omega (arith, records-length words, ltb-false i Layout.places f))))
 
 -- ---- one record turned, at any place
-module _ (words : List ℕ) (i : ℕ) (state : State) (active suspended : Bool) (l : length words ≡ Layout.words) where
+module _ (words : List ℕ) (i : ℕ) (turn : Turned) (l : length words ≡ Layout.words) where
   abbrev after : List ℕ
-  after = turnRecord words i state active suspended
+  after = turnRecord words i turn
 
   turn-length : length after ≡ length words
   unfolding turnRecord
   turn-length =
-      pick-elim (λ (v : List ℕ). length v ≡ length words) (ltb i Layout.places) (λ t. turnRow-length words i state active suspended (ltb-true i Layout.places t) l) (λ f. refl)
+      pick-elim (λ (v : List ℕ). length v ≡ length words) (ltb i Layout.places) (λ t. turnRow-length words i turn (ltb-true i Layout.places t) l) (λ f. refl)
 
   turn-behind : drop Layout.linesAt after ≡ drop Layout.linesAt words
   unfolding turnRecord
   turn-behind =
-      pick-elim (λ (v : List ℕ). drop Layout.linesAt v ≡ drop Layout.linesAt words) (ltb i Layout.places) (λ t. turnRow-behind words i state active suspended (ltb-true i Layout.places t) l) (λ f. refl)
+      pick-elim (λ (v : List ℕ). drop Layout.linesAt v ≡ drop Layout.linesAt words) (ltb i Layout.places) (λ t. turnRow-behind words i turn (ltb-true i Layout.places t) l) (λ f. refl)
 
-  turn-records : records after ≡ set (records words) i (moved (getD (records words) i blank) state active suspended)
+  turn-records : records after ≡ set (records words) i (turned turn (getD (records words) i blank))
   unfolding turnRecord
   turn-records =
-      let r = moved (getD (records words) i blank) state active suspended in
+      let r = turned turn (getD (records words) i blank) in
       pick-elim (λ (v : List ℕ). records v ≡ set (records words) i r) (ltb i Layout.places)
-      (λ t. records-turn words i state active suspended (ltb-true i Layout.places t) (omega arith))
+      (λ t. records-turn words i turn (ltb-true i Layout.places t) (omega arith))
       (λ f. sym (set-out (records words) i r (omega (arith, records-length words, ltb-false i Layout.places f))))
 
 -- ---- one record removed, at any place
@@ -92,13 +92,13 @@ place-length : (number : Words) (i : ℕ) (words : List ℕ) → length words �
 unfolding markPlace
 place-length number i words l =
     let r = getD (records words) i blank in
-    pick-elim (λ (v : List ℕ). length v ≡ length words) (marks number r) (λ t. turn-length words i (r .state) true (r .suspended) l) (λ f. refl)
+    pick-elim (λ (v : List ℕ). length v ≡ length words) (marks number r) (λ t. turn-length words i (activity r) l) (λ f. refl)
 
 place-behind : (number : Words) (i : ℕ) (words : List ℕ) → length words ≡ Layout.words → drop Layout.linesAt (markPlace number i words) ≡ drop Layout.linesAt words
 unfolding markPlace
 place-behind number i words l =
     let r = getD (records words) i blank in
-    pick-elim (λ (v : List ℕ). drop Layout.linesAt v ≡ drop Layout.linesAt words) (marks number r) (λ t. turn-behind words i (r .state) true (r .suspended) l) (λ f. refl)
+    pick-elim (λ (v : List ℕ). drop Layout.linesAt v ≡ drop Layout.linesAt words) (marks number r) (λ t. turn-behind words i (activity r) l) (λ f. refl)
 
 place-records :
     (number : Words) (i : ℕ) (words : List ℕ) → length words ≡ Layout.words →
@@ -108,7 +108,7 @@ place-records number i words l =
     let rs = records words in
     let r = getD rs i blank in
     pick-elim (λ (v : List ℕ). records v ≡ set rs i (marking number r)) (marks number r)
-    (λ t. turn-records words i (r .state) true (r .suspended) l ∙ ap (λ (b : Bool). set rs i (pick b (activated r) r)) (sym t))
+    (λ t. turn-records words i (activity r) l ∙ ap (λ (b : Bool). set rs i (pick b (activated r) r)) (sym t))
     (λ f. sym (set-getD rs i blank) ∙ ap (λ (b : Bool). set rs i (pick b (activated r) r)) (sym f))
 
 pub marked-length : (number : Words) (n : ℕ) (words : List ℕ) → length words ≡ Layout.words → length (marked number n words) ≡ length words
@@ -184,7 +184,7 @@ pub applied-length : (words : List ℕ) (change : Change) → length words ≡ L
 unfolding applied withReport
 applied-length words Stay l = l
 applied-length words (Put i r) l = put-length words i r l ∙ l
-applied-length words (Turn state active suspended i) l = turn-length words i state active suspended l ∙ l
+applied-length words (Turn turn i) l = turn-length words i turn l ∙ l
 applied-length words (Remove i) l = removed-length words i l ∙ l
 applied-length words (Report k number true) l =
     let e = status-length words k true l ∙ l in
@@ -195,7 +195,7 @@ pub records-applied : (words : List ℕ) (change : Change) → length words ≡ 
 unfolding applied withReport
 records-applied words Stay l = refl
 records-applied words (Put i r) l = put-records words i r l
-records-applied words (Turn state active suspended i) l = turn-records words i state active suspended l
+records-applied words (Turn turn i) l = turn-records words i turn l
 records-applied words (Remove i) l = removed-records words i l
 records-applied words (Report k number true) l =
     records-marked number (statusStored words k true) (status-length words k true l ∙ l)
@@ -206,7 +206,7 @@ pub lines-applied : (words : List ℕ) (change : Change) → length words ≡ La
 unfolding applied withReport
 lines-applied words Stay l = refl
 lines-applied words (Put i r) l = lines-same (putRecord words i r) words (put-behind words i r l)
-lines-applied words (Turn state active suspended i) l = lines-same (turnRecord words i state active suspended) words (turn-behind words i state active suspended l)
+lines-applied words (Turn turn i) l = lines-same (turnRecord words i turn) words (turn-behind words i turn l)
 lines-applied words (Remove i) l = lines-same (removed words i) words (removed-behind words i l)
 lines-applied words (Report k number true) l =
     let stored = statusStored words k true in
@@ -217,7 +217,7 @@ applied-settings : (words : List ℕ) (change : Change) → length words ≡ Lay
 unfolding applied withReport
 applied-settings words Stay l = refl
 applied-settings words (Put i r) l = settings-behind (putRecord words i r) words (put-behind words i r l)
-applied-settings words (Turn state active suspended i) l = settings-behind (turnRecord words i state active suspended) words (turn-behind words i state active suspended l)
+applied-settings words (Turn turn i) l = settings-behind (turnRecord words i turn) words (turn-behind words i turn l)
 applied-settings words (Remove i) l = settings-behind (removed words i) words (removed-behind words i l)
 applied-settings words (Report k number true) l =
     let stored = statusStored words k true in

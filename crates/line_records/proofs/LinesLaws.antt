@@ -12,13 +12,13 @@ use Rattle.lists.specs.Parts.{over}
 use Rattle.store.specs.Rows.{rows, putRow, turnRow, dropRow, blankRow}
 use Rattle.store.proofs.RowsLaws.{place-rest, over-behind, put-length, turn-length, drop-length}
 use Rattle.store.proofs.Decoded.{decoded-length, decoded-at, decoded-past, decoded-put}
-use Rattle.terms.specs.Terms as Terms
+use Rattle.terms.specs.Terms.{kindAt}
 use Rattle.terms.proofs.CodesLaws.{flag-back}
-use Rattle.line_table.specs.declared.table.State.{State}
+use Rattle.line_table.specs.declared.record.Turned.{Turned}
 use Rattle.line_table.specs.declared.record.Record.{Record}
 use Rattle.line_table.specs.declared.line.Line.{Line}
 use Rattle.line_records.specs.Layout as Layout
-use Rattle.line_records.specs.Records.{recordOf, turnedWords, recordWords, records}
+use Rattle.line_records.specs.Records.{recordOf, recordWords, turnedWords, records}
 use Rattle.line_records.specs.Lines.{lineOf, lineWords, noLine, lines, overLine, keeps, retains}
 
 -- the words of all lines
@@ -104,13 +104,13 @@ pub putRow-behind :
 unfolding putRow
 putRow-behind words i r h l = over-behind Layout.linesAt (i * Layout.width) (recordWords r) words (omega arith) (omega arith)
 
-module _ (words : List ℕ) (i : ℕ) (state : State) (active suspended : Bool) (h : i < Layout.places) (l : length words ≡ Layout.words) where
-  pub turnRow-length : length (turnRow Layout.width words i Terms.width (turnedWords state active suspended)) ≡ length words
-  turnRow-length = turn-length Layout.width Layout.places words i Terms.width (turnedWords state active suspended) (omega arith) h (omega arith)
+module _ (words : List ℕ) (i : ℕ) (t : Turned) (h : i < Layout.places) (l : length words ≡ Layout.words) where
+  pub turnRow-length : length (turnRow Layout.width words i kindAt (turnedWords t)) ≡ length words
+  turnRow-length = turn-length Layout.width Layout.places words i kindAt (turnedWords t) (omega arith) h (omega arith)
 
-  pub turnRow-behind : drop Layout.linesAt (turnRow Layout.width words i Terms.width (turnedWords state active suspended)) ≡ drop Layout.linesAt words
+  pub turnRow-behind : drop Layout.linesAt (turnRow Layout.width words i kindAt (turnedWords t)) ≡ drop Layout.linesAt words
   unfolding turnRow
-  turnRow-behind = over-behind Layout.linesAt (i * Layout.width + Terms.width) (turnedWords state active suspended) words (omega arith) (omega arith)
+  turnRow-behind = over-behind Layout.linesAt (i * Layout.width + kindAt) (turnedWords t) words (omega arith) (omega arith)
 
 pub dropRow-length :
     (words : List ℕ) (i : ℕ) → i < Layout.places → length words ≡ Layout.words → length (dropRow Layout.width Layout.places words i) ≡ length words

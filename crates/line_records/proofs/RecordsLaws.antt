@@ -18,17 +18,18 @@ use Rattle.store.specs.Rows.{stateWord, live, free, hasIdentifier, putRow, turn
 use Rattle.store.proofs.RowsLaws.{fit-from}
 use Rattle.store.proofs.Decoded.{identified-live, free-live, decoded-length, decoded-at, decoded-past, decoded-found, decoded-put, decoded-turn, decoded-drop}
 use Rattle.terms.specs.Terms as Terms
-use Rattle.terms.specs.Terms.{termsOf}
+use Rattle.terms.specs.Terms.{kindAt, termsOf}
 use Rattle.terms.proofs.CodesLaws.{flag-back}
-use Rattle.terms.proofs.TermsLaws.{terms-back, terms-front, word-from, terms-kept}
-use Rattle.line_table.specs.Record.{moved}
+use Rattle.terms.proofs.TermsLaws.{terms-back, terms-front, word-from, terms-kind}
+use Rattle.line_table.specs.Record.{turned}
 use Rattle.line_table.specs.Search.{inUse, used}
 use Rattle.line_table.specs.declared.table.State.{State}
 use Rattle.line_table.specs.declared.table.State.the-variants.{Free, Invoked, Await, Alert}
 use Rattle.line_table.specs.declared.record.Record.{Record}
+use Rattle.line_table.specs.declared.record.Turned.{Turned}
 use Rattle.line_records.specs.Layout as Layout
 use Rattle.line_records.specs.Codes.{stateOf, stateCode}
-use Rattle.line_records.specs.Records.{recordOf, turnedWords, recordWords, blank, records, unused, identified, meant, place}
+use Rattle.line_records.specs.Records.{recordOf, recordWords, turnedWords, blank, records, unused, identified, meant, place}
 
 -- ---- a record and its words: what is stored is read back, and nothing behind the row is read
 state-back : (s : State) → stateOf (stateCode s) ≡ s
@@ -54,13 +55,12 @@ record-front row =
     )
 
 record-turned :
-    (state : State) (active suspended : Bool) (row : List ℕ) → Layout.width ≤ length row →
-    recordOf (take Terms.width row ++ over (turnedWords state active suspended) (drop Terms.width row)) ≡ moved (recordOf row) state active suspended
+    (t : Turned) (row : List ℕ) → Layout.width ≤ length row → recordOf (take kindAt row ++ over (turnedWords t) (drop kindAt row)) ≡ turned t (recordOf row)
 unfolding recordOf
-record-turned state active suspended row long =
-    let words = over (turnedWords state active suspended) (drop Terms.width row) in
-    let new = word-from Terms.width row words (omega arith) in
-    rw (terms-kept row words (omega arith), new 0, new 1, new 2, state-back state, flag-back active, flag-back suspended)
+record-turned t row long =
+    let words = over (turnedWords t) (drop kindAt row) in
+    let new = word-from kindAt row words (omega arith) in
+    rw (terms-kind row _ (t .kind) (omega arith), new 1, new 2, new 3, state-back (t .state), flag-back (t .active), flag-back (t .suspended))
 
 blank-row : recordOf (blankRow Layout.width) ≡ blank
 unfolding recordOf termsOf
@@ -133,11 +133,11 @@ unfolding records
 records-put words i r h l = decoded-put Layout.width Layout.places recordOf words (recordWords r) i r (record-back r) refl h l
 
 pub records-turn :
-    (words : List ℕ) (i : ℕ) (state : State) (active suspended : Bool) → i < Layout.places → Layout.linesAt ≤ length words →
-    records (turnRow Layout.width words i Terms.width (turnedWords state active suspended)) ≡ set (records words) i (moved (getD (records words) i blank) state active suspended)
+    (words : List ℕ) (i : ℕ) (t : Turned) → i < Layout.places → Layout.linesAt ≤ length words →
+    records (turnRow Layout.width words i kindAt (turnedWords t)) ≡ set (records words) i (turned t (getD (records words) i blank))
 unfolding records
-records-turn words i state active suspended h l =
-    decoded-turn Layout.width Layout.places recordOf Terms.width (turnedWords state active suspended) (λ r. moved r state active suspended) (record-turned state active suspended) record-front words i (omega arith) h l
+records-turn words i t h l =
+    decoded-turn Layout.width Layout.places recordOf kindAt (turnedWords t) (turned t) (record-turned t) record-front words i (omega arith) h l
 
 pub records-drop :
     (words : List ℕ) (i : ℕ) → i < Layout.places → Layout.linesAt ≤ length words →

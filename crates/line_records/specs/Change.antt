@@ -1,13 +1,13 @@
 -- What a planned change makes of the words of a line desk; and what that is for its records and its lines.
 use Prim.Native.Nat.{ℕ, zero, suc}
-use mathlib.Core.Bool.{Bool, true}
+use mathlib.Core.Bool.{Bool}
 use mathlib.Core.List.{List, map}
 use lib.ListN.{getD, set}
 use Rattle.lists.specs.Choice.{pick}
 use Rattle.lists.specs.Lists.{without}
 use Rattle.lists.specs.declared.words.Words.{Words}
 use Rattle.line_table.specs.Line.{withStatus}
-use Rattle.line_table.specs.Record.{moved}
+use Rattle.line_table.specs.Record.{turned, activity, activated}
 use Rattle.line_table.specs.Search.{marks}
 use Rattle.line_table.specs.declared.line.Line.{Line}
 use Rattle.line_table.specs.declared.record.Record.{Record}
@@ -18,12 +18,9 @@ use Rattle.line_records.specs.Records.{blank, records, putRecord, turnRe
 use Rattle.line_records.specs.Lines.{noLine, lines, putLine}
 
 -- ---- a report of the line at place k: its status is stored, and busy sets the activity mark of the line's Invoked records
-abbrev pub activate : List ℕ → ℕ → Record → List ℕ
-activate words i r = turnRecord words i (r .state) true (r .suspended)
-
 unfoldable pub markPlace : Words → ℕ → List ℕ → List ℕ
 markPlace number i words =
-    pick (marks number (getD (records words) i blank)) (activate words i (getD (records words) i blank)) words
+    pick (marks number (getD (records words) i blank)) (turnRecord words i (activity (getD (records words) i blank))) words
 
 -- the first n places, one after the other
 unfoldable pub marked : Words → ℕ → List ℕ → List ℕ
@@ -40,27 +37,24 @@ withReport words k number busy = pick busy (marked number places (statusStored w
 unfoldable pub applied : List ℕ → Change → List ℕ
 applied words Stay = words
 applied words (Put i r) = putRecord words i r
-applied words (Turn state active suspended i) = turnRecord words i state active suspended
+applied words (Turn t i) = turnRecord words i t
 applied words (Remove i) = removed words i
 applied words (Report k number busy) = withReport words k number busy
 
 -- ---- the same for the records and for the lines of a desk with all its words
-abbrev pub activated : Record → Record
-activated r = moved r (r .state) true (r .suspended)
-
 abbrev pub marking : Words → Record → Record
 marking number r = pick (marks number r) (activated r) r
 
 abbrev pub recordsAfter : List Record → Change → List Record
 recordsAfter rs Stay = rs
 recordsAfter rs (Put i r) = set rs i r
-recordsAfter rs (Turn state active suspended i) = set rs i (moved (getD rs i blank) state active suspended)
+recordsAfter rs (Turn t i) = set rs i (turned t (getD rs i blank))
 recordsAfter rs (Remove i) = without blank rs i
 recordsAfter rs (Report k number busy) = pick busy (map (marking number) rs) rs
 
 abbrev pub linesAfter : List Line → Change → List Line
 linesAfter ls Stay = ls
 linesAfter ls (Put i r) = ls
-linesAfter ls (Turn state active suspended i) = ls
+linesAfter ls (Turn t i) = ls
 linesAfter ls (Remove i) = ls
 linesAfter ls (Report k number busy) = set ls k (withStatus (getD ls k noLine) busy)

@@ -10,12 +10,12 @@ use Rattle.lists.specs.Words.{sameWords}
 use Rattle.lists.specs.declared.Found.{Found}
 use Rattle.lists.specs.declared.words.Words.{Words}
 use Rattle.store.specs.Rows.{stateWord, rows, putRow, turnRow, dropRow}
-use Rattle.terms.specs.Codes.{flagCode}
-use Rattle.terms.specs.Terms as Terms
-use Rattle.terms.specs.Terms.{termsOf, termsWords}
+use Rattle.terms.specs.Codes.{kindCode, flagCode}
+use Rattle.terms.specs.Terms.{kindAt, termsOf, termsWords}
 use Rattle.line_table.specs.Search.{used}
 use Rattle.line_table.specs.declared.table.State.{State}
 use Rattle.line_table.specs.declared.record.Record.{Record}
+use Rattle.line_table.specs.declared.record.Turned.{Turned}
 use Rattle.line_records.specs.Layout.{activeAt, suspendedAt, width, places}
 use Rattle.line_records.specs.Codes.{stateOf, stateCode}
 
@@ -29,12 +29,16 @@ recordOf row =
       suspended = eqb (getD row suspendedAt 0) 1;
     }
 
--- a record as a row of words: its terms, and behind them what a turn puts anew
-abbrev pub turnedWords : State → Bool → Bool → List ℕ
-turnedWords state active suspended = stateCode state ∷ flagCode active ∷ flagCode suspended ∷ []
+-- a record as a row of words: its terms, and behind them its state and its marks
+abbrev pub stateWords : State → Bool → Bool → List ℕ
+stateWords state active suspended = stateCode state ∷ flagCode active ∷ flagCode suspended ∷ []
 
 abbrev pub recordWords : Record → List ℕ
-recordWords r = termsWords (r .terms) ++ turnedWords (r .state) (r .active) (r .suspended)
+recordWords r = termsWords (r .terms) ++ stateWords (r .state) (r .active) (r .suspended)
+
+-- the words of a row that a turn puts anew, from the kind on, which stands last in the terms
+abbrev pub turnedWords : Turned → List ℕ
+turnedWords t = kindCode (t .kind) ∷ stateWords (t .state) (t .active) (t .suspended)
 
 -- what a free place holds, and what is read past the last
 abbrev pub blank : Record
@@ -62,8 +66,8 @@ place rs = first unused rs
 unfoldable pub putRecord : List ℕ → ℕ → Record → List ℕ
 putRecord words i r = pick (ltb i places) (putRow width words i (recordWords r)) words
 
-unfoldable pub turnRecord : List ℕ → ℕ → State → Bool → Bool → List ℕ
-turnRecord words i state active suspended = pick (ltb i places) (turnRow width words i Terms.width (turnedWords state active suspended)) words
+unfoldable pub turnRecord : List ℕ → ℕ → Turned → List ℕ
+turnRecord words i t = pick (ltb i places) (turnRow width words i kindAt (turnedWords t)) words
 
 unfoldable pub removed : List ℕ → ℕ → List ℕ
 removed words i = pick (ltb i places) (dropRow width places words i) words

@@ -10,6 +10,7 @@ use crate::places::turn_record;
 use crate::search::is_marked;
 use line_table::line::with_status;
 use line_table::record::Change;
+use line_table::record::Turned;
 use lists::words::Words;
 ghost use mathlib.Core.Path.{_≡_};
 ghost use Rattle.line_records.specs.Layout.{places};
@@ -21,8 +22,16 @@ fn mark_place(words: &mut [u64; WORDS], i: usize, number: Words)
 {
     if is_marked(words, i, number) {
         let r = load(words, i);
+        let terms = r.terms;
+        let kind = terms.kind;
         let state = r.state;
-        turn_record(words, i, state, true, r.suspended);
+        let activity = Turned {
+            kind,
+            state,
+            active: true,
+            suspended: r.suspended,
+        };
+        turn_record(words, i, activity);
     }
 }
 
@@ -62,13 +71,7 @@ pub fn apply(words: &mut [u64; WORDS], change: Change)
     match change {
         Change::Stay => {}
         Change::Put(i, r) => put_record(words, i, r),
-        Change::Turn(state, active, suspended, i) => turn_record(
-            words,
-            i,
-            state,
-            active,
-            suspended,
-        ),
+        Change::Turn(t, i) => turn_record(words, i, t),
         Change::Remove(i) => remove_record(words, i),
         Change::Report(k, number, busy) => report_line(words, k, number, busy),
     }

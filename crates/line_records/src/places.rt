@@ -9,10 +9,11 @@ use crate::WORDS;
 use crate::codes::state_code;
 use crate::codes::state_of;
 use line_table::record::Record;
-use line_table::table::State;
+use line_table::record::Turned;
 use lists::Found;
 use lists::words::Words;
 use terms::codes::flag_code;
+use terms::codes::kind_code;
 use terms::put_terms;
 use terms::terms_of;
 ghost use mathlib.Core.Path.{_≡_};
@@ -20,9 +21,9 @@ ghost use Prim.Native.Nat.{_≤_, _<_};
 ghost use lib.ListN.{length, getD};
 ghost use Rattle.lists.specs.Parts.{over};
 ghost use Rattle.store.specs.Rows.{putRow, turnRow};
-ghost use Rattle.terms.specs.Terms as Terms;
+ghost use Rattle.terms.specs.Terms.{kindAt};
 ghost use Rattle.line_records.specs.Layout.{width, places, linesAt};
-ghost use Rattle.line_records.specs.Records.{recordOf, turnedWords, recordWords, blank, records, meant, place, putRecord, turnRecord, removed};
+ghost use Rattle.line_records.specs.Records.{recordOf, recordWords, turnedWords, blank, records, meant, place, putRecord, turnRecord, removed};
 
 // The record of a row.
 fn record_of(row: &[u64]) -> Record
@@ -39,25 +40,37 @@ fn record_of(row: &[u64]) -> Record
     }
 }
 
-// The state and the marks over the front of some words: they stand in a row one behind the other.
-fn turn_words(words: &mut [u64], state: State, active: bool, suspended: bool)
-    requires { ⌜ length (turnedWords state active suspended) ≤ length (now words) ⌝ }
-    ensures { λ q. ⌜ now (words .exit) ≡ over (turnedWords state active suspended) (now (words .entry)) ⌝ }
+// What a turn gives, over the front of some words: in a row it stands one behind the other.
+fn turn_words(words: &mut [u64], t: Turned)
+    requires { ⌜ length (turnedWords t) ≤ length (now words) ⌝ }
+    ensures { λ q. ⌜ now (words .exit) ≡ over (turnedWords t) (now (words .entry)) ⌝ }
 {
-    words[0] = state_code(state);
-    words[1] = flag_code(active);
-    words[2] = flag_code(suspended);
+    let kind = t.kind;
+    let state = t.state;
+    words[0] = kind_code(kind);
+    words[1] = state_code(state);
+    words[2] = flag_code(t.active);
+    words[3] = flag_code(t.suspended);
 }
 
-// A record over the front of some words.
+// A record over the front of some words: its terms, and from the kind on, which stands last in them, what a turn would give.
 fn put_words(row: &mut [u64], r: Record)
     requires { ⌜ width ≤ length (now row) ⌝ }
     ensures { λ q. ⌜ now (row .exit) ≡ over (recordWords r) (now (row .entry)) ⌝ }
 {
     let agreed = r.terms;
+    let kind = agreed.kind;
     let state = r.state;
     put_terms(row, agreed);
-    turn_words(&mut row[STATE_AT..], state, r.active, r.suspended);
+    turn_words(
+        &mut row[terms::KIND_AT..],
+        Turned {
+            kind,
+            state,
+            active: r.active,
+            suspended: r.suspended,
+        },
+    );
 }
 
 // The place of the record in use with that identifier.
@@ -115,20 +128,20 @@ pub fn put_record(words: &mut [u64; WORDS], i: usize, r: Record)
     }
 }
 
-fn turn_in(words: &mut [u64], i: usize, state: State, active: bool, suspended: bool)
+fn turn_in(words: &mut [u64], i: usize, t: Turned)
     requires { ⌜ (i < places) × (linesAt ≤ length (now words)) ⌝ }
-    ensures { λ q. ⌜ now (words .exit) ≡ turnRow width (now (words .entry)) i Terms.width (turnedWords state active suspended) ⌝ }
+    ensures { λ q. ⌜ now (words .exit) ≡ turnRow width (now (words .entry)) i kindAt (turnedWords t) ⌝ }
 {
-    let at = i * WIDTH + STATE_AT;
-    turn_words(&mut words[at..], state, active, suspended);
+    let at = i * WIDTH + terms::KIND_AT;
+    turn_words(&mut words[at..], t);
 }
 
-// The record of a place in another state and with other marks; a place that is not there changes nothing.
-pub fn turn_record(words: &mut [u64; WORDS], i: usize, state: State, active: bool, suspended: bool)
-    ensures { λ r. ⌜ now (words .exit) ≡ turnRecord (now (words .entry)) i state active suspended ⌝ }
+// The record of a place turned; a place that is not there changes nothing.
+pub fn turn_record(words: &mut [u64; WORDS], i: usize, t: Turned)
+    ensures { λ r. ⌜ now (words .exit) ≡ turnRecord (now (words .entry)) i t ⌝ }
 {
     if i < PLACES {
-        turn_in(words, i, state, active, suspended);
+        turn_in(words, i, t);
     }
 }
 

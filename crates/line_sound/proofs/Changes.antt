@@ -1,4 +1,4 @@
--- A step about one request keeps a desk sound, by the laws of a list of places: a record that turns keeps its terms, a new one finds fewer than 5 of its line, a removal takes from one line. So does a report: it keeps numbers, identifiers and states. The same for the order of acceptance, and for every other request.
+-- A step about one request keeps a desk sound, by the laws of a list of places: a record that turns keeps its line, a new one finds fewer than 5 of its line, a removal takes from one line. So does a report: it keeps numbers, identifiers and states. The same for the order of acceptance, and for every other request.
 use Prim.Native.Nat.{ℕ, zero, suc, _≤_, _<_}
 use mathlib.Core.Path.{_≡_, refl, sym, ap, _∙_, subst}
 use mathlib.Core.Bool.{Bool, true, false}
@@ -62,9 +62,9 @@ of-line-unused : (number : Words) (r : Record) → used r ≡ false → ofLine n
 of-line-unused number r f = rw f
 
 -- ---- a step about one request
--- a record keeps its terms where it turns, and a new one finds fewer than 5 of its line
+-- a record keeps its line where it turns, and a new one finds fewer than 5 of its line
 pub record Turned (ls : List Line) (a b : Record) : Type 0 where
-  pub terms : b .terms ≡ a .terms
+  pub numberB : b .terms .numberB ≡ a .terms .numberB
   pub whole : Whole ls b
 
 pub record Added (rs : List Record) (ls : List Line) (r : Record) : Type 0 where
@@ -99,7 +99,7 @@ module _ (rs : List Record) (ls : List Line) (five : (number : Words) → count 
       rw e
       (omega (
         arith,
-        stored-same (ofLineView number) rs i r (of-line-same number r (getD rs i blank) (is ∙ sym was) (ap (λ (t : Terms). t .numberB) (turn .terms))),
+        stored-same (ofLineView number) rs i r (of-line-same number r (getD rs i blank) (is ∙ sym was) (turn .numberB)),
         five number,
       ))
   moved-five (P.stores i r free new is own added e) number = rw e (added-five i r free is (added .few) number)

@@ -26,9 +26,12 @@ use Rattle.places.specs.Places as P
 use Rattle.places.proofs.Staying.{used-inside}
 use Rattle.places.proofs.Holding.{meant-its}
 use Rattle.line_table.specs.Line.{allows, canTake}
-use Rattle.line_table.specs.Record.{moved}
+use Rattle.line_table.specs.Record.{turned}
 use Rattle.line_table.specs.Step.{rowTaken}
 use Rattle.line_table.specs.Inputs.{namesOf, messageFor, rowFor}
+use Rattle.message.specs.declared.Kind.{Kind}
+use Rattle.terms.specs.Terms.{withKind}
+use Rattle.terms.specs.declared.Terms.{Terms}
 use Rattle.line_table.specs.Search.{inUse, used, invoked, ofLine, marks, fitsKind, fits, passes}
 use Rattle.line_table.specs.declared.table.State.{State}
 use Rattle.line_table.specs.declared.table.State.the-variants.{Free, Invoked, Await, Alert}
@@ -36,6 +39,7 @@ use Rattle.line_table.specs.declared.table.Row.{Row}
 use Rattle.line_table.specs.declared.table.Row.the-variants.{Offers, Suspends, Resumes, RingsOut, BusyAgainKept, BusyAgainEnded, Alerts, CallFails, ClerkCancels, LineCancels, GuardRunsOut}
 use Rattle.line_table.specs.declared.line.Line.{Line}
 use Rattle.line_table.specs.declared.record.Record.{Record}
+use Rattle.line_table.specs.declared.record.Turned.{Turned}
 use Rattle.line_table.specs.declared.record.Decision.{Decision}
 use Rattle.line_table.specs.declared.record.Decision.the-variants.{Refuse, Deny, Take, Store, Report}
 use Rattle.line_table.specs.declared.record.Change.{Change}
@@ -51,7 +55,7 @@ use Rattle.line_records.specs.Lines.{noLine, lines, lineAt}
 use Rattle.line_records.specs.Change.{recordsAfter, linesAfter}
 use Rattle.line_plan.specs.Decide.{lineMost, holdsFor, takesCall, rowDecision, recordFound, recordDecision, storeFound, countedDecision, duplicateFound, admittedDecision, lineFound, requestDecision, meantDecision, messageDecision, ownFound, ownDecision, reportFound, reportDecision, offerFound, offerAt, offerDecision, lookFound, lookDecision}
 use Rattle.line_plan.specs.Plan.{newRecord, planOf}
-use Rattle.line_sound.specs.Sound.{lineView, Whole, Sound}
+use Rattle.line_sound.specs.Sound.{lineView, Agreed, Whole, Sound}
 use Rattle.line_sound.proofs.Starting.{blank-unused}
 use Rattle.line_sound.proofs.Changes.{Moves, Goes, named, offered, reported}
 
@@ -69,6 +73,10 @@ pub data Good (ws : List ℕ) : Input → Decision → Type 0 where
       Good ws input (Store i q busy)
   reports : {number : Words} {busy : Bool} (k : ℕ) → Good ws (Input.Report number busy) (Report k busy)
 
+-- a turn may change the kind, and no other term
+kind-agreed : {terms : Terms} (kind : Kind) → Agreed terms → Agreed (withKind terms kind)
+kind-agreed kind a = record { keep = a .keep; connection = a .connection; numberA = a .numberA; numberB = a .numberB; service = a .service }
+
 -- ---- its plan
 module _ (ws : List ℕ) (sound : Sound ws) where
   -- a change about the request of an identifier, which leaves the lines
@@ -80,14 +88,14 @@ module _ (ws : List ℕ) (sound : Sound ws) where
     abbrev its : Record
     its = getD (records ws) i blank
 
-    turn : (s : State) (active suspended : Bool) → inUse s ≡ true → (suspended ≡ true → s ≡ Await) → Turns identifier (Turn s active suspended i)
-    turn s active suspended is suspension =
+    turn : (t : Turned) → inUse (t .state) ≡ true → (t .suspended ≡ true → t .state ≡ Await) → Turns identifier (Turn t i)
+    turn t is suspension =
         let whole = sound .each i u in
         record {
           lines-same = refl;
           moves =
-              P.turns i (moved its s active suspended) u own is own
-              (record { terms = refl; whole = record { agreed = whole .agreed; line = whole .line; suspension = suspension } })
+              P.turns i (turned t its) u own is own
+              (record { numberB = refl; whole = record { agreed = kind-agreed (t .kind) (whole .agreed); line = whole .line; suspension = suspension } })
               refl;
         }
 
@@ -96,11 +104,11 @@ module _ (ws : List ℕ) (sound : Sound ws) where
 
     turn-row : (row : Row) → Turns identifier (rowTaken i its row .change)
     unfolding rowTaken
-    turn-row Offers = turn Await (its .active) (its .suspended) refl (λ e. refl)
-    turn-row Suspends = turn Await (its .active) true refl (λ e. refl)
-    turn-row Resumes = turn Invoked (its .active) false refl (λ e. absurd (no-true e))
-    turn-row RingsOut = turn Alert (its .active) false refl (λ e. absurd (no-true e))
-    turn-row BusyAgainKept = turn Invoked true false refl (λ e. absurd (no-true e))
+    turn-row Offers = turn _ refl (λ e. refl)
+    turn-row Suspends = turn _ refl (λ e. refl)
+    turn-row Resumes = turn _ refl (λ e. absurd (no-true e))
+    turn-row RingsOut = turn _ refl (λ e. absurd (no-true e))
+    turn-row BusyAgainKept = turn _ refl (λ e. absurd (no-true e))
     turn-row BusyAgainEnded = remove
     turn-row Alerts = remove
     turn-row CallFails = remove

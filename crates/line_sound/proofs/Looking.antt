@@ -13,12 +13,14 @@ use Rattle.lists.specs.declared.Found.the-variants.{At, Nothing}
 use Rattle.lists.specs.declared.words.Words.{Words}
 use Rattle.lists.proofs.Choice.{no-true, pick-elim}
 use Rattle.lists.proofs.Lists.{first-holds, first-earlier, first-none}
+use Rattle.lists.proofs.WordsLaws.{words-same}
+use Rattle.message.specs.declared.Kind.the-variants.{Ccbs}
 use Rattle.line_table.specs.Line.{canTake}
-use Rattle.line_table.specs.Record.{moved}
 use Rattle.line_table.specs.Step.{rowTaken}
 use Rattle.line_table.specs.Search.{blocks, fits, passes}
-use Rattle.line_table.specs.declared.table.State.the-variants.{Await}
+use Rattle.line_table.specs.declared.table.State.the-variants.{Invoked, Await}
 use Rattle.line_table.specs.declared.record.Record.{Record}
+use Rattle.line_table.specs.declared.record.Turned.{Turned}
 use Rattle.line_table.specs.declared.record.Decision.{Decision}
 use Rattle.line_table.specs.declared.record.Change.the-variants.{Turn}
 use Rattle.line_table.specs.declared.inputs.Input.the-variants as Input
@@ -32,7 +34,7 @@ use Rattle.line_plan.specs.Decide.{offerFound, offerAt, offerDecision, lookFoun
 use Rattle.line_plan.specs.Plan.{planOf, planFor}
 use Rattle.line.specs.Steps.{made, step}
 use Rattle.line.specs.declared.Desk.{Desk}
-use Rattle.line_sound.specs.Sound.{recordAt, Offered, OldestOffered}
+use Rattle.line_sound.specs.Sound.{recordAt, Offered, OldestOffered, kept, KeptFits}
 
 -- ---- a search
 blank-passes-not : (number : Words) → (blocks number blank ≡ false) × (fits number blank ≡ false)
@@ -68,7 +70,7 @@ module _ (d : Desk) (number : Words) (full : length (d .words) ≡ Layout.words)
     unfolding planOf rowTaken
     tells-fitting unblocked Nothing e zero = absurd (omega (arith, zero))
     tells-fitting unblocked (At i) e zero =
-        let r : Record = recordAt d i in
+        let t : Turned = record { kind = recordAt d i .terms .kind; state = Await; active = recordAt d i .active; suspended = recordAt d i .suspended } in
         record {
           place = i;
           line = k;
@@ -77,8 +79,8 @@ module _ (d : Desk) (number : Words) (full : length (d .words) ≡ Layout.words)
           unblocked = none-passes (blocks number) (records (d .words)) (blank-passes-not number .0) unblocked;
           fitting = first-holds (fits number) (records (d .words)) i blank e;
           oldest = λ j h. first-earlier (fits number) (records (d .words)) i blank e j (omega (arith, h));
-          stored = records-applied (d .words) (Turn Await (r .active) (r .suspended) i) full;
-          others = lines-applied (d .words) (Turn Await (r .active) (r .suspended) i) full;
+          stored = records-applied (d .words) (Turn t i) full;
+          others = lines-applied (d .words) (Turn t i) full;
         }
 
     tells-blocking :
@@ -119,3 +121,10 @@ look-done d number k its free unblocked i fit =
 
 pub oldest-offered : OldestOffered
 oldest-offered = record { offers = look-offers; nothing = look-done }
+
+-- ---- a record that busy again left: Invoked and CCBS
+pub kept-fits : KeptFits
+unfolding rowTaken
+kept-fits place r =
+    kept (record { kind = Ccbs; state = Invoked; active = true; suspended = false })
+    (λ active. rw (words-same (r .terms .numberB) (r .terms .numberB) refl))

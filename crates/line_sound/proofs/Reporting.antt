@@ -12,13 +12,14 @@ use Rattle.lists.specs.declared.Found.the-variants.{At, Nothing}
 use Rattle.lists.specs.declared.words.Words.{Words}
 use Rattle.line_table.specs.Line.{withStatus}
 use Rattle.line_table.specs.Search.{marks}
+use Rattle.line_table.specs.Record.{activated}
 use Rattle.line_table.specs.declared.record.Record.{Record}
 use Rattle.line_table.specs.declared.record.Change.the-variants.{Report}
 use Rattle.line_table.specs.declared.inputs.Input.the-variants as Input
 use Rattle.line_records.specs.Layout as Layout
 use Rattle.line_records.specs.Records.{records}
 use Rattle.line_records.specs.Lines.{noLine, lines, lineAt}
-use Rattle.line_records.specs.Change.{activated, marking}
+use Rattle.line_records.specs.Change.{marking}
 use Rattle.line_records.proofs.ChangeLaws.{records-applied, lines-applied}
 use Rattle.line_plan.specs.Decide.{reportFound, reportDecision, decided}
 use Rattle.line_plan.specs.Plan.{planOf, planFor}

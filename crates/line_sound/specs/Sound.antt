@@ -22,11 +22,16 @@ use Rattle.terms.specs.declared.request.Request.{Request}
 use Rattle.places.specs.Places.{View, Placed, stored, held, names, Queued}
 use Rattle.line_table.specs.Inputs.{namesOf}
 use Rattle.line_table.specs.Line.{canTake, withStatus}
-use Rattle.line_table.specs.Record.{moved}
+use Rattle.line_table.specs.Record.{withState, withActivity, turned, activated}
 use Rattle.line_table.specs.Search.{used, ofLine, marks, blocks, fits}
+use Rattle.line_table.specs.Step.{rowTaken}
 use Rattle.line_table.specs.declared.table.State.the-variants.{Await}
+use Rattle.line_table.specs.declared.table.Row.the-variants.{BusyAgainKept}
 use Rattle.line_table.specs.declared.line.Line.{Line}
 use Rattle.line_table.specs.declared.record.Record.{Record}
+use Rattle.line_table.specs.declared.record.Turned.{Turned}
+use Rattle.line_table.specs.declared.record.Change.{Change}
+use Rattle.line_table.specs.declared.record.Change.the-variants.{Turn}
 use Rattle.line_table.specs.declared.record.Decision.the-variants.{Deny, Store}
 use Rattle.line_table.specs.declared.inputs.Act.{Act}
 use Rattle.line_table.specs.declared.inputs.Input.{Input}
@@ -34,7 +39,6 @@ use Rattle.line_table.specs.declared.inputs.Input.the-variants as Input
 use Rattle.line_records.specs.Layout as Layout
 use Rattle.line_records.specs.Records.{blank, records}
 use Rattle.line_records.specs.Lines.{noLine, lines, lineAt}
-use Rattle.line_records.specs.Change.{activated}
 use Rattle.line_plan.specs.Decide.{lineMost, countedDecision}
 use Rattle.line.specs.Entry.{messageEntry}
 use Rattle.line.specs.Start.{started}
@@ -162,7 +166,7 @@ pub record Offered (d : Desk) (number : Words) (after : Desk) : Type 0 where
   pub fitting : fits number (recordAt d place) ≡ true
   -- no older record fits
   pub oldest : (j : ℕ) → j < place → fits number (recordAt d j) ≡ false
-  pub stored : records (after .words) ≡ set (records (d .words)) place (moved (recordAt d place) Await (recordAt d place .active) (recordAt d place .suspended))
+  pub stored : records (after .words) ≡ set (records (d .words)) place (withState (recordAt d place) Await)
   pub others : lines (after .words) ≡ lines (d .words)
 
 pub record OldestOffered : Type 0 where
@@ -174,6 +178,13 @@ pub record OldestOffered : Type 0 where
       (d : Desk) (number : Words) (k : ℕ) → lineAt number (lines (d .words)) ≡ At k → canTake (getD (lines (d .words)) k noLine) ≡ true →
       ((j : ℕ) → blocks number (recordAt d j) ≡ false) → (i : ℕ) → fits number (recordAt d i) ≡ true →
       step d (Input.Look number) .outcome .refusal ≡ 0
+
+-- ---- what busy again with keep leaves (document 02, Ask 5): a record that fits a Look from now on, whatever its activity mark
+pub data Kept (place : ℕ) (r : Record) : Change → Type 0 where
+  kept : (t : Turned) → ((active : Bool) → fits (r .terms .numberB) (withActivity (turned t r) active) ≡ true) → Kept place r (Turn t place)
+
+abbrev pub KeptFits : Type 0
+KeptFits = (place : ℕ) (r : Record) → Kept place r (rowTaken place r BusyAgainKept .change)
 
 -- ---- what a line report changes: the line's status, and marks of activity, set and never cleared
 pub record Reports : Type 0 where

@@ -3,7 +3,9 @@ use Prim.Native.Nat.{ℕ}
 use mathlib.Core.Bool.{Bool, true, false}
 use Rattle.desk.specs.Outcome.{noTimers, doneWith}
 use Rattle.desk.specs.Sends.{sent}
+use Rattle.message.specs.declared.Kind.{Kind}
 use Rattle.desk.specs.declared.outcome.Timers.{Timers}
+use Rattle.terms.specs.Terms.{kindAfter}
 use Rattle.line_table.specs.Table.{effectOf}
 use Rattle.line_table.specs.declared.table.Row.{Row}
 use Rattle.line_table.specs.declared.table.Next.{Next}
@@ -24,9 +26,9 @@ markedBy Nothing before = before
 markedBy Sets before = true
 markedBy Clears before = false
 
-abbrev pub changed : Next → ℕ → Bool → Bool → Change
-changed Gone place active suspended = Remove place
-changed (To state) place active suspended = Turn state active suspended place
+abbrev pub changed : Next → ℕ → Kind → Bool → Bool → Change
+changed Gone place kind active suspended = Remove place
+changed (To state) place kind active suspended = Turn (record { kind = kind; state = state; active = active; suspended = suspended }) place
 
 -- a delete stops the guard
 abbrev pub stopped : Next → Timers
@@ -36,6 +38,9 @@ stopped (To state) = noTimers
 unfoldable pub rowTaken : ℕ → Record → Row → Plan
 rowTaken place r row =
     record {
-      change = changed (effectOf row .next) place (markedBy (effectOf row .active) (r .active)) (markedBy (effectOf row .suspended) (r .suspended));
+      change =
+          changed (effectOf row .next) place (kindAfter (effectOf row .kind) (r .terms .kind))
+          (markedBy (effectOf row .active) (r .active))
+          (markedBy (effectOf row .suspended) (r .suspended));
       outcome = doneWith (sent (effectOf row .sends) (r .terms .identifier) (r .terms .connection)) noTimers (stopped (effectOf row .next));
     }

@@ -7,6 +7,7 @@ use desk::outcome::Sending;
 use desk::outcome::refused;
 use desk::sends::Sends;
 use lists::words::Words;
+use message::Kind;
 use terms::Terms;
 use terms::request::Request;
 ghost use mathlib.Core.Path.{_≡_};
@@ -29,13 +30,20 @@ pub enum Decision {
     Report(usize, bool),
 }
 
-// What becomes of the desk: nothing; a new record put at a place; the record of a place turned, which is given this state, activity mark and suspended mark and keeps
-// its terms; the record of a place removed; the status of the line at a place, with its number, stored. What a turn gives stands before its place, so that in memory
-// no word of a new record lies across it: a search loads whole records, and is quicker where they begin with words.
+// What a row changes in a record that it turns; all else of the record stays.
+pub struct Turned {
+    pub kind: Kind,
+    pub state: State,
+    pub active: bool,
+    pub suspended: bool,
+}
+
+// What becomes of the desk: nothing; a new record put at a place; the record of a place turned; the record of a place removed; the status of the line at a place,
+// with its number, stored. What a turn gives stands before its place, so that in memory no word of a new record lies across it.
 pub enum Change {
     Stay,
     Put(usize, Record),
-    Turn(State, bool, bool, usize),
+    Turn(Turned, usize),
     Remove(usize),
     Report(usize, Words, bool),
 }

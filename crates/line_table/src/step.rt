@@ -2,6 +2,7 @@
 use crate::record::Change;
 use crate::record::Plan;
 use crate::record::Record;
+use crate::record::Turned;
 use crate::table::Mark;
 use crate::table::Next;
 use crate::table::Row;
@@ -10,6 +11,8 @@ use desk::outcome::Timers;
 use desk::outcome::done;
 use desk::outcome::no_timers;
 use desk::sends::sent_for;
+use message::Kind;
+use terms::kind_after;
 ghost use mathlib.Core.Path.{_≡_};
 ghost use Rattle.line_table.specs.Step.{guard, markedBy, changed, stopped, rowTaken};
 
@@ -35,12 +38,20 @@ fn marked_by(mark: Mark, before: bool) -> bool
     }
 }
 
-fn changed_to(next: Next, place: usize, active: bool, suspended: bool) -> Change
-    ensures { λ q. ⌜ q ≡ changed next place active suspended ⌝ }
+fn changed_to(next: Next, place: usize, kind: Kind, active: bool, suspended: bool) -> Change
+    ensures { λ q. ⌜ q ≡ changed next place kind active suspended ⌝ }
 {
     match next {
         Next::Gone => Change::Remove(place),
-        Next::To(state) => Change::Turn(state, active, suspended, place),
+        Next::To(state) => Change::Turn(
+            Turned {
+                kind,
+                state,
+                active,
+                suspended,
+            },
+            place,
+        ),
     }
 }
 
@@ -60,15 +71,18 @@ pub fn take_row(place: usize, r: Record, row: Row) -> Plan
 {
     let effect = effect_of(row);
     let next = effect.next;
+    let becomes = effect.kind;
     let sends = effect.sends;
     let activity = effect.active;
     let suspension = effect.suspended;
     let terms = r.terms;
     let identifier = terms.identifier;
     let connection = terms.connection;
+    let before = terms.kind;
+    let kind = kind_after(becomes, before);
     let active = marked_by(activity, r.active);
     let suspended = marked_by(suspension, r.suspended);
-    let change = changed_to(next, place, active, suspended);
+    let change = changed_to(next, place, kind, active, suspended);
     let sending = sent_for(sends, identifier, connection);
     let stops = timers_stopped(next);
     let outcome = done(sending, no_timers(), stops);

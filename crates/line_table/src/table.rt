@@ -2,7 +2,10 @@
 // A row says in which states it is taken and what it does; everything else about the line desk reads it here.
 use desk::sends::Sends;
 use message::Body;
+use message::Kind;
+use terms::Becomes;
 ghost use mathlib.Core.Path.{_≡_};
+ghost use Rattle.terms.specs.declared.Becomes.the-variants as Becomes;
 ghost use Rattle.line_table.specs.declared.table.Next.the-variants.{Gone, To};
 ghost use Rattle.line_table.specs.declared.table.Mark.the-variants as Mark;
 ghost use Rattle.line_table.specs.Table.{rule, ruleOf, homeOf, effectOf, holdsIn};
@@ -24,7 +27,7 @@ pub enum Row {
     Resumes,
     // ccRingout in Await, line free (8.2.1.5): the suspended mark is cleared, Alert
     RingsOut,
-    // ccRingout in Await, line busy, keep chosen (8.2.2.3): busy again; Invoked, marked active
+    // ccRingout in Await, line busy, keep chosen (8.2.2.3): busy again; Invoked, marked active, and CCBS from now on (6.2.1.3: document 02, Ask 5)
     BusyAgainKept,
     // ccRingout in Await, line busy, keep not chosen (8.2.2.3): busy again; deleted
     BusyAgainEnded,
@@ -61,9 +64,10 @@ pub enum Mark {
     Clears,
 }
 
-// What becomes of the record, what is sent, and what becomes of its two marks.
+// What becomes of the record and of its kind, what is sent, and what becomes of its two marks.
 pub struct Effect {
     pub next: Next,
+    pub kind: Becomes,
     pub sends: Sends,
     pub active: Mark,
     pub suspended: Mark,
@@ -76,11 +80,19 @@ pub struct Rule {
 }
 
 // The record goes on to a state, or stays in it.
-fn goes(home: Home, state: State, sends: Sends, active: Mark, suspended: Mark) -> Rule
-    ensures { λ r. ⌜ r ≡ rule home (To state) sends active suspended ⌝ }
+fn goes(
+    home: Home,
+    state: State,
+    kind: Becomes,
+    sends: Sends,
+    active: Mark,
+    suspended: Mark,
+) -> Rule
+    ensures { λ r. ⌜ r ≡ rule home (To state) kind sends active suspended ⌝ }
 {
     let effect = Effect {
         next: Next::To(state),
+        kind,
         sends,
         active,
         suspended,
@@ -90,10 +102,11 @@ fn goes(home: Home, state: State, sends: Sends, active: Mark, suspended: Mark) -
 
 // The record is deleted.
 fn ends(home: Home, sends: Sends) -> Rule
-    ensures { λ r. ⌜ r ≡ rule home Gone sends Mark.Nothing Mark.Nothing ⌝ }
+    ensures { λ r. ⌜ r ≡ rule home Gone Becomes.Nothing sends Mark.Nothing Mark.Nothing ⌝ }
 {
     let effect = Effect {
         next: Next::Gone,
+        kind: Becomes::Nothing,
         sends,
         active: Mark::Nothing,
         suspended: Mark::Nothing,
@@ -109,6 +122,7 @@ pub fn rule_of(row: Row) -> Rule
         Row::Offers => goes(
             Home::InInvoked,
             State::Await,
+            Becomes::Nothing,
             Sends::One(Body::CcExecPossible),
             Mark::Nothing,
             Mark::Nothing,
@@ -116,6 +130,7 @@ pub fn rule_of(row: Row) -> Rule
         Row::Suspends => goes(
             Home::InAwait,
             State::Await,
+            Becomes::Nothing,
             Sends::Nothing,
             Mark::Nothing,
             Mark::Sets,
@@ -123,6 +138,7 @@ pub fn rule_of(row: Row) -> Rule
         Row::Resumes => goes(
             Home::InAwait,
             State::Invoked,
+            Becomes::Nothing,
             Sends::Nothing,
             Mark::Nothing,
             Mark::Clears,
@@ -130,6 +146,7 @@ pub fn rule_of(row: Row) -> Rule
         Row::RingsOut => goes(
             Home::InAwait,
             State::Alert,
+            Becomes::Nothing,
             Sends::Nothing,
             Mark::Nothing,
             Mark::Clears,
@@ -137,6 +154,7 @@ pub fn rule_of(row: Row) -> Rule
         Row::BusyAgainKept => goes(
             Home::InAwait,
             State::Invoked,
+            Becomes::One(Kind::Ccbs),
             Sends::One(Body::RingoutError { error: 1 }),
             Mark::Sets,
             Mark::Clears,

@@ -21,7 +21,7 @@ use Rattle.pair_request.specs.Listed as RL
 use Rattle.pair_request.proofs.Over.{Over}
 use Rattle.pair_request.proofs.Claims.{acked-was-accepted, TakesUp, accepts-by-request, both-hold-waiting, both-hold-live, quiet-pair, over-now, over-next}
 use Rattle.pair.specs.World.{World, Event, lineHears, clerkHolds, lineHolds, messagesOf, next, Allowed, Run, stop, then, startWorld, Reached, reached}
-use Rattle.pair.specs.Demand3.{Acknowledged, isRequest, Requests, Heads, Stores, Accepted, Agree, Listed, no-record, invoked, wait-answer, suspended, ringout, NoRequest}
+use Rattle.pair.specs.Demand3.{Acknowledged, isRequest, Requests, Heads, Stores, Accepted, Agree, Listed, no-record, invoked, wait-answer, suspended, ringout, Quiet, NoRequest}
 use Rattle.pair.specs.Demand3.{AcknowledgedWasAccepted, DataAgree, KindAgrees, QuietListed, OverForGood, GoneForGood}
 use Rattle.pair.proofs.Ends.{waitingRecord, liveRecord, clerkRead, lineRead, lineRecord, messageRead, keepRead, connRead}
 use Rattle.pair.proofs.Wires.{messages-hit}
@@ -108,64 +108,51 @@ acknowledged-was-accepted given keep retain b w run j c e a =
     let h = run-told given keep retain b run j in
     h .1 .1 .1 (acknowledged-accepted (h .0) j c (h .0 .clerk) (h .1 .0) refl (sym e ∙ h .1 .1 .0 .clerk) a)
 
--- ---- 2. the data agree, and the kind
-abbrev Agreed : ClerkRecord.Record → LineRecord.Record → Type 0
-Agreed c l = Agree c l × (c .terms .kind ≡ l .terms .kind)
-
+-- ---- 2. the data agree
 agree-waiting :
-    (j : Words) (active : Bool) (d : R.Data) (t : R.Terms) (kind kind′ : Kind) (s : R.LState) → d ≡ R.asked t → kind ≡ kind′ →
-    Agreed (waitingRecord j d kind) (lineRecord j active t kind′ s)
-agree-waiting j active d t kind kind′ s e f = (
-  record {
-    numberA = ap (λ (x : R.Data). x .numberA) e;
-    numberB = ap (λ (x : R.Data). x .numberB) e;
-    service = ap (λ (x : R.Data). x .service) e;
-    keep = λ a. absurd (a refl);
-    connection = λ a. absurd (a refl);
-  },
-  f,
-)
+    (j : Words) (active : Bool) (d : R.Data) (t : R.Terms) (kind kind′ : Kind) (s : R.LState) → d ≡ R.asked t →
+    Agree (waitingRecord j d kind) (lineRecord j active t kind′ s)
+agree-waiting j active d t kind kind′ s e =
+    record {
+      numberA = ap (λ (x : R.Data). x .numberA) e;
+      numberB = ap (λ (x : R.Data). x .numberB) e;
+      service = ap (λ (x : R.Data). x .service) e;
+      keep = λ a. absurd (a refl);
+      connection = λ a. absurd (a refl);
+    }
 
 agree-live :
-    (j : Words) (active : Bool) (t t′ : R.Terms) (kind kind′ : Kind) (x : R.CState) (y : R.LState) → t ≡ t′ → kind ≡ kind′ →
-    Agreed (liveRecord j t kind x) (lineRecord j active t′ kind′ y)
-agree-live j active t t′ kind kind′ x y e f = (
-  record {
-    numberA = ap (λ (z : R.Terms). R.asked z .numberA) e;
-    numberB = ap (λ (z : R.Terms). R.asked z .numberB) e;
-    service = ap (λ (z : R.Terms). R.asked z .service) e;
-    keep = λ a. ap (λ (z : R.Terms). keepRead (R.keep z)) e;
-    connection = λ a. ap (λ (z : R.Terms). connRead (R.conn z)) e;
-  },
-  f,
-)
+    (j : Words) (active : Bool) (t t′ : R.Terms) (kind kind′ : Kind) (x : R.CState) (y : R.LState) → t ≡ t′ →
+    Agree (liveRecord j t kind x) (lineRecord j active t′ kind′ y)
+agree-live j active t t′ kind kind′ x y e =
+    record {
+      numberA = ap (λ (z : R.Terms). R.asked z .numberA) e;
+      numberB = ap (λ (z : R.Terms). R.asked z .numberB) e;
+      service = ap (λ (z : R.Terms). R.asked z .service) e;
+      keep = λ a. ap (λ (z : R.Terms). keepRead (R.keep z)) e;
+      connection = λ a. ap (λ (z : R.Terms). connRead (R.conn z)) e;
+    }
 
 agree-net :
     {p : R.Policy} (n : R.Net) → R.Reach p n → (j : Words) (active : Bool) (c : ClerkRecord.Record) (l : LineRecord.Record) (k : R.Clerk) (m : R.Line) →
-    n .clerk ≡ k → n .line ≡ m → P.one c ≡ clerkRead j k → P.one l ≡ lineRead j active m → Agreed c l
+    n .clerk ≡ k → n .line ≡ m → P.one c ≡ clerkRead j k → P.one l ≡ lineRead j active m → Agree c l
 agree-net n r j active c l R.absent m q s e f = not-one (sym e)
 agree-net n r j active c l (R.waiting d kind) R.none q s e f = not-one (sym f)
 agree-net n r j active c l (R.waiting d kind) (R.holds t kind′ y) q s e f =
-    let h = both-hold-waiting d t kind kind′ y r q s in
-    subst (λ a. Agreed a l) (sym (the-one c (waitingRecord j d kind) e))
-    (subst (λ b. Agreed (waitingRecord j d kind) b) (sym (the-one l (lineRecord j active t kind′ y) f)) (agree-waiting j active d t kind kind′ y (h .0) (h .1)))
+    subst (λ a. Agree a l) (sym (the-one c (waitingRecord j d kind) e))
+    (subst (λ b. Agree (waitingRecord j d kind) b) (sym (the-one l (lineRecord j active t kind′ y) f))
+    (agree-waiting j active d t kind kind′ y (both-hold-waiting d t kind kind′ y r q s)))
 agree-net n r j active c l (R.live t kind x) R.none q s e f = not-one (sym f)
 agree-net n r j active c l (R.live t kind x) (R.holds t′ kind′ y) q s e f =
-    let h = both-hold-live t t′ kind kind′ x y r q s in
-    subst (λ a. Agreed a l) (sym (the-one c (liveRecord j t kind x) e))
-    (subst (λ b. Agreed (liveRecord j t kind x) b) (sym (the-one l (lineRecord j active t′ kind′ y) f)) (agree-live j active t t′ kind kind′ x y (h .0) (h .1)))
+    subst (λ a. Agree a l) (sym (the-one c (liveRecord j t kind x) e))
+    (subst (λ b. Agree (liveRecord j t kind x) b) (sym (the-one l (lineRecord j active t′ kind′ y) f))
+    (agree-live j active t t′ kind kind′ x y (both-hold-live t t′ kind kind′ x y r q s)))
 
-agreed : (w : World) → Reached w → (j : Words) (c : ClerkRecord.Record) (l : LineRecord.Record) → clerkHolds w j ≡ P.one c → lineHolds w j ≡ P.one l → Agreed c l
-agreed w reach j c l e f =
+pub data-agree : DataAgree
+data-agree w reach j c l e f =
     let k = known-world w reach .1 .1 j in
     let sim = k .1 .1 in
     agree-net (k .0) (k .1 .0) j (sim .active) c l (k .0 .clerk) (k .0 .line) refl refl (sym e ∙ sim .clerk) (sym f ∙ sim .line)
-
-pub data-agree : DataAgree
-data-agree w reach j c l e f = agreed w reach j c l e f .0
-
-pub kind-agrees : KindAgrees
-kind-agrees w reach j c l e f = agreed w reach j c l e f .1
 
 -- ---- 3. quiet wires mean a listed pair
 listed-read : {c : R.Clerk} {l : R.Line} (j : Words) (active : Bool) → RL.Listed c l → Listed (clerkRead j c) (lineRead j active l)
@@ -179,14 +166,45 @@ quiet-wire : (j : Words) (ms : List R.Msg) → map (messageRead j) ms ≡ [] →
 quiet-wire j [] e = refl
 quiet-wire j (m ∷ ms) e = let z : _≡_ {A = ℕ} 0 1 = cc in absurd (omega (arith, z))
 
+-- the reading of a request whose wires are quiet
+module _ (w : World) (reach : Reached w) (j : Words) (quiet : Quiet w j) where
+  abbrev n : R.Net
+  n = known-world w reach .1 .1 j .0
+
+  sim : Sim j w n
+  sim = known-world w reach .1 .1 j .1 .1
+
+  quiet-net : RL.Listed (n .clerk) (n .line)
+  quiet-net =
+      quiet-pair (known-world w reach .1 .1 j .1 .0) (told-false (n .dropped) (sim .dropped) (quiet .undropped)) (quiet-wire j (n .up) (sym (sim .up) ∙ quiet .up))
+      (quiet-wire j (n .down) (sym (sim .down) ∙ quiet .down))
+
 pub quiet-listed : QuietListed
-quiet-listed w reach j d u v =
-    let k = known-world w reach .1 .1 j in
-    let n = k .0 in
-    let sim = k .1 .1 in
-    let q = quiet-pair (k .1 .0) (told-false (n .dropped) (sim .dropped) d) (quiet-wire j (n .up) (sym (sim .up) ∙ u)) (quiet-wire j (n .down) (sym (sim .down) ∙ v)) in
-    subst (λ x. Listed x (lineHolds w j)) (sym (sim .clerk))
-    (subst (λ x. Listed (clerkRead j (n .clerk)) x) (sym (sim .line)) (listed-read j (sim .active) q))
+quiet-listed w reach j quiet =
+    let s = sim w reach j quiet in
+    subst (λ x. Listed x (lineHolds w j)) (sym (s .clerk))
+    (subst (λ x. Listed (clerkRead j (n w reach j quiet .clerk)) x) (sym (s .line)) (listed-read j (s .active) (quiet-net w reach j quiet)))
+
+-- a listed pair has one kind
+kind-same :
+    (c : ClerkRecord.Record) (l : LineRecord.Record) (c′ : ClerkRecord.Record) (l′ : LineRecord.Record) → P.one c ≡ P.one c′ → P.one l ≡ P.one l′ →
+    c′ .terms .kind ≡ l′ .terms .kind → c .terms .kind ≡ l .terms .kind
+kind-same c l c′ l′ e f h =
+    ap (λ (x : ClerkRecord.Record). x .terms .kind) (the-one c c′ e) ∙ h ∙ sym (ap (λ (x : LineRecord.Record). x .terms .kind) (the-one l l′ f))
+
+kind-read :
+    {a : R.Clerk} {b : R.Line} (j : Words) (active : Bool) (c : ClerkRecord.Record) (l : LineRecord.Record) → RL.Listed a b →
+    P.one c ≡ clerkRead j a → P.one l ≡ lineRead j active b → c .terms .kind ≡ l .terms .kind
+kind-read j active c l RL.no-record e f = not-one (sym e)
+kind-read j active c l RL.invoked-invoked e f = kind-same c l _ _ e f refl
+kind-read j active c l RL.answer-await e f = kind-same c l _ _ e f refl
+kind-read j active c l RL.suspended-await e f = kind-same c l _ _ e f refl
+kind-read j active c l RL.ringout-alert e f = kind-same c l _ _ e f refl
+
+pub kind-agrees : KindAgrees
+kind-agrees w reach j quiet c l e f =
+    let s = sim w reach j quiet in
+    kind-read j (s .active) c l (quiet-net w reach j quiet) (sym e ∙ s .clerk) (sym f ∙ s .line)
 
 -- ---- 4. run-out timers mean nobody holds it
 follows-over : {p : R.Policy} {w : World} {e : Event} {j : Words} {n m : R.Net} → Follows p w e j n m → Over n → Over m

@@ -68,8 +68,8 @@ use Rattle.pair.proofs.Letters.{letter-name, ask-letter}
 abbrev leaves : Change → Held Record → Held Record
 leaves Stay before = before
 leaves (Put i r) before = one r
-leaves (Turn i keep connection state) none = none
-leaves (Turn i keep connection state) (one r) = one (turned keep connection state r)
+leaves (Turn i t) none = none
+leaves (Turn i t) (one r) = one (turned t r)
 leaves (Remove i) before = none
 
 -- it leaves and sends what an answer of the reading says
@@ -191,13 +191,17 @@ live-takes j i t kind R.suspended (R.exec R.ret) false = (refl, refl)
 live-takes j i t kind R.suspended (R.exec R.rls) true = (refl, refl)
 live-takes j i t kind R.suspended (R.exec R.rls) false = (refl, refl)
 live-takes j i t kind s R.ringout busy = (refl, refl)
-live-takes j i (R.chosen d true n) kind R.invoked R.busyAgain busy = (refl, refl)
+live-takes j i (R.chosen d true n) Ccbs R.invoked R.busyAgain busy = (refl, refl)
+live-takes j i (R.chosen d true n) Ccnr R.invoked R.busyAgain busy = (refl, refl)
 live-takes j i (R.chosen d false n) kind R.invoked R.busyAgain busy = (refl, refl)
-live-takes j i (R.chosen d true n) kind R.waitAnswer R.busyAgain busy = (refl, refl)
+live-takes j i (R.chosen d true n) Ccbs R.waitAnswer R.busyAgain busy = (refl, refl)
+live-takes j i (R.chosen d true n) Ccnr R.waitAnswer R.busyAgain busy = (refl, refl)
 live-takes j i (R.chosen d false n) kind R.waitAnswer R.busyAgain busy = (refl, refl)
-live-takes j i (R.chosen d true n) kind R.ringing R.busyAgain busy = (refl, refl)
+live-takes j i (R.chosen d true n) Ccbs R.ringing R.busyAgain busy = (refl, refl)
+live-takes j i (R.chosen d true n) Ccnr R.ringing R.busyAgain busy = (refl, refl)
 live-takes j i (R.chosen d false n) kind R.ringing R.busyAgain busy = (refl, refl)
-live-takes j i (R.chosen d true n) kind R.suspended R.busyAgain busy = (refl, refl)
+live-takes j i (R.chosen d true n) Ccbs R.suspended R.busyAgain busy = (refl, refl)
+live-takes j i (R.chosen d true n) Ccnr R.suspended R.busyAgain busy = (refl, refl)
 live-takes j i (R.chosen d false n) kind R.suspended R.busyAgain busy = (refl, refl)
 live-takes j i t kind R.invoked R.noMatch busy = (refl, refl)
 live-takes j i t kind R.waitAnswer R.noMatch busy = (refl, refl)
@@ -331,7 +335,7 @@ module _ (j : Words) (rs : List Record) where
   take-at i input l busy Meant.NotHere = refl
   take-at i input l busy (Meant.Record message) =
       let r = getD rs i blank in
-      pick-elim (λ (d : Decision). planOf rs input d ≡ planAt input r d) (holdsFor (rowFor message busy (r .terms .keep)) r)
+      pick-elim (λ (d : Decision). planOf rs input d ≡ planAt input r d) (holdsFor (rowFor message busy (r .terms .keep) (r .terms .kind)) r)
       (λ h.
       pick-elim (λ (d : Decision). planOf rs input d ≡ planAt input r d) (carrierFits (l .body) (r .terms .connection) (l .carrier))
       (λ g. refl)
@@ -470,9 +474,9 @@ module _ (rs : List Record) (input : Input) where
   unfolding planOf rowTaken meant
   own-taken i e row = by (effectOf row .next)
     where
-      by : (next : Next) → OwnChange (changed next i (settledBy input (getD rs i blank)))
+      by : (next : Next) → OwnChange (changed next (effectOf row .kind) i (settledBy input (getD rs i blank)))
       by Gone = removes i e
-      by (To state) = turns-found clerkView rs _ i (leaves (changed (To state) i (settledBy input (getD rs i blank)))) e refl
+      by (To state) = turns-found clerkView rs _ i (leaves (changed (To state) (effectOf row .kind) i (settledBy input (getD rs i blank)))) e refl
 
   own-message :
       (l : Letter) (busy : Bool) (m : Meant) (f : Found) → meant (namesOf input .identifier) rs ≡ f → OwnPlan (messageMeant rs l busy f m)
@@ -480,7 +484,7 @@ module _ (rs : List Record) (input : Input) where
   own-message l busy (Meant.Record message) Nothing e = own-refused _ _
   own-message l busy (Meant.Record message) (At i) e =
       let r = getD rs i blank in
-      let row = rowFor message busy (r .terms .keep) in
+      let row = rowFor message busy (r .terms .keep) (r .terms .kind) in
       pick-elim OwnPlan (holdsFor row r)
       (λ h. pick-elim OwnPlan (carrierFits (l .body) (r .terms .connection) (l .carrier)) (λ g. own-taken i e row) (λ g. own-refused _ _))
       (λ h. own-refused _ _)

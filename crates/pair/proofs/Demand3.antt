@@ -8,8 +8,8 @@ demand-3 =
     record {
       acknowledgedWasAccepted = acknowledged-was-accepted;
       dataAgree = data-agree;
-      kindAgrees = kind-agrees;
       quietListed = quiet-listed;
+      kindAgrees = kind-agrees;
       overForGood = over-for-good;
       goneForGood = gone-for-good;
       noOtherAltered = no-other-altered;

@@ -107,8 +107,8 @@ module _ (ws : List ℕ) (identifier : Words) (reading : R.Line → R.LAnswer) w
 pub own-row :
     (rs : List Record) (identifier : Words) (i : ℕ) (r : Record) → meant identifier rs ≡ At i → (row : Row) → OwnChange rs identifier (rowTaken i r row .change)
 unfolding rowTaken meant
-own-row rs identifier i r e row = by (effectOf row .next) _ _
+own-row rs identifier i r e row = by (effectOf row .next) _ _ _
   where
-    by : (next : Next) (active suspended : Bool) → OwnChange rs identifier (changed next i active suspended)
-    by Gone active suspended = removes i e
-    by (To state) active suspended = turns-found lineView rs identifier i (leaves (changed (To state) i active suspended)) e refl
+    by : (next : Next) (kind : Kind) (active suspended : Bool) → OwnChange rs identifier (changed next i kind active suspended)
+    by Gone kind active suspended = removes i e
+    by (To state) kind active suspended = turns-found lineView rs identifier i (leaves (changed (To state) i kind active suspended)) e refl

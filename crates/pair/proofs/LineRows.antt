@@ -19,7 +19,7 @@ use Rattle.terms.specs.Request.{canKeepSent}
 use Rattle.places.specs.Places as P
 use Rattle.clerk.specs.Entry.{askFlags}
 use Rattle.line_table.specs.Inputs.{rowFor, rowOfAct, replyMissed, keepChosen, connectionChosen}
-use Rattle.line_table.specs.Record.{moved, refusedPlan}
+use Rattle.line_table.specs.Record.{turned, refusedPlan}
 use Rattle.line_table.specs.Search.{invoked}
 use Rattle.line_table.specs.Step.{rowTaken}
 use Rattle.line_table.specs.declared.table.Row.{Row}
@@ -44,8 +44,8 @@ use Rattle.pair.proofs.Ends.{keepRead, connRead, lineRecord, lineRead, 
 abbrev pub leaves : Change → P.Held Record → P.Held Record
 leaves Stay before = before
 leaves (Put i r) before = P.one r
-leaves (Turn state active suspended i) P.none = P.none
-leaves (Turn state active suspended i) (P.one r) = P.one (moved r state active suspended)
+leaves (Turn t i) P.none = P.none
+leaves (Turn t i) (P.one r) = P.one (turned t r)
 leaves (Remove i) before = P.none
 leaves (Report k number busy) before = before
 

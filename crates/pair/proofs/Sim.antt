@@ -10,7 +10,7 @@ use Rattle.places.specs.Places as P
 use Rattle.clerk.specs.declared.steps.Stepped as ClerkStepped
 use Rattle.clerk_sound.specs.Sound as ClerkSound
 use Rattle.line_table.specs.declared.record.Record as LineRecord
-use Rattle.line_records.specs.Change.{activated}
+use Rattle.line_table.specs.Record.{activated}
 use Rattle.line.specs.declared.steps.Stepped as LineStepped
 use Rattle.line_sound.specs.Sound as LineSound
 use Rattle.pair_request.specs.Reading as R

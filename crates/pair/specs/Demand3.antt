@@ -9,7 +9,7 @@ use Rattle.desk.specs.declared.{Connection.the-variants.Empty, letter.Letter.Le
 use Rattle.places.specs.Places.{Held, none, one}
 use Rattle.clerk_table.specs.Inputs.{namesOf}
 use Rattle.clerk_table.specs.declared.{inputs.Input.Input as ClerkInput, record.Record.Record as ClerkRecord, table.State.State as ClerkState}
-use Rattle.line_table.specs.{Record.moved, Search.marks, declared.inputs.Act.Act as LineAct, declared.inputs.Input.Input as LineInput}
+use Rattle.line_table.specs.{Record.activated, Search.marks, declared.inputs.Act.Act as LineAct, declared.inputs.Input.Input as LineInput}
 use Rattle.line_table.specs.declared.{record.Record.Record as LineRecord, table.State.State as LineState}
 use Rattle.line.specs.Steps as Line
 use Rattle.pair_request.specs.Signal.{Signal}
@@ -61,12 +61,6 @@ abbrev pub DataAgree : Type 0
 DataAgree =
     (w : World) → Reached w → (identifier : Words) (c : ClerkRecord) (l : LineRecord) → clerkHolds w identifier ≡ one c → lineHolds w identifier ≡ one l → Agree c l
 
--- and so does the kind, which the demand does not name
-abbrev pub KindAgrees : Type 0
-KindAgrees =
-    (w : World) → Reached w → (identifier : Words) (c : ClerkRecord) (l : LineRecord) →
-    clerkHolds w identifier ≡ one c → lineHolds w identifier ≡ one l → c .terms .kind ≡ l .terms .kind
-
 -- ---- 3. quiet wires mean a listed pair (document 01, "Pairs when the wires are quiet")
 pub data Listed : Held ClerkRecord → Held LineRecord → Type 0 where
   no-record : Listed none none
@@ -76,11 +70,20 @@ pub data Listed : Held ClerkRecord → Held LineRecord → Type 0 where
   suspended : {c : ClerkRecord} {l : LineRecord} → c .state ≡ ClerkState.Suspended → l .state ≡ LineState.Await → l .suspended ≡ true → Listed (one c) (one l)
   ringout : {c : ClerkRecord} {l : LineRecord} → c .state ≡ ClerkState.Ringout → l .state ≡ LineState.Alert → Listed (one c) (one l)
 
--- if none of its messages was dropped or is under way, what the ends hold is a listed pair
+-- none of its messages was dropped or is under way
+pub record Quiet (w : World) (identifier : Words) : Type 0 where
+  pub undropped : Noted (dropped identifier) (w .history) → ⊥
+  pub up : messagesOf identifier (w .up) ≡ []
+  pub down : messagesOf identifier (w .down) ≡ []
+
 abbrev pub QuietListed : Type 0
-QuietListed =
-    (w : World) → Reached w → (identifier : Words) → (Noted (dropped identifier) (w .history) → ⊥) →
-    messagesOf identifier (w .up) ≡ [] → messagesOf identifier (w .down) ≡ [] → Listed (clerkHolds w identifier) (lineHolds w identifier)
+QuietListed = (w : World) → Reached w → (identifier : Words) → Quiet w identifier → Listed (clerkHolds w identifier) (lineHolds w identifier)
+
+-- and the kinds agree (document 02, Ask 5): busy again changes the kind at the line's end first, and at the clerk's when the message has come
+abbrev pub KindAgrees : Type 0
+KindAgrees =
+    (w : World) → Reached w → (identifier : Words) → Quiet w identifier → (c : ClerkRecord) (l : LineRecord) →
+    clerkHolds w identifier ≡ one c → lineHolds w identifier ≡ one l → c .terms .kind ≡ l .terms .kind
 
 -- ---- 4. run-out timers mean nobody holds it
 -- none of these messages is a request
@@ -124,7 +127,7 @@ pub data Unaltered : Event → Held LineRecord → Held LineRecord → Type 0 wh
   same : {e : Event} {r : Held LineRecord} → Unaltered e r r
   marked :
       {number : Words} (r : LineRecord) → marks number r ≡ true →
-      Unaltered (lineDoes (LineInput.Report number true)) (one r) (one (moved r (r .state) true (r .suspended)))
+      Unaltered (lineDoes (LineInput.Report number true)) (one r) (one (activated r))
 
 abbrev pub NoOtherAltered : Type 0
 NoOtherAltered =
@@ -146,8 +149,8 @@ NoOtherMessage =
 pub record Demand3 : Type 0 where
   pub acknowledgedWasAccepted : AcknowledgedWasAccepted
   pub dataAgree : DataAgree
-  pub kindAgrees : KindAgrees
   pub quietListed : QuietListed
+  pub kindAgrees : KindAgrees
   pub overForGood : OverForGood
   pub goneForGood : GoneForGood
   pub noOtherAltered : NoOtherAltered

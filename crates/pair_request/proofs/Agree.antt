@@ -8,15 +8,15 @@ use Rattle.pair_request.specs.Reading.{ret, Data, Terms, chosen, asked, 
 use Rattle.pair_request.specs.Listed.{NotReq, NoReq}
 use Rattle.pair_request.proofs.Effects.{noReq++, noReq-left, just-cancel, NotRes, NoRes, ClerkActEffect, stays, quit-waiting, drops-waiting, quit-live, accepts, resuming, recalling, act-plain, ClerkTakeEffect, take-stays, take-replies, take-ends-waiting, take-ends, take-ends-cancel, take-moves, take-suspends, take-acks, clerk-take-effect, take-plain, LineActEffect, line-stays, line-quits, line-offers, line-alerts, line-fails, line-act-silent, silent, LineTakeEffect, line-take-stays, line-take-ends, line-take-moves, line-take-accepts, line-take-effect, Keepable, keepable, Move, still, ask, clerk-act, line-act, clerk-get, line-get, up-lost, down-lost, moves}
 
--- what was asked and chosen, the terms t and the kind; whether it was accepted; what the clerk's end holds
-pub data ClerkOk (t : Terms) (kind : Kind) : Bool → Clerk → Type 0 where
-  ok-absent : {a : Bool} → ClerkOk t kind a absent
-  ok-waiting : {a : Bool} → ClerkOk t kind a (waiting (asked t) kind)
-  ok-live : {s : CState} → ClerkOk t kind true (live t kind s)
+-- what was asked and chosen, the terms t; whether it was accepted; what the clerk's end holds. Of the kind nothing is said: busy again changes it at one end first
+pub data ClerkOk (t : Terms) : Bool → Clerk → Type 0 where
+  ok-absent : {a : Bool} → ClerkOk t a absent
+  ok-waiting : {kind : Kind} {a : Bool} → ClerkOk t a (waiting (asked t) kind)
+  ok-live : {kind : Kind} {s : CState} → ClerkOk t true (live t kind s)
 
-pub data LineOk (t : Terms) (kind : Kind) : Bool → Line → Type 0 where
-  ok-none : {a : Bool} → LineOk t kind a none
-  ok-holds : {s : LState} → LineOk t kind true (holds t kind s)
+pub data LineOk (t : Terms) : Bool → Line → Type 0 where
+  ok-none : {a : Bool} → LineOk t a none
+  ok-holds : {kind : Kind} {s : LState} → LineOk t true (holds t kind s)
 
 pub data DownOk (t : Terms) : Bool → List Msg → Type 0 where
   down-nil : {a : Bool} → DownOk t a []
@@ -29,7 +29,7 @@ pub data Agrees : Bool → Clerk → List Msg → Line → List Msg → Bool →
   early-waiting : {d : Data} {kind : Kind} {q : ℕ} {u : List Msg} → NoReq u → Agrees true (waiting d kind) (request d kind q ∷ u) none [] false
   early-absent : {d : Data} {kind : Kind} {q : ℕ} {u : List Msg} → NoReq u → Agrees true absent (request d kind q ∷ u) none [] false
   after :
-      {t : Terms} {kind : Kind} {c : Clerk} {u : List Msg} {l : Line} {v : List Msg} {a : Bool} → Keepable t → NoReq u → ClerkOk t kind a c → LineOk t kind a l →
+      {t : Terms} {c : Clerk} {u : List Msg} {l : Line} {v : List Msg} {a : Bool} → Keepable t → NoReq u → ClerkOk t a c → LineOk t a l →
       DownOk t a v → Agrees true c u l v a
 
 down++ : {t : Terms} {a : Bool} {v : List Msg} (o : List Msg) → DownOk t a v → NoRes o → DownOk t a (v ++ o)
@@ -56,7 +56,7 @@ agrees-asks :
     Agrees true (waiting d kind) (u ++ (request d kind q ∷ [])) l v a
 agrees-asks d kind q before = early-waiting tt
 
-ok-acts : {t : Terms} {kind : Kind} {a : Bool} {c c′ : Clerk} {o : List Msg} → ClerkOk t kind a c → ClerkActEffect c c′ o → ClerkOk t kind a c′
+ok-acts : {t : Terms} {a : Bool} {c c′ : Clerk} {o : List Msg} → ClerkOk t a c → ClerkActEffect c c′ o → ClerkOk t a c′
 ok-acts k stays = k
 ok-acts ok-waiting quit-waiting = ok-absent
 ok-acts ok-waiting drops-waiting = ok-absent
@@ -75,8 +75,8 @@ agrees-acts {u} {o} (after f h k l v) e = after f (noReq++ u o h (act-plain e)) 
 
 -- ---- a message at the clerk's end
 ok-gets :
-    (t : Terms) {kind : Kind} {a : Bool} {m : Msg} {v : List Msg} {c c′ : Clerk} {o : List Msg} → Keepable t → ClerkOk t kind a c → DownOk t a (m ∷ v) →
-    ClerkTakeEffect c m c′ o → ClerkOk t kind a c′
+    (t : Terms) {a : Bool} {m : Msg} {v : List Msg} {c c′ : Clerk} {o : List Msg} → Keepable t → ClerkOk t a c → DownOk t a (m ∷ v) →
+    ClerkTakeEffect c m c′ o → ClerkOk t a c′
 ok-gets t f k j take-stays = k
 ok-gets t f k j take-replies = k
 ok-gets t f ok-waiting j take-ends-waiting = ok-absent
@@ -93,7 +93,7 @@ agrees-clerk-gets :
 agrees-clerk-gets {u} {o} (after {t} f h k l v) e = after f (noReq++ u o h (take-plain e)) (ok-gets t f k v e) l (down-tail v)
 
 -- ---- an act at the line's end
-ok-line-acts : {t : Terms} {kind : Kind} {a : Bool} {l l′ : Line} {o : List Msg} → LineOk t kind a l → LineActEffect l l′ o → LineOk t kind a l′
+ok-line-acts : {t : Terms} {a : Bool} {l l′ : Line} {o : List Msg} → LineOk t a l → LineActEffect l l′ o → LineOk t a l′
 ok-line-acts k line-stays = k
 ok-line-acts k line-quits = ok-none
 ok-line-acts ok-holds line-offers = ok-holds
@@ -101,7 +101,7 @@ ok-line-acts k line-alerts = ok-none
 ok-line-acts k line-fails = ok-none
 
 -- the history's flag after a step of the line's: set if the line holds the request now
-flag-same : {t : Terms} {kind : Kind} {a : Bool} {l : Line} → LineOk t kind a l → or (held l) a ≡ a
+flag-same : {t : Terms} {a : Bool} {l : Line} → LineOk t a l → or (held l) a ≡ a
 flag-same ok-none = refl
 flag-same ok-holds = refl
 
@@ -115,15 +115,15 @@ agrees-line-acts {o} (after f h k l v) e = rw (flag-same (ok-line-acts l e)) (af
 
 -- ---- a message at the line's end
 line-gets-plain :
-    {p : Policy} {t : Terms} {kind : Kind} {a : Bool} {m : Msg} {l l′ : Line} {o v : List Msg} → NotReq m → LineOk t kind a l → DownOk t a v →
-    LineTakeEffect p l m l′ o → LineOk t kind a l′ × DownOk t a (v ++ o)
+    {p : Policy} {t : Terms} {a : Bool} {m : Msg} {l l′ : Line} {o v : List Msg} → NotReq m → LineOk t a l → DownOk t a v →
+    LineTakeEffect p l m l′ o → LineOk t a l′ × DownOk t a (v ++ o)
 line-gets-plain {o} h k j (line-take-stays i) = (k, down++ o j (silent i))
 line-gets-plain {o} h k j (line-take-ends i) = (ok-none, down++ o j (silent i))
 line-gets-plain {o} h ok-holds j (line-take-moves i) = (ok-holds, down++ o j (silent i))
 line-gets-plain h k j line-take-accepts = absurd h
 
 early-gets :
-    {p : Policy} {c : Clerk} {d : Data} {kind : Kind} {q : ℕ} {u o : List Msg} {l′ : Line} → NoReq u → ((a : Bool) → ClerkOk (termsOf p d q) kind a c) →
+    {p : Policy} {c : Clerk} {d : Data} {kind : Kind} {q : ℕ} {u o : List Msg} {l′ : Line} → NoReq u → ((a : Bool) → ClerkOk (termsOf p d q) a c) →
     LineTakeEffect p none (request d kind q) l′ o → Agrees true c u l′ o (or (held l′) false)
 early-gets {p} {d} {q} {o} h k (line-take-stays i) = after (keepable p d q) h (k _) ok-none (down++ o down-nil (silent i))
 early-gets {p} {d} {q} {o} h k (line-take-ends i) = after (keepable p d q) h (k _) ok-none (down++ o down-nil (silent i))
@@ -142,7 +142,7 @@ unfolding leftOut
 agrees-loses-up p i before = before
 agrees-loses-up p zero (early-waiting {d} {q} h) = after {t = termsOf p d q} (keepable p d q) h ok-waiting ok-none down-nil
 agrees-loses-up p (suc i) (early-waiting {u} h) = early-waiting (noReq-left i u h)
-agrees-loses-up p zero (early-absent {d} {kind} {q} h) = after {t = termsOf p d q} {kind = kind} (keepable p d q) h ok-absent ok-none down-nil
+agrees-loses-up p zero (early-absent {d} {q} h) = after {t = termsOf p d q} (keepable p d q) h ok-absent ok-none down-nil
 agrees-loses-up p (suc i) (early-absent {u} h) = early-absent (noReq-left i u h)
 agrees-loses-up {u} p i (after f h k l v) = after f (noReq-left i u h) k l v
 
@@ -194,13 +194,13 @@ present-used (after f h k l v) e = refl
 
 pub waiting-agrees :
     {y : Bool} {d : Data} {t : Terms} {kind kind′ : Kind} {s : LState} {u v : List Msg} {a : Bool} → Agrees y (waiting d kind) u (holds t kind′ s) v a →
-    (d ≡ asked t) × (kind ≡ kind′)
-waiting-agrees (after f h ok-waiting ok-holds v) = (refl, refl)
+    d ≡ asked t
+waiting-agrees (after f h ok-waiting ok-holds v) = refl
 
 pub live-agrees :
     {y : Bool} {t t′ : Terms} {kind kind′ : Kind} {x : CState} {s : LState} {u v : List Msg} {a : Bool} → Agrees y (live t kind x) u (holds t′ kind′ s) v a →
-    (t ≡ t′) × (kind ≡ kind′)
-live-agrees (after f h ok-live ok-holds v) = (refl, refl)
+    t ≡ t′
+live-agrees (after f h ok-live ok-holds v) = refl
 
 -- a request that was not taken up is nowhere
 pub untaken : {y : Bool} {c : Clerk} {u : List Msg} {l : Line} {v : List Msg} {a : Bool} → Agrees y c u l v a → y ≡ false → (c ≡ absent) × (l ≡ none)

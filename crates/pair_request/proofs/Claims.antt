@@ -93,12 +93,12 @@ accepts-by-request (losesDown i) r f h = absurd (both-ways f h)
 -- ---- the data agree while both hold it
 pub both-hold-waiting :
     {p : Policy} {s : Net} (d : Data) (t : Terms) (kind kind′ : Kind) (y : LState) → Reach p s → s .clerk ≡ waiting d kind → s .line ≡ holds t kind′ y →
-    (d ≡ asked t) × (kind ≡ kind′)
+    d ≡ asked t
 both-hold-waiting d t kind kind′ y r e f = waiting-agrees (rw (e, f) at (agreed r))
 
 pub both-hold-live :
     {p : Policy} {s : Net} (t t′ : Terms) (kind kind′ : Kind) (x : CState) (y : LState) → Reach p s → s .clerk ≡ live t kind x → s .line ≡ holds t′ kind′ y →
-    (t ≡ t′) × (kind ≡ kind′)
+    t ≡ t′
 both-hold-live t t′ kind kind′ x y r e f = live-agrees (rw (e, f) at (agreed r))
 
 -- ---- nothing dropped and nothing under way: a listed pair

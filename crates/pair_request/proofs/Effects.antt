@@ -145,7 +145,7 @@ pub data ClerkTakeEffect : Clerk → Msg → Clerk → List Msg → Type 0 where
   take-ends-waiting : {m : Msg} {d : Data} {kind : Kind} → ClerkTakeEffect (waiting d kind) m absent []
   take-ends : {m : Msg} {t : Terms} {kind : Kind} {s : CState} → ClerkTakeEffect (live t kind s) m absent []
   take-ends-cancel : {m : Msg} {t : Terms} {kind : Kind} {s : CState} → ClerkTakeEffect (live t kind s) m absent (cancel (conn t) ∷ [])
-  take-moves : {m : Msg} {t : Terms} {kind : Kind} {s s′ : CState} → ClerkTakeEffect (live t kind s) m (live t kind s′) []
+  take-moves : {m : Msg} {t : Terms} {kind kind′ : Kind} {s s′ : CState} → ClerkTakeEffect (live t kind s) m (live t kind′ s′) []
   take-suspends : {m : Msg} {t : Terms} {kind : Kind} {s : CState} → ClerkTakeEffect (live t kind s) m (live t kind suspended) (suspend (conn t) ∷ [])
   take-acks : {d : Data} {kind : Kind} {k : Bool} {n : Conn} → ClerkTakeEffect (waiting d kind) (result k n) (live (chosen d (and (d .canKeep) k) n) kind invoked) []
 
@@ -275,7 +275,7 @@ silent-plain send-cancel = (tt, tt)
 pub data LineTakeEffect (p : Policy) : Line → Msg → Line → List Msg → Type 0 where
   line-take-stays : {l : Line} {m : Msg} {o : List Msg} → Silent o → LineTakeEffect p l m l o
   line-take-ends : {l : Line} {m : Msg} {o : List Msg} → Silent o → LineTakeEffect p l m none o
-  line-take-moves : {m : Msg} {t : Terms} {kind : Kind} {s s′ : LState} {o : List Msg} → Silent o → LineTakeEffect p (holds t kind s) m (holds t kind s′) o
+  line-take-moves : {m : Msg} {t : Terms} {kind kind′ : Kind} {s s′ : LState} {o : List Msg} → Silent o → LineTakeEffect p (holds t kind s) m (holds t kind′ s′) o
   line-take-accepts : {d : Data} {kind : Kind} {q : ℕ} → LineTakeEffect p none (request d kind q) (holds (termsOf p d q) kind idle) (resultOf (termsOf p d q) ∷ [])
 
 request-effect : (p : Policy) (l : Line) (d : Data) (kind : Kind) (q : ℕ) (v : Verdict) → LineTakeEffect p l (request d kind q) (onRequest p l d kind q v .0) (onRequest p l d kind q v .1)

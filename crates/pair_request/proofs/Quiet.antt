@@ -4,6 +4,7 @@ use mathlib.Core.Path.{_≡_}
 use mathlib.Core.Bool.{Bool, true, false, true≢false}
 use mathlib.Core.List.{List, [], _∷_, _++_}
 use Rattle.message.specs.declared.Kind.{Kind}
+use Rattle.message.specs.declared.Kind.the-variants.{Ccbs}
 use Rattle.pair_request.specs.Reading.{Conn, ret, Data, Terms, chosen, conn, Msg, request, result, denied, exec, ringout, busyAgain, suspend, resume, cancel, alerts, failed, CState, invoked, waitAnswer, ringing, suspended, Clerk, absent, waiting, live, LState, idle, await, alert, Line, none, holds, inRinging, onBusyAgain, onExec, clerkTakes, Policy, Verdict, takes, denies, Word, onRequest, onRingout, onResume, onSuspend, lineTakes, Net, Reach, begin, more}
 use Rattle.pair_request.specs.Listed.{Listed, no-record, invoked-invoked, answer-await, suspended-await, ringout-alert, NoReq}
 use Rattle.pair_request.proofs.Effects.{noReq++, just-cancel, Has, here, there, has++, has-sent, ++[], ClerkActEffect, stays, quit-waiting, drops-waiting, quit-live, accepts, resuming, recalling, act-plain, ClerkTakeEffect, take-stays, take-replies, clerk-take-effect, take-plain, LineActEffect, line-stays, line-quits, line-offers, line-alerts, line-fails, none-stays, same-fits, resume-fits, Keepable, keepable, Move, still, ask, clerk-act, line-act, clerk-get, line-get, up-lost, down-lost, moves}
@@ -26,7 +27,7 @@ pub data Pair : Clerk → List Msg → Line → List Msg → Type 0 where
       {d : Data} {kind : Kind} {k : Bool} {n : Conn} {l : Line} {v : List Msg} → Keepable (chosen d k n) → Pair (live (chosen d k n) kind invoked) [] l v →
       Pair (waiting d kind) [] l (result k n ∷ v)
   again :
-      {d : Data} {n : Conn} {kind : Kind} {l : Line} {v : List Msg} → Pair (live (chosen d true n) kind invoked) [] l v →
+      {d : Data} {n : Conn} {kind : Kind} {l : Line} {v : List Msg} → Pair (live (chosen d true n) Ccbs invoked) [] l v →
       Pair (live (chosen d true n) kind ringing) [] l (busyAgain ∷ v)
   refused : {d : Data} {kind : Kind} {w : Bool} → Pair (waiting d kind) [] none (denied w ∷ [])
   ended : {d : Data} {n : Conn} {kind : Kind} → Pair (live (chosen d false n) kind ringing) [] none (busyAgain ∷ [])

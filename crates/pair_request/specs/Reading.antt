@@ -7,6 +7,7 @@ use lib.Dec.{eqb}
 use Rattle.lists.specs.Choice.{pick}
 use Rattle.lists.specs.declared.words.Words.{Words}
 use Rattle.message.specs.declared.Kind.{Kind}
+use Rattle.message.specs.declared.Kind.the-variants.{Ccbs}
 use Rattle.pair_request.specs.Signal.{Signal, callDied, rejected}
 use Rattle.clerk_table.specs.declared.inputs.Act.{Act}
 use Rattle.clerk_table.specs.declared.inputs.Act.the-variants as Act
@@ -99,8 +100,9 @@ inRinging (live t kind waitAnswer) f = (live t kind waitAnswer, [])
 inRinging (live t kind ringing) f = f t kind
 inRinging (live t kind suspended) f = (live t kind suspended, [])
 
+-- kept, it goes on as CCBS, whatever its kind was; so it does at the line's end
 unfoldable pub onBusyAgain : Terms → Kind → CAnswer
-onBusyAgain (chosen d true n) kind = (live (chosen d true n) kind invoked, [])
+onBusyAgain (chosen d true n) kind = (live (chosen d true n) Ccbs invoked, [])
 onBusyAgain (chosen d false n) kind = (absent, [])
 
 -- the reply to a ccExecPossible in Setup that is refused with 7 or 8 (mend M3)
@@ -226,7 +228,7 @@ onRequest p (holds t kind′ s) d kind q takes = (holds t kind′ s, denied true
 -- ccRingout in Await, by whether the line can take a call and keep is chosen
 unfoldable pub onRingout : Terms → Kind → Bool → LAnswer
 onRingout t kind true = (holds t kind alert, [])
-onRingout (chosen d true n) kind false = (holds (chosen d true n) kind idle, busyAgain ∷ [])
+onRingout (chosen d true n) kind false = (holds (chosen d true n) Ccbs idle, busyAgain ∷ [])
 onRingout (chosen d false n) kind false = (none, busyAgain ∷ [])
 
 -- a ccResume is taken in Facility or Setup for RET, in Setup for RLS (mend M5)

@@ -5,7 +5,8 @@ use mathlib.Core.Logic.{_⊎_, inl, inr}
 use mathlib.Core.List.{List, [], _∷_, List·Memᴰ·head, List·Memᴰ·tail}
 use Rattle.lists.specs.Words.{wordsOf}
 use Rattle.lists.specs.declared.words.Words.{Words}
-use Rattle.message.specs.declared.Kind.the-variants.{Ccbs}
+use Rattle.message.specs.declared.Kind.{Kind}
+use Rattle.message.specs.declared.Kind.the-variants.{Ccbs, Ccnr}
 use Rattle.message.specs.declared.Message.{Message}
 use Rattle.desk.specs.Letter.{numberWords}
 use Rattle.desk.specs.declared.Connection.{Connection}
@@ -25,7 +26,7 @@ use Rattle.line_records.specs.Records as LineRecords
 use Rattle.pair.specs.World.{dropped, World, Event, clerkDoes, lineDoes, clerkIsTold, clerkHears, lineHears, dropsUp, dropsDown, clerkHolds, lineHolds, next, Run, stop, then}
 use Rattle.pair.specs.Demand3.{Accepted, Stores, by-act, by-guard, by-look, About, by-clerk, by-signal, to-clerk, to-line, Unaltered, same, marked}
 use Rattle.pair_runs.specs.Refuted as Wrong
-use Rattle.pair_runs.specs.Runs.{play, first, numberB, oneLine, start, asks, lineReports, stored, acknowledged, wentOn, noReply, runOut, deserted, rejection}
+use Rattle.pair_runs.specs.Runs.{play, first, numberB, oneLine, start, asks, lineReports, stored, acknowledged, wentOn, noReply, noReplyBusy, noReplyLost, runOut, deserted, rejection}
 use Rattle.pair_runs.proofs.Allowed.{bytes-told, has-not, allowed-told, runs}
 use Rattle.pair_runs.proofs.Runs.{all, reach, heldOr, someone, held-one, not-listed}
 
@@ -105,6 +106,25 @@ unfolding play runs all
 answer-unmarked wrong =
     true≢false
     (wrong (at wentOn) (reach false wentOn refl) (wordsOf first) (has-not (dropped (wordsOf first)) (at wentOn .history) refl) refl refl (clerkAt wentOn) (lineAt wentOn) (clerk-holds wentOn refl) (line-holds wentOn refl) refl)
+
+-- busy again is under way, or was dropped: the line's end has made the request CCBS, the clerk's has not
+abbrev waitsForFree : Kind → Bool
+waitsForFree Ccbs = true
+waitsForFree Ccnr = false
+
+pub kind-though-under-way : Wrong.KindThoughUnderWay → ⊥
+unfolding play runs all
+kind-though-under-way wrong =
+    false≢true
+    (ap waitsForFree
+    (wrong (at noReplyBusy) (reach false noReplyBusy refl) (wordsOf first) (has-not (dropped (wordsOf first)) (at noReplyBusy .history) refl) (clerkAt noReplyBusy) (lineAt noReplyBusy) (clerk-holds noReplyBusy refl) (line-holds noReplyBusy refl)))
+
+pub kind-though-dropped : Wrong.KindThoughDropped → ⊥
+unfolding play runs all
+kind-though-dropped wrong =
+    false≢true
+    (ap waitsForFree
+    (wrong (at noReplyLost) (reach false noReplyLost refl) (wordsOf first) (clerkAt noReplyLost) (lineAt noReplyLost) (clerk-holds noReplyLost refl) (line-holds noReplyLost refl) refl refl))
 
 -- ---- 4. T2 alone; a T2 report in Ringout; an ask after the start; a request heard after it was rejected
 not-none : {A : Type 0} (h : Held A) → someone h ≡ true → h ≡ none → ⊥
@@ -204,6 +224,8 @@ refuted =
       connectionBeforeAcknowledged = connection-before-acknowledged;
       quietThoughDropped = quiet-though-dropped;
       answerUnmarked = answer-unmarked;
+      kindThoughUnderWay = kind-though-under-way;
+      kindThoughDropped = kind-though-dropped;
       overUnguarded = over-unguarded;
       overByRefusedT2 = over-by-refused-t2;
       goneBeforeTakenUp = gone-before-taken-up;

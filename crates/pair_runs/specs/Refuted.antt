@@ -46,6 +46,17 @@ AnswerUnmarked =
     (c : ClerkRecord.Record) (l : LineRecord.Record) → clerkHolds w identifier ≡ one c → lineHolds w identifier ≡ one l →
     c .state ≡ ClerkState.WaitAnswer → l .suspended ≡ false
 
+-- the kinds agree while both hold it: without "under way", and without "dropped"
+abbrev pub KindThoughUnderWay : Type 0
+KindThoughUnderWay =
+    (w : World) → Reached w → (identifier : Words) → (Noted (dropped identifier) (w .history) → ⊥) →
+    (c : ClerkRecord.Record) (l : LineRecord.Record) → clerkHolds w identifier ≡ one c → lineHolds w identifier ≡ one l → c .terms .kind ≡ l .terms .kind
+
+abbrev pub KindThoughDropped : Type 0
+KindThoughDropped =
+    (w : World) → Reached w → (identifier : Words) (c : ClerkRecord.Record) (l : LineRecord.Record) → clerkHolds w identifier ≡ one c → lineHolds w identifier ≡ one l →
+    messagesOf identifier (w .up) ≡ [] → messagesOf identifier (w .down) ≡ [] → c .terms .kind ≡ l .terms .kind
+
 -- ---- 4. without the guard's report
 abbrev pub OverUnguarded : Type 0
 OverUnguarded =
@@ -96,6 +107,8 @@ pub record Refuted : Type 0 where
   pub connectionBeforeAcknowledged : ConnectionBeforeAcknowledged → ⊥
   pub quietThoughDropped : QuietThoughDropped → ⊥
   pub answerUnmarked : AnswerUnmarked → ⊥
+  pub kindThoughUnderWay : KindThoughUnderWay → ⊥
+  pub kindThoughDropped : KindThoughDropped → ⊥
   pub overUnguarded : OverUnguarded → ⊥
   pub overByRefusedT2 : OverByRefusedT2 → ⊥
   pub goneBeforeTakenUp : GoneBeforeTakenUp → ⊥

@@ -13,7 +13,7 @@ use Rattle.message.specs.declared.Kind.{Kind}
 use Rattle.message.specs.declared.Kind.the-variants.{Ccbs, Ccnr}
 use Rattle.message.specs.declared.Carrier.the-variants.{Alerting, ReleaseComplete}
 use Rattle.message.specs.declared.Body.the-variants.{RingoutError, CallAlerts}
-use Rattle.terms.specs.Codes.{keepCode, flagCode}
+use Rattle.terms.specs.Codes.{kindCode, keepCode, flagCode}
 use Rattle.desk.specs.Letter.{numberWords}
 use Rattle.desk.specs.Sends.{plainLetter}
 use Rattle.desk.specs.declared.letter.Letter.{Letter}
@@ -226,6 +226,16 @@ unkept = asks Ccbs false first ∷ lineHears ∷ clerkHears false ∷ meetsBusy
 abbrev pub noReply : List Event
 noReply = asks Ccnr true first ∷ lineHears ∷ clerkHears false ∷ []
 
+-- its line was busy and is free again; it is offered, and the line is busy again when ccRingout is heard; the error is heard, or dropped
+abbrev pub noReplyBusy : List Event
+noReplyBusy = noReply ++ (lineReports true ∷ lineReports false ∷ meetsBusy)
+
+abbrev noReplyKept : List Event
+noReplyKept = noReplyBusy ++ (clerkHears false ∷ [])
+
+abbrev pub noReplyLost : List Event
+noReplyLost = noReplyBusy ++ (dropsDown 0 ∷ [])
+
 -- T2 is reported, and its ccCancel is dropped
 abbrev pub runOut : List Event
 runOut = acknowledged ++ (clerkReports first T2 ∷ dropsUp 0 ∷ [])
@@ -316,6 +326,9 @@ answers =
     row (noReply ++ (lineReports true ∷ [])) first (sees 2 1 1 0 2 2 0 0 0 0 0) ∷
     -- only then a Look at the free line offers it
     row (noReply ++ (lineReports true ∷ lineReports false ∷ lineLooks ∷ [])) first (sees 2 2 1 0 2 2 0 1 0 0 0) ∷
+    -- busy again: kept, and offered once more when the line is free
+    row noReplyKept first (sees 2 1 1 0 2 2 0 0 0 0 0) ∷
+    row (noReplyKept ++ (lineReports false ∷ lineLooks ∷ [])) first (sees 2 2 1 0 2 2 0 1 0 0 0) ∷
     []
 
 -- a timer runs out, or a message is dropped
@@ -355,6 +368,43 @@ signals =
     row (rejection ++ (lineHears ∷ clerkHears false ∷ lineHears ∷ [])) first (sees 0 0 0 0 0 0 0 0 0 0 0) ∷
     []
 
+-- ---- the kinds (document 02, Ask 5): a run, and the request's kind at the clerk's end and at the line's (0 no record, 1 CCBS, 2 CCNR)
+pub record Kinds : Type 0 where
+  pub clerk : ℕ
+  pub line : ℕ
+
+pub record KindRow : Type 0 where
+  pub events : List Event
+  pub said : Kinds
+
+abbrev kindRow : List Event → ℕ → ℕ → KindRow
+kindRow events clerk line = record { events = events; said = record { clerk = clerk; line = line } }
+
+unfoldable pub kinds : List KindRow
+kinds =
+    -- as it was asked for
+    kindRow noReply 2 2 ∷
+    -- busy again is under way: the line's end has made it CCBS, the clerk's has not heard yet
+    kindRow noReplyBusy 2 1 ∷
+    -- it is heard
+    kindRow noReplyKept 1 1 ∷
+    -- it is dropped
+    kindRow noReplyLost 2 1 ∷
+    -- a request that was CCBS stays so
+    kindRow kept 1 1 ∷
+    []
+
+unfoldable pub kindsSeen : World → Words → Kinds
+kindsSeen w identifier =
+    record {
+      clerk = told (λ (c : ClerkRecord.Record). kindCode (c .terms .kind)) (clerkHolds w identifier);
+      line = told (λ (l : LineRecord.Record). kindCode (l .terms .kind)) (lineHolds w identifier);
+    }
+
+abbrev pub KindsShown : Type 0
+KindsShown =
+    (retain : Bool) → map (λ (r : KindRow). kindsSeen (play (start retain) (r .events)) (wordsOf first)) kinds ≡ map (λ (r : KindRow). r .said) kinds
+
 abbrev pub table : List Row
 table = pairs ++ (answers ++ (losses ++ signals))
 
@@ -367,6 +417,7 @@ pub record Shown : Type 0 where
   pub answers : RowsShown answers
   pub losses : RowsShown losses
   pub signals : RowsShown signals
+  pub kinds : KindsShown
 
 -- every row ends in a world of a run: each ask is one that the entry makes, and no identifier is taken up twice
 abbrev pub EachReached : Bool → List Row → Type 0

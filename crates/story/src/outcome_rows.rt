@@ -92,6 +92,7 @@ fn put_notice(page: Page, notice: Notice) -> Page {
 \"busy again, kept\"
 \"busy again, ended\"
 \"cancelled\"
+\"busy again, now waiting for free\"
 ",
         notice_number(notice) as usize,
     )

@@ -1,15 +1,17 @@
 -- What is put is read back: each word stands at its place, and each code stands for what was stored. Where words are put anew from one on, those before it are read as they were.
 use Prim.Native.Nat.{ℕ, _+_, _≤_, _<_}
 use mathlib.Core.Path.{_≡_, refl, sym, _∙_, ap}
-use mathlib.Core.List.{List, _++_}
+use mathlib.Core.List.{List, _∷_, _++_}
 use lib.ListN.{length, getD, take, List·getD-append}
-use lib.Seq.{getD-take, getD-append-add, length-take-le, take-at}
+use lib.Seq.{getD-take, getD-append-add, length-take-le}
 use native.Mathlib.Omega.{arith}
 use borrow.Author.Tests.{le-leb}
 use Rattle.lists.specs.Parts.{over}
+use Rattle.message.specs.declared.Kind.{Kind}
 use Rattle.desk.specs.declared.Connection.{Connection}
 use Rattle.desk.specs.declared.Keep.{Keep}
-use Rattle.terms.specs.Terms.{width, choicesAt, termsOf, choiceWords, termsWords, termsAt, termsPut, withChoices}
+use Rattle.terms.specs.Codes.{kindCode}
+use Rattle.terms.specs.Terms.{width, choicesAt, kindAt, termsOf, choiceWords, termsWords, termsAt, termsPut, withChoices, withKind}
 use Rattle.terms.specs.declared.Terms.{Terms}
 use Rattle.terms.proofs.CodesLaws.{kind-back, keep-back, connection-back}
 
@@ -36,23 +38,24 @@ module _ (from : ℕ) (row last : List ℕ) (long : from ≤ length row) where
   pub word-from : (k : ℕ) → getD (take from row ++ last) (from + k) 0 ≡ getD last k 0
   word-from k = ap (λ (n : ℕ). getD (take from row ++ last) (n + k) 0) (sym before) ∙ getD-append-add (take from row) last k 0
 
--- behind the terms: they are read as they were
-pub terms-kept : (row last : List ℕ) → width ≤ length row → termsOf (take width row ++ last) ≡ termsOf row
-terms-kept row last long =
-    sym (terms-front width (take width row ++ last) (omega arith))
-    ∙ ap termsOf (take-at (take width row) last width (before width row last long))
-    ∙ terms-front width row (omega arith)
-
--- from the choices on: all else is read as it was
+-- from the choices on, and from the kind on: all else is read as it was
 pub terms-chosen :
-    (row rest : List ℕ) (keep : Keep) (connection : Connection) → choicesAt ≤ length row →
-    termsOf (take choicesAt row ++ (choiceWords keep connection ++ rest)) ≡ withChoices (termsOf row) keep connection
+    (row rest : List ℕ) (keep : Keep) (connection : Connection) (kind : Kind) → choicesAt ≤ length row →
+    termsOf (take choicesAt row ++ (choiceWords keep connection kind ++ rest)) ≡ withKind (withChoices (termsOf row) keep connection) kind
 unfolding termsOf
-terms-chosen row rest keep connection long =
-    let last = choiceWords keep connection ++ rest in
+terms-chosen row rest keep connection kind long =
+    let last = choiceWords keep connection kind ++ rest in
     let same = word-before choicesAt row last long in
     let new = word-from choicesAt row last long in
-    rw (same 0 (omega arith), same 1 (omega arith), same 2 (omega arith), same 3 (omega arith), same 4 (omega arith), same 5 (omega arith), same 6 (omega arith), same 7 (omega arith), new 0, new 1, keep-back keep, connection-back connection)
+    rw (same 0 (omega arith), same 1 (omega arith), same 2 (omega arith), same 3 (omega arith), same 4 (omega arith), same 5 (omega arith), same 6 (omega arith), new 0, new 1, new 2, keep-back keep, connection-back connection, kind-back kind)
+
+pub terms-kind :
+    (row rest : List ℕ) (kind : Kind) → kindAt ≤ length row → termsOf (take kindAt row ++ (kindCode kind ∷ rest)) ≡ withKind (termsOf row) kind
+unfolding termsOf
+terms-kind row rest kind long =
+    let last = kindCode kind ∷ rest in
+    let same = word-before kindAt row last long in
+    rw (same 0 (omega arith), same 1 (omega arith), same 2 (omega arith), same 3 (omega arith), same 4 (omega arith), same 5 (omega arith), same 6 (omega arith), same 7 (omega arith), same 8 (omega arith), word-from kindAt row last long 0, kind-back kind)
 
 -- in words that are long enough
 pub terms-at : (row : List ℕ) → width ≤ length row → termsAt row ≡ termsOf row

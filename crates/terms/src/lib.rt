@@ -15,13 +15,22 @@ pub mod codes;
 pub mod request;
 
 ghost use mathlib.Core.Path.{_≡_};
-ghost use Rattle.terms.specs.Terms.{noTerms, termsAt, termsPut, withChoices};
+ghost use Rattle.terms.specs.Terms.{noTerms, termsAt, termsPut, withChoices, kindAfter};
 
 // How many words the terms take. They stand at the front of a record's words, and the state behind them.
 pub const WIDTH: usize = 10;
 
 // The first word of the two choices: no step changes what stands before it.
-pub const CHOICES_AT: usize = 8;
+pub const CHOICES_AT: usize = 7;
+
+// The word of the kind: at the line's end no step changes what stands before it.
+pub const KIND_AT: usize = 9;
+
+// What a row of a table makes of the kind: nothing, or this one.
+pub enum Becomes {
+    Nothing,
+    One(Kind),
+}
 
 pub struct Terms {
     pub identifier: Words,
@@ -90,7 +99,7 @@ pub fn kind_at(row: &[u64]) -> Kind
     ensures { λ r. ⌜ r ≡ termsAt (now (row .entry)) .kind ⌝ }
 {
     if WIDTH <= row.len() {
-        return kind_of(row[7]);
+        return kind_of(row[KIND_AT]);
     }
     Kind::Ccbs
 }
@@ -104,8 +113,8 @@ pub fn terms_of(row: &[u64]) -> Terms
         let numberA = number_a_at(row);
         let numberB = number_b_at(row);
         let kind = kind_at(row);
-        let keep = keep_of(row[8]);
-        let connection = connection_of(row[9]);
+        let keep = keep_of(row[7]);
+        let connection = connection_of(row[8]);
         return Terms {
             identifier,
             numberA,
@@ -137,9 +146,9 @@ pub fn put_terms(row: &mut [u64], terms: Terms)
         row[4] = numberB.low;
         row[5] = numberB.high;
         row[6] = terms.service;
-        row[7] = kind_code(kind);
-        row[8] = keep_code(keep);
-        row[9] = connection_code(connection);
+        row[7] = keep_code(keep);
+        row[8] = connection_code(connection);
+        row[9] = kind_code(kind);
     }
 }
 
@@ -159,5 +168,15 @@ pub fn with_choices(terms: Terms, keep: Keep, connection: Connection) -> Terms
         kind,
         keep,
         connection,
+    }
+}
+
+// The kind as a row of a table leaves it.
+pub fn kind_after(becomes: Becomes, kind: Kind) -> Kind
+    ensures { λ r. ⌜ r ≡ kindAfter becomes kind ⌝ }
+{
+    match becomes {
+        Becomes::Nothing => kind,
+        Becomes::One(new) => new,
     }
 }

@@ -8,7 +8,7 @@ use Rattle.terms.specs.Codes.{flagCode}
 use Rattle.desk.specs.Letter.{messageOf}
 use Rattle.desk.specs.declared.outcome.Timers.{Timers}
 use Rattle.desk.specs.declared.outcome.Notice.{Notice}
-use Rattle.desk.specs.declared.outcome.Notice.the-variants.{Silent, Accepted, DeniedShort, DeniedLong, Recall, Completed, Failed, BusyAgainKept, BusyAgainEnded, Cancelled}
+use Rattle.desk.specs.declared.outcome.Notice.the-variants.{Silent, Accepted, DeniedShort, DeniedLong, Recall, Completed, Failed, BusyAgainKept, BusyAgainEnded, Cancelled, BusyAgainWaiting}
 use Rattle.desk.specs.declared.outcome.Sending.{Sending}
 use Rattle.desk.specs.declared.outcome.Sending.the-variants.{Nothing, Send}
 use Rattle.desk.specs.declared.outcome.Outcome.{Outcome}
@@ -31,6 +31,7 @@ noticeNumber Failed = 6
 noticeNumber BusyAgainKept = 7
 noticeNumber BusyAgainEnded = 8
 noticeNumber Cancelled = 9
+noticeNumber BusyAgainWaiting = 10
 
 -- ---- the message sent, written at the front: the writer's answer, and no bytes where nothing is sent
 unfoldable pub sentWritten : List ℕ → Sending → Written

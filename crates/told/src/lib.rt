@@ -54,6 +54,7 @@ pub fn notice_number(notice: Notice) -> u64
         Notice::BusyAgainKept => 7,
         Notice::BusyAgainEnded => 8,
         Notice::Cancelled => 9,
+        Notice::BusyAgainWaiting => 10,
     }
 }
 

@@ -115,9 +115,11 @@ fn answer_and_ringout_rows(rows: &mut Vec<Done>, choice: &Choice) {
     cancel_rows(rows, &state, choice, "T2 and T3", &["T2", "T3"], "");
     let state = format!("Ringout {name}");
     let again = "ringout error remoteUserBusyAgain in Release Complete";
-    let kept = format!("Invoked {name}, \"busy again, kept\"");
-    rows.push(done(&state, &format!("{again}, keep 1"), &kept));
-    rows.push(done(&state, &format!("{again}, keep 0"), "deleted, \"busy again, ended\", stops T2"));
+    for (kind, notice) in [("CCBS", "busy again, kept"), ("CCNR", "busy again, now waiting for free")].iter() {
+        let kept = format!("Invoked {name} CCBS, \"{notice}\"");
+        rows.push(done(&state, &format!("{again}, keep 1, {kind}"), &kept));
+        rows.push(done(&state, &format!("{again}, keep 0, {kind}"), "deleted, \"busy again, ended\", stops T2"));
+    }
     let match_failure = "ringout error failureToMatch in Release Complete";
     rows.push(done(&state, match_failure, "deleted, \"failed\", stops T2"));
     for carrier in ["Alerting", "Connect"].iter() {
@@ -153,7 +155,9 @@ fn clerk_suffixes(state: &str, content: &str) -> &'static [&'static str] {
     match content {
         "ccExecPossible" => &[", User A busy", ", User A not busy"],
         "result keep 1" if state == "Wait-Ack" => &[", can-keep 0", ", can-keep 1"],
-        "ringout error remoteUserBusyAgain" if state.starts_with("Ringout") => &[", keep 0", ", keep 1"],
+        "ringout error remoteUserBusyAgain" if state.starts_with("Ringout") => {
+            &[", keep 0, CCBS", ", keep 1, CCBS", ", keep 0, CCNR", ", keep 1, CCNR"]
+        }
         _ => &[""],
     }
 }
@@ -325,10 +329,16 @@ fn line_await_rows(rows: &mut Vec<Done>, choice: &Choice, mark: &str) {
     }
     let again = "sends ringout error remoteUserBusyAgain in Release Complete";
     let input = "ccRingout in Setup";
-    rows.push(done(&state, &format!("{input}, line free, keep 0"), &format!("Alert {name}")));
-    rows.push(done(&state, &format!("{input}, line free, keep 1"), &format!("Alert {name}")));
-    rows.push(done(&state, &format!("{input}, line busy, keep 1"), &format!("Invoked {name}, {again}")));
-    rows.push(done(&state, &format!("{input}, line busy, keep 0"), &format!("deleted, {again}, stops guard")));
+    for kind in ["CCBS", "CCNR"].iter() {
+        for keep in 0..=1 {
+            let free = format!("{input}, line free, keep {keep}, {kind}");
+            rows.push(done(&state, &free, &format!("Alert {name} {kind}")));
+        }
+        let kept = format!("Invoked {name} CCBS, {again}");
+        rows.push(done(&state, &format!("{input}, line busy, keep 1, {kind}"), &kept));
+        let gone = format!("deleted, {again}, stops guard");
+        rows.push(done(&state, &format!("{input}, line busy, keep 0, {kind}"), &gone));
+    }
 }
 
 fn line_done() -> Vec<Done> {
@@ -354,11 +364,30 @@ fn line_states() -> Vec<String> {
 
 fn line_suffixes(state: &str, content: &str) -> &'static [&'static str] {
     if content == "ccRingout" && state.starts_with("Await") {
-        &[", line free, keep 0", ", line free, keep 1", ", line busy, keep 0", ", line busy, keep 1"]
+        &[
+            ", line free, keep 0, CCBS",
+            ", line free, keep 1, CCBS",
+            ", line busy, keep 0, CCBS",
+            ", line busy, keep 1, CCBS",
+            ", line free, keep 0, CCNR",
+            ", line free, keep 1, CCNR",
+            ", line busy, keep 0, CCNR",
+            ", line busy, keep 1, CCNR",
+        ]
     } else {
         &[""]
     }
 }
+
+/// A CCBS record on a line that doesn't allow CCBS was CCNR once and met a busy
+/// line (request 5): it goes on as any CCBS record does.
+const CONVERTED: [&str; 5] = [
+    "a record made CCBS: ccRingout in Setup: Invoked CCBS",
+    "a record made CCBS: ccRingout in Setup: Alert CCBS",
+    "a record made CCBS: ccResume in Facility: Invoked CCBS",
+    "a record made CCBS: ccResume in Setup: Invoked CCBS",
+    "a record made CCBS: Look: offered",
+];
 
 /// "Line desk, 6 or 7 on ccRingout: ringout error failureToMatch in Release
 /// Complete; 6 or 7 on ccResume: ccCancel in Release Complete."
@@ -526,6 +555,7 @@ pub fn rows() -> Vec<String> {
     line_act_rows(&mut names, &rows);
     names.extend(REPORTS_AND_LOOKS.iter().map(|name| format!("line: {name}")));
     names.extend(LINE_EDGES.iter().map(|name| format!("line: {name}")));
+    names.extend(CONVERTED.iter().map(|name| format!("line: {name}")));
     deletion_rows(&mut names, "line");
     bytes_rows(&mut names, "line");
     refusal_rows(&mut names, "line", &[1, 2, 3, 6, 7, 8, 10, 11]);

@@ -153,20 +153,24 @@ fn clerk_state(desk: &ClerkDesk, identifier: &Identifier) -> String {
     }
 }
 
-/// The state afterwards; an acknowledgment also stores the keep choice.
-fn clerk_state_after(desk: &ClerkDesk, identifier: &Identifier, acknowledged: bool) -> String {
+/// The state afterwards; an acknowledgment also stores the keep choice, and
+/// "busy again" the kind.
+fn clerk_state_after(desk: &ClerkDesk, identifier: &Identifier, content: Option<&Content>) -> String {
     let Some(record) = desk.records.iter().find(|r| r.identifier == *identifier) else {
         return "deleted".to_string();
     };
     let state = clerk_state(desk, identifier);
-    match record.keep {
-        Some(keep) if acknowledged => format!("{state} keep {}", u32::from(keep)),
+    match (content, record.keep) {
+        (Some(Content::RequestResult { .. }), Some(keep)) => format!("{state} keep {}", u32::from(keep)),
+        (Some(Content::RingoutError { error: REMOTE_USER_BUSY_AGAIN }), _) => {
+            format!("{state} {}", record.kind.name())
+        }
         _ => state,
     }
 }
 
-/// What else decides the row: can-keep for a result, keep for "busy again",
-/// the host's word for ccExecPossible.
+/// What else decides the row: can-keep for a result, keep and the kind for
+/// "busy again", the host's word for ccExecPossible.
 fn clerk_suffix(desk: &ClerkDesk, message: &Message, user_a_busy: bool) -> String {
     let record = desk.records.iter().find(|r| r.identifier == message.identifier);
     match (&message.content, record) {
@@ -178,7 +182,7 @@ fn clerk_suffix(desk: &ClerkDesk, message: &Message, user_a_busy: bool) -> Strin
         (Content::RingoutError { error: REMOTE_USER_BUSY_AGAIN }, Some(record))
             if record.state == clerk::State::Ringout =>
         {
-            format!(", keep {}", u32::from(record.keep == Some(true)))
+            format!(", keep {}, {}", u32::from(record.keep == Some(true)), record.kind.name())
         }
         _ => String::new(),
     }
@@ -186,7 +190,7 @@ fn clerk_suffix(desk: &ClerkDesk, message: &Message, user_a_busy: bool) -> Strin
 
 fn clerk_names(before: &ClerkDesk, entry: &Entry, outcome: &Outcome, after: &ClerkDesk) -> Vec<String> {
     let act = |identifier: &Identifier, input: String| {
-        let state_after = clerk_state_after(after, identifier, false);
+        let state_after = clerk_state_after(after, identifier, None);
         vec![format!("{}: {}: {}", clerk_state(before, identifier), input, outcome_text(outcome, &state_after))]
     };
     match entry {
@@ -199,8 +203,7 @@ fn clerk_names(before: &ClerkDesk, entry: &Entry, outcome: &Outcome, after: &Cle
         Entry::ToClerk { user_a_busy, bytes } => match read_message(bytes) {
             Err(_) => Vec::new(),
             Ok((message, _)) => {
-                let acknowledged = matches!(message.content, Content::RequestResult { .. });
-                let state_after = clerk_state_after(after, &message.identifier, acknowledged);
+                let state_after = clerk_state_after(after, &message.identifier, Some(&message.content));
                 let input = message_text(&message) + &clerk_suffix(before, &message, *user_a_busy);
                 let state = clerk_state(before, &message.identifier);
                 vec![format!("{}: {}: {}", state, input, outcome_text(outcome, &state_after))]
@@ -307,14 +310,14 @@ fn line_state_after(desk: &LineDesk, identifier: &Identifier) -> String {
     }
 }
 
-/// What else decides the row: the line's status and the keep choice for a
-/// ccRingout in Await.
+/// What else decides the row: the line's status, the keep choice and the kind
+/// for a ccRingout in Await.
 fn line_suffix(desk: &LineDesk, message: &Message) -> String {
     let record = desk.records.iter().find(|r| r.identifier == message.identifier);
     match record {
         Some(record) if message.content == Content::CcRingout && record.state == line::State::Await => {
             let line = if desk.line_busy(&record.number_b) { "busy" } else { "free" };
-            format!(", line {line}, keep {}", u32::from(record.keep))
+            format!(", line {line}, keep {}, {}", u32::from(record.keep), record.kind.name())
         }
         _ => String::new(),
     }
@@ -336,7 +339,7 @@ fn line_names(before: &LineDesk, entry: &Entry, outcome: &Outcome, after: &LineD
             Ok((message, _)) => match &message.content {
                 Content::CcbsRequest(fields) => request_names(before, &message, Kind::Ccbs, fields, outcome),
                 Content::CcnrRequest(fields) => request_names(before, &message, Kind::Ccnr, fields, outcome),
-                _ => act(&message.identifier, message_text(&message) + &line_suffix(before, &message)),
+                _ => line_message_names(before, &message, outcome, after),
             },
         },
         Entry::Report { digits, busy } => {
@@ -353,6 +356,38 @@ fn line_names(before: &LineDesk, entry: &Entry, outcome: &Outcome, after: &LineD
         Entry::GuardRunsOut(identifier) => act(identifier, "guard runs out".to_string()),
         _ => Vec::new(),
     }
+}
+
+/// A message that is no request. A ccRingout may store another kind.
+fn line_message_names(before: &LineDesk, message: &Message, outcome: &Outcome, after: &LineDesk) -> Vec<String> {
+    let state = line_state(before, &message.identifier);
+    let input = message_text(message) + &line_suffix(before, message);
+    let mut state_after = line_state_after(after, &message.identifier);
+    let record = after.records.iter().find(|r| r.identifier == message.identifier);
+    if let (Content::CcRingout, Some(record)) = (&message.content, record) {
+        state_after = format!("{state_after} {}", record.kind.name());
+    }
+    let mut names = vec![format!("{state}: {input}: {}", outcome_text(outcome, &state_after))];
+    names.extend(converted_name(before, message, outcome, after));
+    names
+}
+
+/// True for a CCBS record on a line that doesn't allow CCBS: it was CCNR once.
+fn is_converted(desk: &LineDesk, record: &line::Record) -> bool {
+    let asked = desk.lines.iter().any(|l| l.digits == record.number_b && l.allows_ccbs);
+    record.kind == Kind::Ccbs && !asked
+}
+
+/// What a record that was made CCBS goes on to by a message that it takes.
+fn converted_name(before: &LineDesk, message: &Message, outcome: &Outcome, after: &LineDesk) -> Option<String> {
+    let old = before.records.iter().find(|r| r.identifier == message.identifier)?;
+    let new = after.records.iter().find(|r| r.identifier == message.identifier)?;
+    let counted = matches!(message.content, Content::CcRingout | Content::CcResume);
+    if outcome.refusal.is_some() || !counted || !is_converted(before, old) {
+        return None;
+    }
+    let now = format!("{} {}", new.state.name(), new.kind.name());
+    Some(format!("a record made CCBS: {}: {now}", message_text(message)))
 }
 
 fn start_name(before: &LineDesk, lines: &[line::Line], outcome: &Outcome) -> String {
@@ -536,7 +571,11 @@ fn look_names(before: &LineDesk, digits: &[u8], outcome: &Outcome) -> Vec<String
     let Some(place) = records.iter().position(|r| r.identifier == offer.identifier) else {
         return vec!["Look: offers a record of another line".to_string()];
     };
-    offer_names(&records, place, outcome)
+    let mut names = offer_names(&records, place, outcome);
+    if records.get(place).is_some_and(|record| is_converted(before, record)) {
+        names.push("a record made CCBS: Look: offered".to_string());
+    }
+    names
 }
 
 fn offer_names(records: &[&line::Record], place: usize, outcome: &Outcome) -> Vec<String> {

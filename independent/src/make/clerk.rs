@@ -187,6 +187,7 @@ fn every_state(scripts: &mut Scripts) {
                 every_input(scripts, *road, choices, true);
                 if kept {
                     every_input(scripts, *road, choices, false);
+                    every_input(scripts, *road, Choices { kind: Kind::Ccnr, ..choices }, false);
                 }
             }
         }
@@ -376,6 +377,36 @@ fn bad_bytes(scripts: &mut Scripts) {
     }
 }
 
+/// Busy again in Ringout, three times where the record is kept: CCBS and CCNR,
+/// every can-keep and keep, RET and RLS, by both roads to Ringout. A CCNR record
+/// is CCBS from the first time on (request 5).
+fn busy_again(scripts: &mut Scripts) {
+    for choices in all_choices() {
+        for kind in [Kind::Ccbs, Kind::Ccnr] {
+            for suspended in [false, true] {
+                let choices = Choices { kind, ..choices };
+                let mut case = Case::at_clerk();
+                drive(&mut case, Road::Invoked, spread_identifier(8), choices);
+                for _ in 0..3 {
+                    busy_again_once(&mut case, spread_identifier(8), choices, suspended);
+                }
+                case.step(&offer(spread_identifier(8), choices, false));
+                case.step(&with_choice(TIMER, spread_identifier(8), 2));
+                scripts.add(&case.bytes);
+            }
+        }
+    }
+}
+
+/// From Invoked to Ringout, where the ringout error meets the record.
+fn busy_again_once(case: &mut Case, identifier: Identifier, choices: Choices, suspended: bool) {
+    let road = if suspended { Road::RingoutFromSuspended } else { Road::Ringout };
+    for entry in road_behind_acknowledgment(road, identifier, choices) {
+        case.step(&entry);
+    }
+    case.step(&hand_in(Carrier::ReleaseComplete, identifier, Content::RingoutError { error: 1 }));
+}
+
 /// A long run: the same identifier goes through its life again and again.
 fn lives(scripts: &mut Scripts) {
     let mut case = Case::at_clerk();
@@ -401,6 +432,7 @@ pub fn scripts() -> Scripts {
     asks_refused(&mut scripts);
     nearly_equal_identifiers(&mut scripts);
     lives(&mut scripts);
+    busy_again(&mut scripts);
     full_desk(&mut scripts);
     bad_bytes(&mut scripts);
     bad_input::at_clerk(&mut scripts);

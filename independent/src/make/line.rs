@@ -281,6 +281,46 @@ fn kinds_allowed(scripts: &mut Scripts) {
     }
 }
 
+/// ccRingout that finds the line busy, three times where the record is kept:
+/// both kinds on a line that allows both and on one that allows only that kind,
+/// keep and not, RET and RLS, suspended before or not (request 5). Looks show
+/// how it goes on, and requests near to it what the desk holds.
+fn busy_again(scripts: &mut Scripts) {
+    for choices in all_choices() {
+        for kinds in [choices.kind.number() as u8, 3] {
+            for suspended in [false, true] {
+                let mut case = Case::at_line(&[(&ONE, kinds)], settings(choices));
+                drive(&mut case, Road::InvokedActive, spread_identifier(8), choices);
+                for _ in 0..3 {
+                    busy_again_once(&mut case, spread_identifier(8), choices.connection, suspended);
+                }
+                case.step(&request(spread_identifier(9), Kind::Ccbs, &NUMBER_A, &ONE, 1));
+                case.step(&request(spread_identifier(9), Kind::Ccnr, &[], &ONE, 1));
+                for carrier in [Carrier::Facility, Carrier::Setup] {
+                    case.step(&look(&ONE));
+                    case.step(&hand_in(carrier, spread_identifier(8), Content::CcResume));
+                }
+                case.step(&look(&ONE));
+                case.step(&ringout(spread_identifier(8)));
+                case.step(&with_choice(ACT, spread_identifier(8), 1));
+                scripts.add(&case.bytes);
+            }
+        }
+    }
+}
+
+/// A Look, the line busy, ccRingout, a Look in vain, the line free.
+fn busy_again_once(case: &mut Case, identifier: Identifier, connection: Connection, suspended: bool) {
+    case.step(&look(&ONE));
+    if suspended {
+        case.step(&suspend(identifier, connection));
+    }
+    case.step(&report(&ONE, true));
+    case.step(&ringout(identifier));
+    case.step(&look(&ONE));
+    case.step(&report(&ONE, false));
+}
+
 /// READINGS 17, duplicates and their near misses, in every state of the record
 /// that is there already.
 fn duplicates(scripts: &mut Scripts) {
@@ -591,6 +631,7 @@ pub fn scripts() -> Scripts {
     request_fields(&mut scripts);
     kinds_allowed(&mut scripts);
     duplicates(&mut scripts);
+    busy_again(&mut scripts);
     five_of_a_line(&mut scripts);
     full_desk(&mut scripts);
     looks(&mut scripts);

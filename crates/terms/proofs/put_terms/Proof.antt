@@ -31,20 +31,20 @@ slice-write-row-6 c = simp length-set (omega arith)
 slice-write-row-7 : tie.Need-slice-write-row-7
 slice-write-row-7 c = simp length-set (omega arith)
 
-kind-code-requires : tie.Need-kind-code-requires
-kind-code-requires c κs = search needs
+keep-code-requires : tie.Need-keep-code-requires
+keep-code-requires c κs = search needs
 
 slice-write-row-8 : tie.Need-slice-write-row-8
 slice-write-row-8 c = simp length-set (omega arith)
 
-keep-code-requires : tie.Need-keep-code-requires
-keep-code-requires c κs = search needs
+connection-code-requires : tie.Need-connection-code-requires
+connection-code-requires c κs = search needs
 
 slice-write-row-9 : tie.Need-slice-write-row-9
 slice-write-row-9 c = simp length-set (omega arith)
 
-connection-code-requires : tie.Need-connection-code-requires
-connection-code-requires c κs = search needs
+kind-code-requires : tie.Need-kind-code-requires
+kind-code-requires c κs = search needs
 
 slice-write-row-10 : tie.Need-slice-write-row-10
 slice-write-row-10 c = simp length-set (omega arith)
@@ -57,7 +57,7 @@ returns c =
     let start = c .before .before .before .before .before .before .before .before in
     let terms = start .args .terms in
     let row = now (start .args .row) in
-    rw (terms-put terms row (c .before .before .before .before .before .before .if1 .taken), c .before .before .kind-code .ensures, c .before .keep-code .ensures, c .connection-code .ensures)
+    rw (terms-put terms row (c .before .before .before .before .before .before .if1 .taken), c .before .before .keep-code .ensures, c .before .connection-code .ensures, c .kind-code .ensures)
     (sets-eq (termsWords terms) row 0 (omega arith))
 
 returns-2 : tie.Need-returns-2
@@ -75,11 +75,11 @@ put-terms-spec =
     slice-write-row-5
     slice-write-row-6
     slice-write-row-7
-    kind-code-requires
-    slice-write-row-8
     keep-code-requires
-    slice-write-row-9
+    slice-write-row-8
     connection-code-requires
+    slice-write-row-9
+    kind-code-requires
     slice-write-row-10
     same-length
     returns

@@ -1,4 +1,4 @@
--- Three stores, one after the other, are these words over the front.
+-- Four stores, one after the other, are these words over the front.
 use native.Mathlib.Omega.{arith}
 use lib.ListN.{length-set}
 use lib.Seq.{sets-eq}
@@ -20,20 +20,26 @@ connection-code-requires c κs = search needs
 slice-write-words-2 : tie.Need-slice-write-words-2
 slice-write-words-2 c = simp length-set (omega arith)
 
+kind-code-requires : tie.Need-kind-code-requires
+kind-code-requires c κs = search needs
+
+slice-write-words-3 : tie.Need-slice-write-words-3
+slice-write-words-3 c = simp length-set (omega arith)
+
 state-code-requires : tie.Need-state-code-requires
 state-code-requires c κs = search needs
 
-slice-write-words-3 : tie.Need-slice-write-words-3
-slice-write-words-3 c = search needs
+slice-write-words-4 : tie.Need-slice-write-words-4
+slice-write-words-4 c = search needs
 
 same-length : tie.Need-same-length
 same-length c = search needs
 
 returns : tie.Need-returns
 returns c =
-    let a = c .before .before .before .before .args in
-    rw (c .before .before .keep-code .ensures, c .before .connection-code .ensures, c .state-code .ensures)
-    (sets-eq (turnedWords (a .keep) (a .connection) (a .state)) (now (a .words)) 0 (omega arith))
+    let a = c .before .before .before .before .before .args in
+    rw (c .before .before .before .keep-code .ensures, c .before .before .connection-code .ensures, c .before .kind-code .ensures, c .state-code .ensures)
+    (sets-eq (turnedWords (a .t)) (now (a .words)) 0 (omega arith))
 
 pub turn-words-spec : {M : Type 1} → statement M
 turn-words-spec =
@@ -43,7 +49,9 @@ turn-words-spec =
     slice-write-words
     connection-code-requires
     slice-write-words-2
-    state-code-requires
+    kind-code-requires
     slice-write-words-3
+    state-code-requires
+    slice-write-words-4
     same-length
     returns)

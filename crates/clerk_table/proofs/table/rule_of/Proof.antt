@@ -37,30 +37,35 @@ returns-11 : tie.Need-returns-11
 returns-11 c = rw (c .before .enum-told11 .given .1, c .goes7 .ensures)
 
 returns-12 : tie.Need-returns-12
-returns-12 c = rw (c .before .enum-told12 .given .1, c .ends4 .ensures)
+returns-12 c = rw (c .before .enum-told12 .given .1, c .goes8 .ensures)
 
 returns-13 : tie.Need-returns-13
-returns-13 c = rw (c .before .enum-told13 .given .1, c .ends5 .ensures)
+returns-13 c = rw (c .before .enum-told13 .given .1, c .ends4 .ensures)
 
 returns-14 : tie.Need-returns-14
-returns-14 c = rw (c .before .enum-told14 .given .1, c .ends6 .ensures)
+returns-14 c = rw (c .before .enum-told14 .given .1, c .ends5 .ensures)
 
 returns-15 : tie.Need-returns-15
-returns-15 c = rw (c .before .enum-told15 .given .1, c .cancels2 .ensures)
+returns-15 c = rw (c .before .enum-told15 .given .1, c .ends6 .ensures)
 
 returns-16 : tie.Need-returns-16
-returns-16 c = rw (c .before .enum-told16 .given .1, c .cancels3 .ensures)
+returns-16 c = rw (c .before .enum-told16 .given .1, c .cancels2 .ensures)
 
 returns-17 : tie.Need-returns-17
-returns-17 c = rw (c .before .enum-told17 .given .1, c .cancels4 .ensures)
+returns-17 c = rw (c .before .enum-told17 .given .1, c .cancels3 .ensures)
 
 returns-18 : tie.Need-returns-18
-returns-18 c = rw (c .before .enum-told18 .given .1, c .cancels5 .ensures)
+returns-18 c = rw (c .before .enum-told18 .given .1, c .cancels4 .ensures)
+
+returns-19 : tie.Need-returns-19
+returns-19 c = rw (c .before .enum-told19 .given .1, c .cancels5 .ensures)
 
 pub rule-of-spec : {M : Type 1} → statement M
 rule-of-spec =
     tie.close
     (tie.spec
+    (λ c. search needs)
+    (λ c κs. search needs)
     (λ c. search needs)
     (λ c κs. search needs)
     (λ c. search needs)
@@ -114,4 +119,5 @@ rule-of-spec =
     returns-15
     returns-16
     returns-17
-    returns-18)
+    returns-18
+    returns-19)

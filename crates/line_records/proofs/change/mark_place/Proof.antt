@@ -16,7 +16,7 @@ turn-record-requires c κs = search needs
 
 returns : tie.Need-returns
 unfolding markPlace
-returns c = rw (sym (c .before .before .before .before .before .is-marked .ensures) ∙ c .before .before .before .before .if1 .taken, ← c .before .before .load .ensures) (c .turn-record .ensures)
+returns c = rw (sym (c .before .before .before .before .before .before .is-marked .ensures) ∙ c .before .before .before .before .before .if1 .taken, ← c .before .before .before .load .ensures) (c .turn-record .ensures)
 
 returns-2 : tie.Need-returns-2
 unfolding markPlace

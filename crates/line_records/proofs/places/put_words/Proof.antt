@@ -1,13 +1,16 @@
--- The terms over the front; the part behind them is lent for the state and the marks.
-use mathlib.Core.Path.{_≡_, refl, _∙_}
+-- The terms over the front; the part from the kind on, which stands last in them, is lent for what a turn gives.
+use Prim.Native.Nat.{ℕ}
+use mathlib.Core.Path.{_≡_, refl, _∙_, ap}
+use mathlib.Core.List.{List, _++_}
 use native.Mathlib.Omega.{arith}
+use lib.ListN.{take}
+use lib.Seq.{drop-drop}
 use denote.Ref.{now}
 use Rattle.lists.specs.Parts.{over}
 use Rattle.lists.proofs.Parts.{over-next}
-use Rattle.terms.specs.Terms as Terms
-use Rattle.terms.specs.Terms.{termsWords}
+use Rattle.terms.specs.Terms.{width, kindAt, termsWords}
 use Rattle.terms.proofs.TermsLaws.{terms-put}
-use Rattle.line_records.specs.Records.{turnedWords}
+use Rattle.line_records.specs.Records.{recordWords, turnedWords}
 use borrow.Author.Needs.{needs}
 use Rattle.line_records.proofs.places.put_words.Statement.{statement}
 use Rattle.line_records.proofs.places.put_words.Tie as tie
@@ -37,9 +40,11 @@ returns c =
     let start = put .before .before .before .before .args in
     let row = now (start .row) in
     let r = start .r in
-    let front : put .put-terms .last .0 ≡ over (termsWords (r .terms)) row = put .put-terms .ensures ∙ terms-put (r .terms) row (omega arith) in
-    over-next row (put .put-terms .last .0) (turn .turn-words .last .0) (termsWords (r .terms)) (turnedWords (r .state) (r .active) (r .suspended)) Terms.width front
-    (turn .turn-words .ensures) refl
+    let whole = over (termsWords (r .terms)) row in
+    let front : put .put-terms .last .0 ≡ whole = put .put-terms .ensures ∙ terms-put (r .terms) row (omega arith) in
+    let more = turnedWords (record { kind = r .terms .kind; state = r .state; active = r .active; suspended = r .suspended }) in
+    over-next whole (put .put-terms .last .0) (turn .turn-words .last .0) (take kindAt (termsWords (r .terms))) more kindAt front (turn .turn-words .ensures) refl
+    ∙ ap (λ (rest : List ℕ). recordWords r ++ rest) (drop-drop 3 width row)
 
 pub put-words-spec : {M : Type 1} → statement M
 put-words-spec =

@@ -1,4 +1,4 @@
--- The part from the row's state on is lent whole.
+-- The part from the row's kind on is lent whole.
 use Prim.Native.Nat.{ℕ, _+_, _*_}
 use mathlib.Core.Path.{_∙_, ap}
 use mathlib.Core.List.{List, _++_}
@@ -6,7 +6,7 @@ use lib.ListN.{take}
 use denote.Ref.{now}
 use Rattle.lists.proofs.Parts.{tail-of, mid-tail}
 use Rattle.store.specs.Rows.{turnRow}
-use Rattle.terms.specs.Terms as Terms
+use Rattle.terms.specs.Terms.{kindAt}
 use Rattle.line_records.specs.Layout.{width}
 use borrow.Author.Needs.{needs}
 use Rattle.line_records.proofs.places.turn_in.Statement.{statement}
@@ -40,7 +40,7 @@ returns : tie.Need-returns
 unfolding turnRow
 returns c =
     let words = now (c .before .before .before .before .before .args .words) in
-    let at = c .before .before .before .before .before .args .i * width + Terms.width in
+    let at = c .before .before .before .before .before .args .i * width + kindAt in
     mid-tail at words (c .before .before .turn-words .last .0) ∙ ap (λ (t : List ℕ). take at words ++ t) (rw (tail-of at words) at (c .before .before .turn-words .ensures))
 
 pub turn-in-spec : {M : Type 1} → statement M

@@ -1,4 +1,4 @@
--- Three stores, one after the other, are these words over the front.
+-- Four stores, one after the other, are these words over the front.
 use native.Mathlib.Omega.{arith}
 use lib.ListN.{length-set}
 use lib.Seq.{sets-eq}
@@ -8,42 +8,50 @@ use borrow.Author.Needs.{needs}
 use Rattle.line_records.proofs.places.turn_words.Statement.{statement}
 use Rattle.line_records.proofs.places.turn_words.Tie as tie
 
-state-code-requires : tie.Need-state-code-requires
-state-code-requires c κs = search needs
+kind-code-requires : tie.Need-kind-code-requires
+kind-code-requires c κs = search needs
 
 slice-write-words : tie.Need-slice-write-words
 slice-write-words c = search needs
 
-flag-code-requires : tie.Need-flag-code-requires
-flag-code-requires c κs = search needs
+state-code-requires : tie.Need-state-code-requires
+state-code-requires c κs = search needs
 
 slice-write-words-2 : tie.Need-slice-write-words-2
 slice-write-words-2 c = simp length-set (omega arith)
 
+flag-code-requires : tie.Need-flag-code-requires
+flag-code-requires c κs = search needs
+
+slice-write-words-3 : tie.Need-slice-write-words-3
+slice-write-words-3 c = simp length-set (omega arith)
+
 flag-code-requires-2 : tie.Need-flag-code-requires-2
 flag-code-requires-2 c κs = search needs
 
-slice-write-words-3 : tie.Need-slice-write-words-3
-slice-write-words-3 c = search needs
+slice-write-words-4 : tie.Need-slice-write-words-4
+slice-write-words-4 c = search needs
 
 same-length : tie.Need-same-length
 same-length c = search needs
 
 returns : tie.Need-returns
 returns c =
-    let a = c .before .before .before .before .args in
-    rw (c .before .before .state-code .ensures, c .before .flag-code .ensures, c .flag-code2 .ensures)
-    (sets-eq (turnedWords (a .state) (a .active) (a .suspended)) (now (a .words)) 0 (omega arith))
+    let a = c .before .before .before .before .before .args in
+    rw (c .before .before .before .kind-code .ensures, c .before .before .state-code .ensures, c .before .flag-code .ensures, c .flag-code2 .ensures)
+    (sets-eq (turnedWords (a .t)) (now (a .words)) 0 (omega arith))
 
 pub turn-words-spec : {M : Type 1} → statement M
 turn-words-spec =
     tie.close
     (tie.spec
-    state-code-requires
+    kind-code-requires
     slice-write-words
-    flag-code-requires
+    state-code-requires
     slice-write-words-2
-    flag-code-requires-2
+    flag-code-requires
     slice-write-words-3
+    flag-code-requires-2
+    slice-write-words-4
     same-length
     returns)

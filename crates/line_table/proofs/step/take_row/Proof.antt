@@ -7,6 +7,9 @@ use Rattle.line_table.proofs.step.take_row.Tie as tie
 effect-of-requires : tie.Need-effect-of-requires
 effect-of-requires c κs = search needs
 
+kind-after-requires : tie.Need-kind-after-requires
+kind-after-requires c κs = search needs
+
 marked-by-requires : tie.Need-marked-by-requires
 marked-by-requires c κs = search needs
 
@@ -30,13 +33,14 @@ done-requires c κs = search needs
 
 returns : tie.Need-returns
 unfolding rowTaken
-returns c = rw (c .done .ensures, c .before .before .before .before .changed-to .ensures, c .before .before .before .sent-for .ensures, c .before .before .timers-stopped .ensures, c .before .no-timers .ensures, c .before .before .before .before .before .before .marked-by .ensures, c .before .before .before .before .before .marked-by2 .ensures, c .before .before .before .before .before .before .before .before .before .effect-of .ensures)
+returns c = rw (c .done .ensures, c .before .before .before .before .changed-to .ensures, c .before .before .before .sent-for .ensures, c .before .before .timers-stopped .ensures, c .before .no-timers .ensures, c .before .before .before .before .before .before .marked-by .ensures, c .before .before .before .before .before .marked-by2 .ensures, c .before .before .before .before .before .before .before .kind-after .ensures, c .before .before .before .before .before .before .before .before .before .before .effect-of .ensures)
 
 pub take-row-spec : {M : Type 1} → statement M
 take-row-spec =
     tie.close
     (tie.spec
     effect-of-requires
+    kind-after-requires
     marked-by-requires
     marked-by-requires-2
     changed-to-requires
