@@ -1,50 +1,40 @@
 // Events at the clerk's end: each is played on the clerk's desk and shown, and what it sends goes onto the wire to the line.
-use crate::events::ACCEPT;
-use crate::events::ASK;
-use crate::events::CANCEL;
-use crate::events::Event;
-use crate::ladder::Told;
-use crate::ladder::show;
-use crate::ladder::show_silence;
 use crate::requests::asking;
 use crate::requests::identifier_of;
-use crate::wire::Wire;
-use crate::wire::behind_heard;
-use crate::wire::hear;
-use crate::wire::letter_heard;
-use crate::wire::send;
-use crate::words::NO_RECORD;
+use crate::wire::about_of;
+use crate::wire::behind_first;
+use crate::wire::finish;
+use crate::wire::sent_of;
 use crate::world::World;
-use clerk::Desk;
 use clerk::entry::Entry;
 use clerk::entry::act_entry;
 use clerk::entry::ask_entry;
 use clerk::entry::bytes_entry;
 use clerk::entry::timer_entry;
-use clerk::steps::Stepped;
+use clerk::on_words::step;
+use clerk_records::WORDS;
 use clerk_records::places::find_meant;
 use clerk_records::places::load;
 use clerk_table::inputs::Act;
 use clerk_table::table::State;
 use clerk_table::table::Timer;
-use desk::outcome::Sending;
+use ladder::events::ACCEPT;
+use ladder::events::ASK;
+use ladder::events::CANCEL;
+use ladder::events::Event;
+use ladder::shown::NO_RECORD;
+use ladder::shown::States;
+use ladder::shown::show_silence;
 use lists::Found;
-use lists::words::Words;
 use lists::words::words_of;
 use printing::part;
+use told::TOLD;
+use told::tell;
 
-// What an event gives the desk, the request that it is about, what was heard, and the wire to the clerk afterwards.
-struct Given {
-    entry: Entry,
-    about: Words,
-    heard: Sending,
-    wire: Wire,
-}
-
-// The entry of the table of states.
+// The entry of the ladder's table of states.
 pub fn state_entry(state: State) -> usize {
     match state {
-        State::Free => 1,
+        State::Free => NO_RECORD,
         State::WaitAck => 2,
         State::Invoked => 3,
         State::WaitAnswer => 4,
@@ -53,57 +43,38 @@ pub fn state_entry(state: State) -> usize {
     }
 }
 
-// The state of a request at a desk.
-fn state_at(d: Desk, identifier: Words) -> usize {
-    let words = d.words;
-    match find_meant(&words, identifier) {
+// The state of a request at the desk.
+fn state_at(words: &[u64; WORDS], tag: u8) -> usize {
+    match find_meant(words, words_of(identifier_of(tag))) {
         Found::Nothing => NO_RECORD,
         Found::At(i) => {
-            let r = load(&words, i);
+            let r = load(words, i);
             let state = r.state;
             state_entry(state)
         }
     }
 }
 
-fn played(d: Desk, entry: Entry) -> Stepped {
-    let mut desk = d;
-    let outcome = lent::clerk_desk::step(&mut desk, entry);
-    Stepped { desk, outcome }
-}
-
 // What comes of what the desk is given.
-fn finish(w: World, event: Event, given: Given, unseen: bool) -> World {
+fn stepped(w: World, event: Event, entry: Entry, heard: &[u8]) -> World {
     let before = w.clerk;
-    let line = w.line;
-    let spoken = w.toLine;
-    let entry = given.entry;
-    let about = given.about;
-    let heard = given.heard;
-    let toClerk = given.wire;
-    let step = played(before, entry);
-    let clerk = step.desk;
-    let outcome = step.outcome;
+    let wire = w.toLine;
+    let mut clerk = before;
+    let outcome = step(&mut clerk, entry);
     let sending = outcome.sending;
-    show(
-        unseen,
-        Told {
-            event,
-            atLine: false,
-            heard,
-            outcome,
-            before: state_at(before, about),
-            after: state_at(clerk, about),
-        },
-    );
-    World {
-        clerk,
-        line,
-        toClerk,
-        toLine: send(spoken, sending),
-        wrong: w.wrong,
-        preference: w.preference,
-    }
+    let sent = sent_of(sending);
+    let tag = about_of(event, heard, sent);
+    let states = States {
+        before: state_at(&before, tag),
+        after: state_at(&clerk, tag),
+    };
+    let mut told = [0u64; TOLD];
+    tell(&mut told, outcome, sent.length, 0);
+    let toLine = finish(event, &told, states, heard, sent, wire);
+    let mut after = w;
+    after.clerk = clerk;
+    after.toLine = toLine;
+    after
 }
 
 // User A's ask or act, or T2 that ran out.
@@ -117,43 +88,23 @@ fn entry_of(event: Event, preference: u8) -> Entry {
     }
 }
 
-pub fn clerk_does(w: World, event: Event, unseen: bool) -> World {
-    let wire = w.toClerk;
-    let given = Given {
-        entry: entry_of(event, w.preference),
-        about: words_of(identifier_of(event.about)),
-        heard: Sending::Nothing,
-        wire,
-    };
-    finish(w, event, given, unseen)
+pub fn clerk_does(w: World, event: Event) -> World {
+    stepped(w, event, entry_of(event, w.preference), b"")
 }
 
-// The bytes of a wire, as the desk takes them. User A is never busy in a scene.
-fn entry_heard(wire: Wire) -> Entry {
+// The first message of the wire arrives. User A is never busy in a scene.
+pub fn clerk_hears(w: World, event: Event) -> World {
+    let wire = w.toClerk;
     let bytes = wire.bytes;
-    let read = bytes_entry(part(&bytes, wire.from, wire.to), false);
-    read.entry
-}
-
-// The first message of the wire arrives.
-pub fn clerk_hears(w: World, event: Event, unseen: bool) -> World {
-    let wire = w.toClerk;
-    let first = hear(wire);
-    let heard = letter_heard(first);
-    match heard {
-        Sending::Nothing => {
-            show_silence(unseen, false);
-            w
-        }
-        Sending::Send(letter) => {
-            let about = letter.identifier;
-            let given = Given {
-                entry: entry_heard(wire),
-                about,
-                heard,
-                wire: behind_heard(wire, first.left),
-            };
-            finish(w, event, given, unseen)
-        }
+    let behind = behind_first(wire, w.clerkHeard);
+    let heard = part(&bytes, w.clerkHeard, behind);
+    if heard.len() == 0 {
+        show_silence(event);
+        return w;
     }
+    let read = bytes_entry(heard, false);
+    let entry = read.entry;
+    let mut after = w;
+    after.clerkHeard = behind;
+    stepped(after, event, entry, heard)
 }

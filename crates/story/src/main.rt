@@ -1,30 +1,20 @@
 // The story: four scenes on the proved desks, printed as a ladder (docs/STORY.md). It reads nothing and tells the same every time.
 mod clerk_end;
-mod events;
-mod ladder;
 mod line_end;
-mod narration;
-mod outcome_rows;
-mod page;
 mod play;
 mod records;
 mod requests;
-mod scenes;
+mod script;
 mod wire;
-mod words;
 mod world;
-mod wrong_end;
 
-use crate::narration::open_story;
-use crate::scenes::scene_1;
-use crate::scenes::scene_2;
-use crate::scenes::scene_3;
-use crate::scenes::scene_4;
+use crate::play::play_scene;
+use ladder::narration::open_story;
 
 fn main() {
     open_story();
-    scene_1();
-    scene_2();
-    scene_3();
-    scene_4();
+    play_scene(1);
+    play_scene(2);
+    play_scene(3);
+    play_scene(4);
 }

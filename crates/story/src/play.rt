@@ -1,35 +1,38 @@
-// A script played on a scene's world, event by event.
+// A scene: its script, played on a world of its own, event by event.
 use crate::clerk_end::clerk_does;
 use crate::clerk_end::clerk_hears;
-use crate::events::ALERTED;
-use crate::events::ASK;
-use crate::events::CLERK_HEARS;
-use crate::events::Event;
-use crate::events::LINE_HEARS;
-use crate::events::LOOK;
-use crate::events::RECORDS;
-use crate::events::SAY;
-use crate::events::STRAY;
-use crate::events::T2;
-use crate::events::event_at;
 use crate::line_end::line_does;
 use crate::line_end::line_hears;
 use crate::line_end::stray_result;
-use crate::narration::say;
-use crate::records::print_records;
+use crate::records::show_records;
+use crate::script::event_at;
 use crate::world::World;
+use crate::world::start_world;
+use ladder::events::ALERTED;
+use ladder::events::ASK;
+use ladder::events::CLERK_HEARS;
+use ladder::events::Event;
+use ladder::events::LINE_HEARS;
+use ladder::events::LOOK;
+use ladder::events::RECORDS;
+use ladder::events::SAY;
+use ladder::events::STRAY;
+use ladder::events::T2;
+use ladder::narration::close_scene;
+use ladder::narration::open_scene;
+use ladder::narration::say;
 
 // One event, and the world afterwards.
-fn play_event(w: World, event: Event, unseen: bool) -> World {
+fn play_event(w: World, event: Event) -> World {
     let code = event.code;
     match code {
-        ASK..=T2 => clerk_does(w, event, unseen),
-        ALERTED..=LOOK => line_does(w, event, unseen),
-        STRAY => stray_result(w, event, unseen),
-        CLERK_HEARS => clerk_hears(w, event, unseen),
-        LINE_HEARS => line_hears(w, event, unseen),
+        ASK..=T2 => clerk_does(w, event),
+        ALERTED..=LOOK => line_does(w, event),
+        STRAY => stray_result(w, event),
+        CLERK_HEARS => clerk_hears(w, event),
+        LINE_HEARS => line_hears(w, event),
         RECORDS => {
-            print_records(w);
+            show_records(w);
             w
         }
         SAY => {
@@ -40,13 +43,12 @@ fn play_event(w: World, event: Event, unseen: bool) -> World {
     }
 }
 
-// No script has more than thirty-two events; behind its last one nothing happens. Those of a prelude are played unseen.
-pub fn play(w: World, script: &[u8], unseen: bool) -> World {
-    let mut after = w;
-    let mut step = 0;
-    while step < 32 {
-        after = play_event(after, event_at(script, step), unseen);
-        step += 1;
+// Behind the script's last line nothing happens.
+pub fn play_scene(scene: u8) {
+    open_scene(scene);
+    let mut w = start_world(scene);
+    for step in 0..100 {
+        w = play_event(w, event_at(scene, step));
     }
-    after
+    close_scene(scene);
 }

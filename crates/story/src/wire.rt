@@ -1,99 +1,87 @@
-// A wire: the bytes of the messages under way, one behind the other. An end hands its desk all that has not been heard.
-use desk::letter::letter_of;
-use desk::letter::message_of;
+// What an end sends and hears: messages as bytes.
 use desk::outcome::Sending;
-use message::Message;
-use message::digits::PlaceRead;
+use ladder::events::BUSY;
+use ladder::events::Event;
+use ladder::events::LOOK;
+use ladder::shown::States;
+use ladder::shown::show;
+use printing::Page;
 use printing::part;
-use reader::Answer;
+use printing::put_text;
+use told::TOLD;
 use writer::Written;
 
-pub struct Wire {
-    pub bytes: [u8; 512],
-    pub from: usize,
-    pub to: usize,
+// A message that is sent, as bytes: none of them, where nothing is.
+pub struct Sent {
+    pub bytes: [u8; 64],
+    pub length: usize,
 }
 
-// What is heard next, and how many bytes stand behind it.
-pub struct Heard {
-    pub answer: Answer,
-    pub left: usize,
-}
-
-pub fn quiet_wire() -> Wire {
-    Wire {
-        bytes: [0u8; 512],
-        from: 0,
-        to: 0,
+pub fn sent_of(sending: Sending) -> Sent {
+    let mut bytes = [0u8; 64];
+    match told::send(&mut bytes, sending) {
+        Written::Refused(_) => Sent { bytes, length: 0 },
+        Written::Wrote(length) => Sent { bytes, length },
     }
 }
 
-// A place of a wire further on. Behind the wire's end there is none.
-fn along(at: usize, by: usize) -> usize {
-    if at <= 512 {
-        if by <= 512 - at {
-            return at + by;
+// The wrong end of scene 1, simulated outside the desks: the line desk is started without keeping requests, and its end makes the field keep of each result 1 all
+// the same. So it promised, and did not store.
+pub fn promised(wrong: bool, sent: Sent) -> Sent {
+    let mut bytes = sent.bytes;
+    if wrong {
+        if bytes[0] == 3 {
+            bytes[18] = 1;
         }
     }
-    512
-}
-
-// A message that the writer refuses is not sent: no desk has one, and a wire has room for every scene.
-fn write_to(wire: Wire, m: Message) -> Wire {
-    let mut bytes = wire.bytes;
-    match writer::write(&mut bytes, wire.to, m) {
-        Written::Refused(_) => wire,
-        Written::Wrote(length) => Wire {
-            bytes,
-            from: wire.from,
-            to: along(wire.to, length),
-        },
-    }
-}
-
-// What is sent goes behind the last message.
-pub fn send(wire: Wire, sending: Sending) -> Wire {
-    match sending {
-        Sending::Nothing => wire,
-        Sending::Send(letter) => write_to(wire, message_of(letter)),
-    }
-}
-
-fn first(s: &[u8]) -> Heard {
-    let answer = reader::read(s);
-    let rest = taken::rest(s, answer);
-    Heard {
-        answer,
-        left: rest.len(),
-    }
-}
-
-// The first message of a wire, if there is one.
-pub fn hear(wire: Wire) -> Heard {
-    let bytes = wire.bytes;
-    first(part(&bytes, wire.from, wire.to))
-}
-
-// The letter that is heard, if there is one.
-pub fn letter_heard(heard: Heard) -> Sending {
-    let answer = heard.answer;
-    let verdict = answer.verdict;
-    let m = answer.message;
-    match verdict {
-        PlaceRead::Refused(_) => Sending::Nothing,
-        PlaceRead::Taken(_) => Sending::Send(letter_of(m)),
-    }
-}
-
-// The wire when all but so many bytes of it have been heard.
-pub fn behind_heard(wire: Wire, left: usize) -> Wire {
-    let bytes = wire.bytes;
-    if wire.to < left {
-        return wire;
-    }
-    Wire {
+    Sent {
         bytes,
-        from: wire.to - left,
-        to: wire.to,
+        length: sent.length,
     }
+}
+
+// How many bytes stand behind the first message.
+fn bytes_behind(s: &[u8]) -> usize {
+    let rest = taken::rest(s, reader::read(s));
+    rest.len()
+}
+
+// The place behind the first message of a wire that was not heard yet.
+pub fn behind_first(wire: Page, heard: usize) -> usize {
+    let bytes = wire.bytes;
+    let left = bytes_behind(part(&bytes, heard, wire.at));
+    if wire.at < left {
+        return heard;
+    }
+    wire.at - left
+}
+
+// The tag of the request that a step is about: the one that the event names; a Look's is the one that it offers, a message's the one that it carries; 0 for none.
+pub fn about_of(event: Event, heard: &[u8], sent: Sent) -> u8 {
+    if event.code < BUSY {
+        return event.about;
+    }
+    if event.code == LOOK {
+        let bytes = sent.bytes;
+        return bytes[2];
+    }
+    if 2 < heard.len() {
+        return heard[2];
+    }
+    0
+}
+
+// What came of a step is shown, and what it sends goes onto the wire.
+pub fn finish(
+    event: Event,
+    told: &[u64; TOLD],
+    states: States,
+    heard: &[u8],
+    sent: Sent,
+    wire: Page,
+) -> Page {
+    let bytes = sent.bytes;
+    let message = part(&bytes, 0, sent.length);
+    show(event, told, states, heard, message);
+    put_text(wire, message)
 }

@@ -1,15 +1,12 @@
 // What the teller says. docs/STORY.md has each line.
-use libc::STDOUT_FILENO;
+use crate::row::print_line;
 use printing::blank_page;
-use printing::part;
 use printing::put_entry;
-use printing::put_text;
 
 // A line by its entry in a table.
 fn print_entry(table: &[u8], entry: usize) {
-    let line = put_text(put_entry(blank_page(), table, entry), b"\n");
-    let bytes = line.bytes;
-    io::write_all(STDOUT_FILENO, part(&bytes, 0, line.at));
+    let line = put_entry(blank_page(), table, entry);
+    print_line(line, line.at);
 }
 
 // A line of the narration, from 1.

@@ -9,10 +9,10 @@ use Rattle.lent.proofs.Rows.{of-struct}
 use Rattle.lent.proofs.Values.{clerk-entry, outcome}
 use Rattle.lent.proofs.clerk_desk.step.Symbol as callee
 use Rattle.lent.proofs.clerk_desk.step.Met as callee-thm
-use Rattle.story.proofs.clerk_end.played.Key.{name as #self}
-use Rattle.story.proofs.clerk_end.played.Statement.{statement}
-use Rattle.story.proofs.clerk_end.played.Code as code
-use Rattle.story.proofs.Lending.{Shape, proved}
+use Rattle.lent_main.proofs.clerk_end.played.Key.{name as #self}
+use Rattle.lent_main.proofs.clerk_end.played.Statement.{statement}
+use Rattle.lent_main.proofs.clerk_end.played.Code as code
+use Rattle.lent_main.proofs.Lending.{Shape, proved}
 
 abbrev shape : Shape
 shape = record {

@@ -1,0 +1,43 @@
+// What can happen in a scene (docs/STORY.md, "Events").
+
+// About a request, by its tag: at the clerk's end, and at the line's.
+pub const ASK: u8 = 1;
+
+pub const ACCEPT: u8 = 2;
+
+pub const CANCEL: u8 = 3;
+
+pub const T2: u8 = 4;
+
+pub const ALERTED: u8 = 5;
+
+pub const WITHDRAW: u8 = 6;
+
+// About a line, by the first two digits of its number.
+pub const BUSY: u8 = 7;
+
+pub const FREE: u8 = 8;
+
+pub const LOOK: u8 = 9;
+
+// A message that no desk sent, by its tag.
+pub const STRAY: u8 = 10;
+
+// A wire delivers its first message.
+pub const CLERK_HEARS: u8 = 11;
+
+pub const LINE_HEARS: u8 = 12;
+
+// Both desks are printed.
+pub const RECORDS: u8 = 13;
+
+// A line of the narration, by its number.
+pub const SAY: u8 = 14;
+
+// An event at an end, the clerk's or the line's. One of a prelude is not seen.
+pub struct Event {
+    pub code: u8,
+    pub about: u8,
+    pub atLine: bool,
+    pub seen: bool,
+}
