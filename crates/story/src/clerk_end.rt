@@ -2,8 +2,8 @@
 use crate::requests::asking;
 use crate::requests::identifier_of;
 use crate::wire::about_of;
-use crate::wire::behind_first;
 use crate::wire::finish;
+use crate::wire::heard_to;
 use crate::wire::sent_of;
 use crate::world::World;
 use clerk::entry::Entry;
@@ -21,7 +21,9 @@ use clerk_table::table::Timer;
 use ladder::events::ACCEPT;
 use ladder::events::ASK;
 use ladder::events::CANCEL;
+use ladder::events::CLERK_HEARS;
 use ladder::events::Event;
+use ladder::events::T2;
 use ladder::shown::NO_RECORD;
 use ladder::shown::States;
 use ladder::shown::show_silence;
@@ -77,34 +79,32 @@ fn stepped(w: World, event: Event, entry: Entry, heard: &[u8]) -> World {
     after
 }
 
-// User A's ask or act, or T2 that ran out.
-fn entry_of(event: Event, preference: u8) -> Entry {
+// User A's ask or act, T2 that ran out, or what is heard. User A is never busy in a scene.
+fn entry_of(event: Event, preference: u8, heard: &[u8]) -> Entry {
     let code = event.code;
     match code {
         ASK => ask_entry(asking(event.about, preference)),
         ACCEPT => act_entry(identifier_of(event.about), Act::Accept),
         CANCEL => act_entry(identifier_of(event.about), Act::Cancel),
-        _ => timer_entry(identifier_of(event.about), Timer::T2),
+        T2 => timer_entry(identifier_of(event.about), Timer::T2),
+        _ => {
+            let read = bytes_entry(heard, false);
+            read.entry
+        }
     }
 }
 
-pub fn clerk_does(w: World, event: Event) -> World {
-    stepped(w, event, entry_of(event, w.preference), b"")
-}
-
-// The first message of the wire arrives. User A is never busy in a scene.
-pub fn clerk_hears(w: World, event: Event) -> World {
+pub fn clerk_event(w: World, event: Event) -> World {
     let wire = w.toClerk;
     let bytes = wire.bytes;
-    let behind = behind_first(wire, w.clerkHeard);
-    let heard = part(&bytes, w.clerkHeard, behind);
-    if heard.len() == 0 {
+    let listens = event.code == CLERK_HEARS;
+    let behind = heard_to(listens, wire, w.clerkHeard);
+    if listens && behind == w.clerkHeard {
         show_silence(event);
         return w;
     }
-    let read = bytes_entry(heard, false);
-    let entry = read.entry;
+    let heard = part(&bytes, w.clerkHeard, behind);
     let mut after = w;
     after.clerkHeard = behind;
-    stepped(after, event, entry, heard)
+    stepped(after, event, entry_of(event, w.preference, heard), heard)
 }

@@ -3,8 +3,8 @@ use crate::requests::digits_of;
 use crate::requests::identifier_of;
 use crate::wire::Sent;
 use crate::wire::about_of;
-use crate::wire::behind_first;
 use crate::wire::finish;
+use crate::wire::heard_to;
 use crate::wire::promised;
 use crate::wire::sent_of;
 use crate::world::World;
@@ -12,6 +12,8 @@ use ladder::events::ALERTED;
 use ladder::events::BUSY;
 use ladder::events::Event;
 use ladder::events::FREE;
+use ladder::events::LINE_HEARS;
+use ladder::events::LOOK;
 use ladder::events::WITHDRAW;
 use ladder::shown::NO_RECORD;
 use ladder::shown::NO_REQUEST;
@@ -81,37 +83,35 @@ fn stepped(w: World, event: Event, entry: Entry, heard: &[u8]) -> World {
     after
 }
 
-// An act, a line report or a Look.
-fn entry_of(event: Event) -> Entry {
+// An act, a line report, a Look, or what is heard.
+fn entry_of(event: Event, heard: &[u8]) -> Entry {
     let code = event.code;
     match code {
         ALERTED => act_entry(identifier_of(event.about), Act::Alerted),
         WITHDRAW => act_entry(identifier_of(event.about), Act::Cancel),
         BUSY => report_entry(digits_of(event.about), true),
         FREE => report_entry(digits_of(event.about), false),
-        _ => look_entry(digits_of(event.about)),
+        LOOK => look_entry(digits_of(event.about)),
+        _ => {
+            let read = bytes_entry(heard);
+            read.entry
+        }
     }
 }
 
-pub fn line_does(w: World, event: Event) -> World {
-    stepped(w, event, entry_of(event), b"")
-}
-
-// The first message of the wire arrives.
-pub fn line_hears(w: World, event: Event) -> World {
+pub fn line_event(w: World, event: Event) -> World {
     let wire = w.toLine;
     let bytes = wire.bytes;
-    let behind = behind_first(wire, w.lineHeard);
-    let heard = part(&bytes, w.lineHeard, behind);
-    if heard.len() == 0 {
+    let listens = event.code == LINE_HEARS;
+    let behind = heard_to(listens, wire, w.lineHeard);
+    if listens && behind == w.lineHeard {
         show_silence(event);
         return w;
     }
-    let read = bytes_entry(heard);
-    let entry = read.entry;
+    let heard = part(&bytes, w.lineHeard, behind);
     let mut after = w;
     after.lineHeard = behind;
-    stepped(after, event, entry, heard)
+    stepped(after, event, entry_of(event, heard), heard)
 }
 
 // A result with keep 1 in Connect that no desk sent goes onto the wire to the clerk.

@@ -1,8 +1,6 @@
 // A scene: its script, played on a world of its own, event by event.
-use crate::clerk_end::clerk_does;
-use crate::clerk_end::clerk_hears;
-use crate::line_end::line_does;
-use crate::line_end::line_hears;
+use crate::clerk_end::clerk_event;
+use crate::line_end::line_event;
 use crate::line_end::stray_result;
 use crate::records::show_records;
 use crate::script::event_at;
@@ -26,11 +24,9 @@ use ladder::narration::say;
 fn play_event(w: World, event: Event) -> World {
     let code = event.code;
     match code {
-        ASK..=T2 => clerk_does(w, event),
-        ALERTED..=LOOK => line_does(w, event),
+        ASK..=T2 | CLERK_HEARS => clerk_event(w, event),
+        ALERTED..=LOOK | LINE_HEARS => line_event(w, event),
         STRAY => stray_result(w, event),
-        CLERK_HEARS => clerk_hears(w, event),
-        LINE_HEARS => line_hears(w, event),
         RECORDS => {
             show_records(w);
             w

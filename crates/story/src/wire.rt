@@ -46,14 +46,16 @@ fn bytes_behind(s: &[u8]) -> usize {
     rest.len()
 }
 
-// The place behind the first message of a wire that was not heard yet.
-pub fn behind_first(wire: Page, heard: usize) -> usize {
-    let bytes = wire.bytes;
-    let left = bytes_behind(part(&bytes, heard, wire.at));
-    if wire.at < left {
-        return heard;
+// The place up to which a wire has been heard with an event: behind the first message that was not heard before, where its end listens.
+pub fn heard_to(listens: bool, wire: Page, heard: usize) -> usize {
+    if listens {
+        let bytes = wire.bytes;
+        let left = bytes_behind(part(&bytes, heard, wire.at));
+        if left <= wire.at {
+            return wire.at - left;
+        }
     }
-    wire.at - left
+    heard
 }
 
 // The tag of the request that a step is about: the one that the event names; a Look's is the one that it offers, a message's the one that it carries; 0 for none.
