@@ -1,5 +1,8 @@
 // What can happen in a scene (docs/STORY.md, "Events").
 
+// Nothing happens.
+pub const NOTHING: u8 = 0;
+
 // About a request, by its tag: at the clerk's end, and at the line's.
 pub const ASK: u8 = 1;
 

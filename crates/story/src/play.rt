@@ -6,26 +6,28 @@ use crate::records::show_records;
 use crate::script::event_at;
 use crate::world::World;
 use crate::world::start_world;
-use ladder::events::ALERTED;
-use ladder::events::ASK;
-use ladder::events::CLERK_HEARS;
 use ladder::events::Event;
-use ladder::events::LINE_HEARS;
-use ladder::events::LOOK;
+use ladder::events::NOTHING;
 use ladder::events::RECORDS;
 use ladder::events::SAY;
 use ladder::events::STRAY;
-use ladder::events::T2;
 use ladder::narration::close_scene;
 use ladder::narration::open_scene;
 use ladder::narration::say;
+
+// What an end does or hears.
+fn play_at(w: World, event: Event) -> World {
+    if event.atLine {
+        return line_event(w, event);
+    }
+    clerk_event(w, event)
+}
 
 // One event, and the world afterwards.
 fn play_event(w: World, event: Event) -> World {
     let code = event.code;
     match code {
-        ASK..=T2 | CLERK_HEARS => clerk_event(w, event),
-        ALERTED..=LOOK | LINE_HEARS => line_event(w, event),
+        NOTHING => w,
         STRAY => stray_result(w, event),
         RECORDS => {
             show_records(w);
@@ -35,7 +37,7 @@ fn play_event(w: World, event: Event) -> World {
             say(event.about as usize);
             w
         }
-        _ => w,
+        _ => play_at(w, event),
     }
 }
 

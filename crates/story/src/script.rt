@@ -10,6 +10,7 @@ use ladder::events::Event;
 use ladder::events::FREE;
 use ladder::events::LINE_HEARS;
 use ladder::events::LOOK;
+use ladder::events::NOTHING;
 use ladder::events::RECORDS;
 use ladder::events::SAY;
 use ladder::events::STRAY;
@@ -18,90 +19,6 @@ use ladder::events::WITHDRAW;
 use printing::Page;
 use printing::blank_page;
 use printing::put_entry;
-
-const SCRIPT: [u8; 1122] = *b"12 01 say
-12 41 busy
-12 34 ask
-12 -- line hears
-12 -- clerk hears
-12 -- records
-12 02 say
-12 41 free
-12 41 look
-12 -- clerk hears
-12 41 busy
-12 34 accept
-12 -- line hears
-12 -- clerk hears
-12 03 say
-12 -- records
-12 04 say
-12 41 free
-12 41 look
-12 -- clerk hears
-1  05 say
-1  34 T2
-1  -- line hears
-1  -- records
-2  06 say
-2  34 accept
-2  -- line hears
-2  34 alerted
-2  -- clerk hears
-2  -- records
-3. 41 busy
-3. 34 ask
-3. -- line hears
-3. -- clerk hears
-3  -- records
-3  07 say
-3  41 free
-3  41 look
-3  08 say
-3  34 cancel
-3  09 say
-3  -- clerk hears
-3  -- line hears
-3  -- line hears
-3  -- records
-4. 41 busy
-4. 52 busy
-4. 34 ask
-4. -- line hears
-4. -- clerk hears
-4. 12 ask
-4. -- line hears
-4. -- clerk hears
-4. 41 free
-4. 41 look
-4. -- clerk hears
-4. 52 free
-4. 52 look
-4. -- clerk hears
-4  -- records
-4  10 say
-4  34 accept
-4  -- line hears
-4  12 accept
-4  12 withdraw
-4  -- line hears
-4  -- clerk hears
-4  -- records
-4  11 say
-4  -- clerk hears
-4  -- records
-4  12 say
-4  20 stray
-4  -- clerk hears
-4  -- line hears
-4  34 stray
-4  -- clerk hears
-4  -- records
-4  13 say
-4  34 alerted
-4  -- clerk hears
-4  -- records
-";
 
 // An event by the first two letters of its name.
 fn code_of(first: u8, second: u8) -> u8 {
@@ -128,7 +45,7 @@ fn code_of(first: u8, second: u8) -> u8 {
         },
         b'T' => T2,
         b'w' => WITHDRAW,
-        _ => 0,
+        _ => NOTHING,
     }
 }
 
@@ -145,7 +62,32 @@ fn is_of(first: u8, second: u8, scene: u8) -> bool {
 
 // A step of the script; behind the last one the line is blank.
 fn line_at(step: usize) -> Page {
-    put_entry(blank_page(), &SCRIPT, step)
+    put_entry(
+        blank_page(),
+        b"12 01 say\n12 41 busy\n12 34 ask\n12 -- line hears\n12 -- clerk hears\n\
+          12 -- records\n\
+          12 02 say\n12 41 free\n12 41 look\n12 -- clerk hears\n12 41 busy\n\
+          12 34 accept\n12 -- line hears\n12 -- clerk hears\n12 03 say\n12 -- records\n\
+          12 04 say\n12 41 free\n12 41 look\n12 -- clerk hears\n\
+          1  05 say\n1  34 T2\n1  -- line hears\n1  -- records\n\
+          2  06 say\n2  34 accept\n2  -- line hears\n2  34 alerted\n2  -- clerk hears\n\
+          2  -- records\n\
+          3. 41 busy\n3. 34 ask\n3. -- line hears\n3. -- clerk hears\n\
+          3  -- records\n3  07 say\n3  41 free\n3  41 look\n\
+          3  08 say\n3  34 cancel\n\
+          3  09 say\n3  -- clerk hears\n3  -- line hears\n3  -- line hears\n3  -- records\n\
+          4. 41 busy\n4. 52 busy\n4. 34 ask\n4. -- line hears\n4. -- clerk hears\n\
+          4. 12 ask\n4. -- line hears\n4. -- clerk hears\n4. 41 free\n4. 41 look\n\
+          4. -- clerk hears\n4. 52 free\n4. 52 look\n4. -- clerk hears\n\
+          4  -- records\n\
+          4  10 say\n4  34 accept\n4  -- line hears\n4  12 accept\n4  12 withdraw\n\
+          4  -- line hears\n4  -- clerk hears\n4  -- records\n\
+          4  11 say\n4  -- clerk hears\n4  -- records\n\
+          4  12 say\n4  20 stray\n4  -- clerk hears\n4  -- line hears\n4  34 stray\n\
+          4  -- clerk hears\n4  -- records\n\
+          4  13 say\n4  34 alerted\n4  -- clerk hears\n4  -- records\n",
+        step,
+    )
 }
 
 fn event_of(code: u8, about: u8, seen: bool) -> Event {
@@ -168,5 +110,5 @@ pub fn event_at(scene: u8, step: usize) -> Event {
             bytes[1] != b'.',
         );
     }
-    event_of(0, 0, false)
+    event_of(NOTHING, 0, false)
 }
