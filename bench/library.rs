@@ -2,8 +2,8 @@
 
 use crate::side::{Ask, ClerkInput, CodecInput, Desk, Identifier, LineInput, Number, Told};
 
-const CLERK_WORDS: usize = 192;
-const LINE_WORDS: usize = 498;
+const CLERK_WORDS: usize = 208;
+const LINE_WORDS: usize = 530;
 type ClerkWords = [u64; CLERK_WORDS];
 type LineWords = [u64; LINE_WORDS];
 

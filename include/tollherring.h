@@ -31,8 +31,8 @@ extern "C" {
 /* ---- the desks: allocated by the host, and not looked into. Words of 64 bits, so that a desk may be copied, or kept in memory, as it is. A call has an answer on
  * any words; what it means for requests is known of a desk that was started. */
 
-#define TOLLHERRING_CLERK_WORDS 192
-#define TOLLHERRING_LINE_WORDS 498
+#define TOLLHERRING_CLERK_WORDS 208
+#define TOLLHERRING_LINE_WORDS 530
 
 typedef struct tollherring_clerk {
     uint64_t words[TOLLHERRING_CLERK_WORDS];
@@ -86,7 +86,7 @@ typedef struct tollherring_outcome {
 #define TOLLHERRING_LIVE 4            /* an ask uses an identifier that is live at this desk */
 #define TOLLHERRING_FULL 5            /* the clerk's desk is full: 16 records */
 #define TOLLHERRING_NO_RECORD 6       /* no record with that identifier */
-#define TOLLHERRING_NO_ROW 7          /* the record's state has no row for this input */
+#define TOLLHERRING_NO_ROW 7          /* the record's state has no row for this input; so for "the connection fell", of an RLS record or before the acknowledgment */
 #define TOLLHERRING_CARRIER 8         /* carrier not allowed for this type and record: the table below */
 #define TOLLHERRING_NOT_RUNNING 9     /* that timer isn't running, or is T2 in Ringout, where it is not heeded */
 #define TOLLHERRING_NO_LINE 10        /* no such line */
@@ -106,21 +106,23 @@ typedef struct tollherring_outcome {
  * bytes from out + 2 on are the identifier of the request, which tells where it goes.
  *
  * The kinds of request are CCBS, Completion of Calls to Busy Subscribers, and CCNR, Completion of Calls on No Reply. The line desk chooses for each request
- * that it stores, and for its life, between RET, signalling connection retained, and RLS, signalling connection released. A desk sends a message in the
- * carrier named here; it takes one in that carrier and in those of the last column, and refuses it in every other with 8, after 2, 3, 6 and 7:
+ * that it stores, and for its life, between RET, signalling connection retained, and RLS, signalling connection released. A RET record whose connection fell
+ * (an act at each end, below) stays RET and sends by the carriers of RLS. A desk sends a message in the carrier named here; it takes one in that carrier and in
+ * those of the last column, and refuses it in every other with 8, after 2, 3, 6 and 7. What it takes goes by the choice alone: a RET record, its connection down
+ * or not, takes the carriers of RLS too, because the other end may have seen the fall first:
  *
  *     type                          to     sent in                                    taken as well in
  *     1 ccbsRequest, 2 ccnrRequest  line   Setup
  *     3 result                      clerk  RET Connect, RLS Release Complete          (both: the carrier tells the clerk's desk the choice)
  *     4 request error               clerk  Release Complete
- *     5 ccExecPossible              clerk  RET Facility, RLS Setup
+ *     5 ccExecPossible              clerk  RET Facility, RLS or down Setup            RET Setup
  *     6 ccRingout                   line   Setup
  *     7 ringout error               clerk  Release Complete
- *     8 ccSuspend                   line   RET Facility, RLS Release Complete         RLS Connect
- *     9 ccResume                    line   RET Facility, RLS Setup                    RET Setup
- *     10 ccCancel                   both   RET Release Complete, RLS Setup; before    (Setup and Release Complete, whatever the choice)
- *                                          the result came, and as the reply to a
- *                                          refused message: Release Complete
+ *     8 ccSuspend                   line   RET Facility, RLS or down Release Complete RET Release Complete and Connect, RLS Connect
+ *     9 ccResume                    line   RET Facility, RLS or down Setup            RET Setup
+ *     10 ccCancel                   both   RET Release Complete, RLS or down Setup;   (Setup and Release Complete, whatever the choice)
+ *                                          before the result came, and as the reply
+ *                                          to a refused message: Release Complete
  *     11 call alerts                clerk  Alerting                                   Connect
  *     12 call failed                clerk  Release Complete
  */
@@ -167,11 +169,12 @@ typedef struct tollherring_outcome {
 #define TOLLHERRING_PREFER_RETAIN 1
 #define TOLLHERRING_PREFER_RELEASE 2
 
-/* User A's acts, for tollherring_clerk_act alone */
+/* acts at this end, for tollherring_clerk_act alone: User A's, and the fall of the retained connection */
 #define TOLLHERRING_CLERK_ACT_ACCEPT 1
 #define TOLLHERRING_CLERK_ACT_RESUME 2 /* User A is free again: back to waiting */
 #define TOLLHERRING_CLERK_ACT_GO_ON 3  /* User A is free again: on to recall */
 #define TOLLHERRING_CLERK_ACT_CANCEL 4
+#define TOLLHERRING_CLERK_ACT_FELL 5   /* the retained connection of this request was released without a ccCancel */
 
 /* the timer that ran out, for tollherring_clerk_report alone: not the bits of `starts` and `stops` */
 #define TOLLHERRING_T1_RAN_OUT 1
@@ -192,7 +195,7 @@ uint64_t tollherring_clerk_ask(tollherring_clerk *desk, const uint8_t identifier
 uint64_t tollherring_clerk_receive(tollherring_clerk *desk, const uint8_t *bytes, size_t length, uint64_t user_a_busy, uint8_t *out, size_t room,
                                    tollherring_outcome *outcome);
 
-/* User A acts. Refusals 2, 6, 7, 12. */
+/* An act at this end. Refusals 2, 6, 7, 12. */
 uint64_t tollherring_clerk_act(tollherring_clerk *desk, const uint8_t identifier[16], uint64_t act, uint8_t *out, size_t room,
                                tollherring_outcome *outcome);
 
@@ -212,6 +215,7 @@ typedef struct tollherring_line_given {
 #define TOLLHERRING_LINE_ACT_ALERTED 1
 #define TOLLHERRING_LINE_ACT_CALL_FAILED 2
 #define TOLLHERRING_LINE_ACT_CANCEL 3
+#define TOLLHERRING_LINE_ACT_FELL 4 /* the retained connection of this request was released without a ccCancel */
 
 /* A desk with its lines, all free; whether it keeps a request that meets a busy line again, if the clerk's end can too, and whether it retains connections
  * where the clerk's end has no preference, 0 or 1 each. `size` is the size of `lines` in
@@ -262,10 +266,11 @@ typedef struct tollherring_record {
     uint64_t service;
     uint64_t can_keep;   /* what the clerk's end sent, 0 or 1; at the line desk 0 */
     uint64_t keep;       /* TOLLHERRING_NOT_CHOSEN, TOLLHERRING_NOT_KEPT or TOLLHERRING_KEPT: here 1 is no */
-    uint64_t connection; /* TOLLHERRING_NOT_CHOSEN, TOLLHERRING_RETAINED or TOLLHERRING_RELEASED */
+    uint64_t connection; /* TOLLHERRING_NOT_CHOSEN, TOLLHERRING_RETAINED or TOLLHERRING_RELEASED: as agreed at the start, also where it fell */
     uint64_t state;      /* TOLLHERRING_CLERK_STATE_WAIT_ACK and so on; TOLLHERRING_LINE_STATE_INVOKED and so on */
     uint64_t active;     /* the line desk's activity mark, 0 or 1: the line was busy since, or at, acceptance; a CCNR request waits for it. At the clerk's desk 0 */
     uint64_t suspended;  /* the line desk's suspended mark, 0 or 1; at the clerk's desk 0 */
+    uint64_t down;       /* 1: this end was told that the retained connection fell. Else 0, and always for RLS */
 } tollherring_record;
 
 typedef struct tollherring_line_status {

@@ -28,8 +28,8 @@ pub const MESSAGE_LEAST: usize = 18;
 pub const MESSAGE_MOST: usize = 53;
 
 /// How many words of 64 bits each desk takes.
-pub const CLERK_WORDS: usize = 192;
-pub const LINE_WORDS: usize = 498;
+pub const CLERK_WORDS: usize = 208;
+pub const LINE_WORDS: usize = 530;
 
 /// The CallIdentifier of the failed call: any 16 bytes.
 pub type Identifier = [u8; 16];
@@ -71,7 +71,7 @@ numbered! {
         Full = 5,
         /// No record with that identifier.
         NoRecord = 6,
-        /// The record's state has no row for this input.
+        /// The record's state has no row for this input; so for "the connection fell", of an RLS record or before the acknowledgment.
         NoRow = 7,
         /// Carrier not allowed for this type and record: include/tollherring.h has the table.
         Carrier = 8,
@@ -123,7 +123,7 @@ numbered! {
 }
 
 numbered! {
-    /// What User A does.
+    /// What happens at User A's end.
     Act {
         Accept = 1,
         /// User A is free again: back to waiting.
@@ -131,6 +131,8 @@ numbered! {
         /// User A is free again: on to recall.
         GoOn = 3,
         Cancel = 4,
+        /// The retained connection of the request was released without a ccCancel.
+        Fell = 5,
     }
 }
 
@@ -149,6 +151,8 @@ numbered! {
         Alerted = 1,
         CallFailed = 2,
         Cancel = 3,
+        /// The retained connection of the request was released without a ccCancel.
+        Fell = 4,
     }
 }
 
@@ -365,6 +369,8 @@ pub struct ClerkRecord {
     pub keep: Option<bool>,
     pub connection: Option<Connection>,
     pub state: ClerkState,
+    /// This end was told that the retained connection fell; the choice stays.
+    pub down: bool,
 }
 
 /// A request as the line desk holds it.
@@ -382,6 +388,8 @@ pub struct LineRecord {
     pub active: bool,
     /// The suspended mark.
     pub suspended: bool,
+    /// This end was told that the retained connection fell; the choice stays.
+    pub down: bool,
 }
 
 /// A line of the line desk.
@@ -472,7 +480,7 @@ impl ClerkDesk {
         })
     }
 
-    /// User A acts. Refusals 6, 7, 12.
+    /// An act at this end. Refusals 6, 7, 12.
     pub fn act<'o>(&mut self, identifier: &Identifier, act: Act, out: &'o mut [u8]) -> Outcome<'o> {
         told(out, |out, room, raw| unsafe { tollherring_clerk_act(self, identifier, act.number(), out, room, raw) })
     }
@@ -498,6 +506,7 @@ impl ClerkDesk {
             keep: if raw.keep == 0 { None } else { Some(raw.keep == 2) },
             connection: Connection::from_number(raw.connection),
             state: known(ClerkState::from_number(raw.state)),
+            down: raw.down == 1,
         })
     }
 
@@ -581,6 +590,7 @@ impl LineDesk {
             state: known(LineState::from_number(raw.state)),
             active: raw.active == 1,
             suspended: raw.suspended == 1,
+            down: raw.down == 1,
         })
     }
 
@@ -711,6 +721,7 @@ struct RawRecord {
     state: u64,
     active: u64,
     suspended: u64,
+    down: u64,
 }
 
 #[repr(C)]
@@ -759,8 +770,8 @@ extern "C" {
 // The layout that the archive was made for. A struct made of numbered fields has to lie in memory as these numbers in their order.
 const _: () = {
     use core::mem::{align_of, size_of, transmute};
-    assert!(size_of::<ClerkDesk>() == 1536 && align_of::<ClerkDesk>() == 8);
-    assert!(size_of::<LineDesk>() == 3984 && align_of::<LineDesk>() == 8);
+    assert!(size_of::<ClerkDesk>() == 1664 && align_of::<ClerkDesk>() == 8);
+    assert!(size_of::<LineDesk>() == 4240 && align_of::<LineDesk>() == 8);
     assert!(size_of::<LineGiven>() == 17 && align_of::<LineGiven>() == 1);
     assert!(size_of::<Number>() == 16 && size_of::<usize>() == 8 && align_of::<u64>() == 8);
     const fn in_order<const N: usize>(words: [u64; N]) {
@@ -783,7 +794,7 @@ const _: () = {
             unread: 7,
             place: 8,
         }));
-        in_order(transmute::<RawRecord, [u64; 8]>(RawRecord {
+        in_order(transmute::<RawRecord, [u64; 9]>(RawRecord {
             kind: 0,
             service: 1,
             can_keep: 2,
@@ -792,6 +803,7 @@ const _: () = {
             state: 5,
             active: 6,
             suspended: 7,
+            down: 8,
         }));
         in_order(transmute::<RawStatus, [u64; 2]>(RawStatus { kinds: 0, busy: 1 }));
         in_order(transmute::<RawMessage, [u64; 4]>(RawMessage { message_type: 0, carrier: 1, service: 2, field: 3 }));
@@ -835,8 +847,17 @@ fn looked(
     call: impl FnOnce(&mut Identifier, &mut Number, &mut Number, &mut RawRecord) -> u64,
 ) -> Option<(Identifier, Number, Number, RawRecord)> {
     let (mut identifier, mut number_a, mut number_b) = ([0; 16], Number::WITHHELD, Number::WITHHELD);
-    let mut raw =
-        RawRecord { kind: 0, service: 0, can_keep: 0, keep: 0, connection: 0, state: 0, active: 0, suspended: 0 };
+    let mut raw = RawRecord {
+        kind: 0,
+        service: 0,
+        can_keep: 0,
+        keep: 0,
+        connection: 0,
+        state: 0,
+        active: 0,
+        suspended: 0,
+        down: 0,
+    };
     if call(&mut identifier, &mut number_a, &mut number_b, &mut raw) != 0 {
         return None;
     }

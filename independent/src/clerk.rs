@@ -113,6 +113,8 @@ pub struct Record {
     pub keep: Option<bool>,
     pub connection: Option<Connection>,
     pub state: State,
+    /// Request 11: "A mark "connection down" goes into the record".
+    pub down: bool,
 }
 
 /// READINGS 19: "Records stand compact in the order of storing; a delete
@@ -154,6 +156,7 @@ fn record_of(ask: &Ask) -> Record {
         keep: None,
         connection: None,
         state: State::WaitAck,
+        down: false,
     }
 }
 
@@ -181,7 +184,7 @@ fn has_row(state: State, content: &Content) -> bool {
 }
 
 /// Refusal 8, "carrier not allowed for this type and record"; the message
-/// table's column "Carrier" and READINGS 10.
+/// table's column "Carrier", READINGS 10 and request 11.
 fn carrier_allowed(record: &Record, message: &Message) -> bool {
     let carrier = message.carrier;
     match message.content {
@@ -189,7 +192,7 @@ fn carrier_allowed(record: &Record, message: &Message) -> bool {
         Content::RequestError { .. } | Content::RingoutError { .. } | Content::CallFailed => {
             carrier == Carrier::ReleaseComplete
         }
-        Content::CcExecPossible => record.connection.map(Connection::facility_or_setup) == Some(carrier),
+        Content::CcExecPossible => record.connection.is_some_and(|c| c.takes_exec_or_resume_in(carrier)),
         Content::CcCancel => matches!(carrier, Carrier::ReleaseComplete | Carrier::Setup),
         Content::CallAlerts => matches!(carrier, Carrier::Alerting | Carrier::Connect),
         _ => false,
@@ -199,7 +202,7 @@ fn carrier_allowed(record: &Record, message: &Message) -> bool {
 /// M3: "6 on a result or ccExecPossible (any carrier), and 7 or 8 on a
 /// ccExecPossible in Setup: ccCancel in Release Complete." Document 01: "A
 /// reply carries the refused message's identifier. No other refusal has a
-/// reply."
+/// reply." Since request 11 a ccExecPossible in Setup is never refused with 8.
 fn reply_to(refused: &Message, refusal: Refusal) -> Option<Message> {
     let exec = refused.content == Content::CcExecPossible;
     let result = matches!(refused.content, Content::RequestResult { .. });
@@ -216,21 +219,27 @@ impl Record {
         message(carrier, self.identifier, content)
     }
 
+    /// The choice whose carriers the record sends by; none before the
+    /// acknowledgment.
+    fn sends_by(&self) -> Option<Connection> {
+        self.connection.map(|choice| choice.for_sending(self.down))
+    }
+
     fn sends_cancel(&self) -> Message {
-        self.sends(Connection::cancel_carrier(self.connection), Content::CcCancel)
+        self.sends(Connection::cancel_carrier(self.sends_by()), Content::CcCancel)
     }
 
     /// ccExecPossible and ccResume, "RET Facility, RLS Setup". A record that
     /// sends them has been acknowledged, so the choice is never empty here.
     fn sends_resume(&self) -> Message {
-        let choice = self.connection.unwrap_or(Connection::Ret);
+        let choice = self.sends_by().unwrap_or(Connection::Ret);
         self.sends(choice.facility_or_setup(), Content::CcResume)
     }
 
     /// ccSuspend: "RET Facility; RLS Release Complete, or Connect if received",
     /// so RLS sends it in Release Complete.
     fn sends_suspend(&self) -> Message {
-        let carrier = match self.connection {
+        let carrier = match self.sends_by() {
             Some(Connection::Rls) => Carrier::ReleaseComplete,
             Some(Connection::Ret) | None => Carrier::Facility,
         };
@@ -441,6 +450,21 @@ impl ClerkDesk {
         self.cancel_record(place).telling(Notice::Cancelled).clearing(clear)
     }
 
+    /// Request 11: "An act at each desk, by identifier: refusals 6, then 7
+    /// (Wait-Ack, or a record that is RLS). Taken in every other state; the
+    /// state stays, no timer, no message, no notice; on a marked record taken,
+    /// and nothing changes."
+    pub fn connection_fell(&mut self, identifier: &Identifier) -> Outcome {
+        let Some(record) = self.records.iter_mut().find(|r| r.identifier == *identifier) else {
+            return Outcome::refused(Refusal::NoRecord);
+        };
+        if record.connection != Some(Connection::Ret) {
+            return Outcome::refused(Refusal::NoRow);
+        }
+        record.down = true;
+        Outcome::done()
+    }
+
     /// "T1, T2 or T3 running out: the same, "failed"." Timers: 6, 9. M1 leaves
     /// no timer that is taken in Ringout, so no clear-the-call word either.
     pub fn timer_runs_out(&mut self, identifier: &Identifier, timer: Timer) -> Outcome {
@@ -561,13 +585,66 @@ mod tests {
     }
 
     #[test]
-    fn m3_ccexecpossible_in_setup_refused_with_8_is_answered() {
+    fn m3_ccexecpossible_in_setup_is_answered_on_7_and_never_refused_with_8() {
+        // Request 11: "type 5 in Setup is never 8 any more, and mend M3 replies
+        // to it on 6 and 7; type 5 in Facility for RLS is 8 without a reply".
+        let exec = |carrier| message(carrier, ID, Content::CcExecPossible);
+        let recall = Outcome::done().starting(T3).telling(Notice::Recall);
+        for down in [false, true] {
+            for carrier in [Carrier::Setup, Carrier::Facility] {
+                let mut desk = invoked(Carrier::Connect, true, 1);
+                desk.records[0].down = down;
+                assert_eq!(desk.take(&exec(carrier), false), recall);
+            }
+        }
         let mut desk = invoked(Carrier::Connect, true, 1);
-        let outcome = desk.take(&message(Carrier::Setup, ID, Content::CcExecPossible), false);
+        assert_eq!(desk.take(&exec(Carrier::Connect), false), Outcome::refused(Refusal::BadCarrier));
+        desk.take(&exec(Carrier::Setup), false);
         let reply = message(Carrier::ReleaseComplete, ID, Content::CcCancel);
-        assert_eq!(outcome, Outcome::refused(Refusal::BadCarrier).sending(reply));
-        let outcome = desk.take(&message(Carrier::Connect, ID, Content::CcExecPossible), false);
-        assert_eq!(outcome, Outcome::refused(Refusal::BadCarrier));
+        assert_eq!(desk.take(&exec(Carrier::Setup), false), Outcome::refused(Refusal::NoRow).sending(reply));
+        assert_eq!(desk.take(&exec(Carrier::Facility), false), Outcome::refused(Refusal::NoRow));
+        let mut desk = invoked(Carrier::ReleaseComplete, true, 1);
+        assert_eq!(desk.take(&exec(Carrier::Facility), false), Outcome::refused(Refusal::BadCarrier));
+        assert_eq!(desk.take(&exec(Carrier::Setup), false), recall);
+    }
+
+    #[test]
+    fn request_11_refusals_of_the_report() {
+        let mut desk = ClerkDesk::default();
+        assert_eq!(desk.connection_fell(&ID), Outcome::refused(Refusal::NoRecord));
+        desk.ask(&an_ask(ID, true));
+        assert_eq!(desk.connection_fell(&ID), Outcome::refused(Refusal::NoRow));
+        let mut desk = invoked(Carrier::ReleaseComplete, true, 1);
+        assert_eq!(desk.connection_fell(&ID), Outcome::refused(Refusal::NoRow));
+        assert!(!desk.records[0].down);
+    }
+
+    #[test]
+    fn request_11_a_marked_record_sends_by_the_rls_carriers() {
+        let mut desk = invoked(Carrier::Connect, true, 1);
+        assert_eq!(desk.connection_fell(&ID), Outcome::done());
+        let marked = desk.clone();
+        assert_eq!(desk.connection_fell(&ID), Outcome::done());
+        assert_eq!(desk, marked);
+        assert_eq!(desk.records[0].connection, Some(Connection::Ret));
+        let outcome = desk.take(&message(Carrier::Setup, ID, Content::CcExecPossible), true);
+        let suspend = message(Carrier::ReleaseComplete, ID, Content::CcSuspend);
+        assert_eq!(outcome, Outcome::done().sending(suspend));
+        let resume = message(Carrier::Setup, ID, Content::CcResume);
+        assert_eq!(desk.user_a_free(&ID, FreeChoice::Resume), Outcome::done().sending(resume));
+        // "Nothing clears the mark; a resume and busy again do not."
+        assert!(desk.records[0].down);
+        desk.take(&message(Carrier::Facility, ID, Content::CcExecPossible), false);
+        desk.accept(&ID);
+        assert_eq!(desk.take(&busy_again(), false), Outcome::done().telling(Notice::BusyAgainKept));
+        assert!(desk.records[0].down);
+        let cancel = message(Carrier::Setup, ID, Content::CcCancel);
+        let failed = Outcome::done().sending(cancel).telling(Notice::Failed).stopping(T2);
+        assert_eq!(desk.clone().timer_runs_out(&ID, Timer::T2), failed);
+        // "also the ccCancel of mend M2".
+        let mut desk = ringing_out(true, 1);
+        desk.connection_fell(&ID);
+        assert_eq!(desk.take(&message(Carrier::ReleaseComplete, ID, Content::CallFailed), false), failed);
     }
 
     #[test]

@@ -16,6 +16,9 @@
 //!   connection choice is never asked for");
 //! - clear-the-call on a timer: M1 leaves no timer that is taken in Ringout;
 //! - a suspended mark outside Await (READINGS 18: "Suspended only in Await");
+//! - refusal 8, and M3's reply to it, on a ccExecPossible in Setup: since request
+//!   11 every acknowledged record takes it in that carrier, and 7 comes first;
+//! - a mark "connection down" in Wait-Ack or on an RLS record (refusal 7);
 //! - a record whose numberB is no line: it would have got the long error, and
 //!   a taken start makes a desk without records.
 //!

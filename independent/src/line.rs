@@ -87,6 +87,8 @@ pub struct Record {
     pub state: State,
     pub active: bool,
     pub suspended: bool,
+    /// Request 11: "A mark "connection down" goes into the record".
+    pub down: bool,
 }
 
 /// "Records keep the order of acceptance."
@@ -120,19 +122,22 @@ fn has_row(state: State, content: &Content) -> bool {
     }
 }
 
-/// Refusal 8; the message table's column "Carrier", READINGS 10 and M5.
+/// Refusal 8; the message table's column "Carrier", READINGS 10, M5 and
+/// request 11.
 fn carrier_allowed(record: &Record, message: &Message) -> bool {
     let carrier = message.carrier;
     match (&message.content, record.connection) {
         (Content::CcRingout, _) => carrier == Carrier::Setup,
-        // "RET Facility; RLS Release Complete, or Connect if received".
-        (Content::CcSuspend, Connection::Ret) => carrier == Carrier::Facility,
+        // Request 11, for RET: "8 in Facility, Release Complete or Connect".
+        (Content::CcSuspend, Connection::Ret) => {
+            matches!(carrier, Carrier::Facility | Carrier::ReleaseComplete | Carrier::Connect)
+        }
+        // "RLS Release Complete, or Connect if received".
         (Content::CcSuspend, Connection::Rls) => {
             matches!(carrier, Carrier::ReleaseComplete | Carrier::Connect)
         }
         // M5: "received for RET in Facility or Setup, for RLS in Setup".
-        (Content::CcResume, Connection::Ret) => matches!(carrier, Carrier::Facility | Carrier::Setup),
-        (Content::CcResume, Connection::Rls) => carrier == Carrier::Setup,
+        (Content::CcResume, choice) => choice.takes_exec_or_resume_in(carrier),
         (Content::CcCancel, _) => matches!(carrier, Carrier::ReleaseComplete | Carrier::Setup),
         _ => false,
     }
@@ -167,8 +172,13 @@ impl Record {
         message(carrier, self.identifier, content)
     }
 
+    /// Request 11: "A marked record sends by the RLS carriers".
+    fn sends_by(&self) -> Connection {
+        self.connection.for_sending(self.down)
+    }
+
     fn sends_cancel(&self) -> Message {
-        self.sends(Connection::cancel_carrier(Some(self.connection)), Content::CcCancel)
+        self.sends(Connection::cancel_carrier(Some(self.sends_by())), Content::CcCancel)
     }
 
     /// "A record fits if Invoked and CCBS, or Invoked, CCNR and marked active."
@@ -286,6 +296,7 @@ impl LineDesk {
             state: State::Invoked,
             active: self.line_busy(&fields.number_b),
             suspended: false,
+            down: false,
         });
         let carrier = match connection {
             Connection::Ret => Carrier::Connect,
@@ -434,7 +445,7 @@ impl LineDesk {
             return Outcome::refused(Refusal::NothingToOffer);
         };
         record.state = State::Await;
-        let carrier = record.connection.facility_or_setup();
+        let carrier = record.sends_by().facility_or_setup();
         Outcome::done().sending(record.sends(carrier, Content::CcExecPossible))
     }
 
@@ -452,6 +463,21 @@ impl LineDesk {
             Act::CallFailed => message(Carrier::ReleaseComplete, *identifier, Content::CallFailed),
         };
         self.delete(place).sending(sent)
+    }
+
+    /// Request 11: "An act at each desk, by identifier: refusals 6, then 7 (..
+    /// a record that is RLS). Taken in every other state; the state stays, no
+    /// timer, no message, no notice; on a marked record taken, and nothing
+    /// changes. There is no "up again"."
+    pub fn connection_fell(&mut self, identifier: &Identifier) -> Outcome {
+        let Some(record) = self.records.iter_mut().find(|r| r.identifier == *identifier) else {
+            return Outcome::refused(Refusal::NoRecord);
+        };
+        if record.connection != Connection::Ret {
+            return Outcome::refused(Refusal::NoRow);
+        }
+        record.down = true;
+        Outcome::done()
     }
 
     /// READINGS 13: "The guard always runs, so its report is only ever 6 or
@@ -645,6 +671,45 @@ mod tests {
         desk.look(&[1]);
         desk.take(&message(Carrier::Setup, [1; 16], Content::CcRingout));
         assert_eq!((desk.records[0].kind, desk.records[0].state), (Kind::Ccnr, State::Alert));
+    }
+
+    #[test]
+    fn request_11_the_report_and_what_a_marked_record_sends() {
+        let mut desk = desk(&[&[1]], true, true);
+        assert_eq!(desk.connection_fell(&[1; 16]), Outcome::refused(Refusal::NoRecord));
+        desk.take(&request(1, Kind::Ccbs, &[1], &[1], 5));
+        assert_eq!(desk.connection_fell(&[1; 16]), Outcome::refused(Refusal::NoRow));
+        desk.take(&request(2, Kind::Ccbs, &[2], &[1], 3));
+        desk.take(&message(Carrier::Setup, [1; 16], Content::CcCancel));
+        assert_eq!(desk.connection_fell(&[2; 16]), Outcome::done());
+        let marked = desk.clone();
+        assert_eq!(desk.connection_fell(&[2; 16]), Outcome::done());
+        assert_eq!(desk, marked);
+        let exec = message(Carrier::Setup, [2; 16], Content::CcExecPossible);
+        assert_eq!(desk.look(&[1]), Outcome::done().sending(exec));
+        let cancel = message(Carrier::Setup, [2; 16], Content::CcCancel);
+        assert_eq!(desk.guard_runs_out(&[2; 16]), Outcome::done().sending(cancel).stopping(GUARD));
+    }
+
+    #[test]
+    fn request_11_a_ret_record_takes_either_carrier() {
+        let offered = |down: bool| {
+            let mut desk = desk(&[&[1]], true, true);
+            desk.take(&request(1, Kind::Ccbs, &[1], &[1], 3));
+            desk.records[0].down = down;
+            desk.look(&[1]);
+            desk
+        };
+        for down in [false, true] {
+            for carrier in Carrier::ALL {
+                let taken = |content: Content| offered(down).take(&message(carrier, [1; 16], content)).refusal;
+                let setup_or_facility = matches!(carrier, Carrier::Setup | Carrier::Facility);
+                let resume = if setup_or_facility { None } else { Some(Refusal::BadCarrier) };
+                assert_eq!(taken(Content::CcResume), resume);
+                let bad = matches!(carrier, Carrier::Setup | Carrier::Alerting);
+                assert_eq!(taken(Content::CcSuspend), bad.then_some(Refusal::BadCarrier));
+            }
+        }
     }
 
     #[test]

@@ -1,7 +1,7 @@
-//! An independent reference program for the desks of document 01 and requests 2
-//! and 5 of document 02, written from the papers alone: 01-scope.md, READINGS.md,
-//! REPLAY.md, STORY.md, 02-change-requests.md, READINGS-02.md, REPLAY-02.md and
-//! H.450.9.
+//! An independent reference program for the desks of document 01 and requests
+//! 2, 5 and 11 of document 02, written from the papers alone: 01-scope.md,
+//! READINGS.md, REPLAY.md, STORY.md, 02-change-requests.md, READINGS-02.md,
+//! REPLAY-02.md and H.450.9.
 
 mod clerk;
 mod codec;
@@ -24,7 +24,7 @@ independent make stop DIR
 independent make random SEED ENTRIES DIR
 independent make stored FILE
 independent coverage [--require-all] SCRIPT..
-independent story                         the four scenes of STORY.md on standard output";
+independent story                         the five scenes of STORY.md on standard output";
 
 /// Writes to standard output; a closed one is an error and no panic.
 fn print(text: &str) -> io::Result<()> {

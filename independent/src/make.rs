@@ -10,7 +10,7 @@ pub mod stored;
 
 use crate::codec::{message_bytes, Carrier, Content, Identifier, Message, RequestFields};
 use crate::outcome::Kind;
-use crate::script::take_entry;
+use crate::script::{take_entry, Answer, Session};
 use std::fs;
 use std::io;
 use std::ops::Range;
@@ -152,10 +152,12 @@ pub fn to_line(bytes: &[u8]) -> Vec<u8> {
     entry
 }
 
-/// Codes 18, 20 and 36: an identifier alone.
+/// Codes 18, 20, 22, 36 and 37: an identifier alone.
 pub const ACCEPT: u8 = 18;
 pub const USER_CANCELS: u8 = 20;
+pub const FELL_AT_CLERK: u8 = 22;
 pub const GUARD_RUNS_OUT: u8 = 36;
+pub const FELL_AT_LINE: u8 = 37;
 
 pub fn with_identifier(code: u8, identifier: Identifier) -> Vec<u8> {
     let mut entry = vec![code];
@@ -261,6 +263,33 @@ impl Case {
         self.bytes.extend_from_slice(entry);
         self.bytes.push(self.print);
     }
+
+    /// Of these inputs all that are refused where the case stands: they change
+    /// nothing, so one follows the other.
+    pub fn step_refused(&mut self, inputs: &[Vec<u8>]) {
+        let session = played(&self.bytes);
+        for input in inputs {
+            if is_refused(&session, input) {
+                self.step(input);
+            }
+        }
+    }
+}
+
+/// The desks behind a run of entries.
+fn played(entries: &[u8]) -> Session {
+    let mut session = Session::default();
+    let mut rest = entries;
+    while let Some((entry, behind)) = take_entry(rest) {
+        session.play(&entry);
+        rest = behind;
+    }
+    session
+}
+
+fn is_refused(session: &Session, input: &[u8]) -> bool {
+    let answer = take_entry(input).map(|(entry, _)| session.clone().play(&entry));
+    matches!(answer, Some(Answer::Step { outcome, .. }) if outcome.refusal.is_some())
 }
 
 /// The values that are tried in an identifier's bytes, where all are alike.

@@ -47,6 +47,26 @@ impl Connection {
         }
     }
 
+    /// The choice whose carriers a record sends by. Request 11: "A marked record
+    /// sends by the RLS carriers .. The connection choice stays RET."
+    pub fn for_sending(self, down: bool) -> Connection {
+        if down {
+            Connection::Rls
+        } else {
+            self
+        }
+    }
+
+    /// Request 11: "For a RET record, marked or not, the receiver takes either
+    /// carrier: 5 in Facility or Setup, .. 9 in Facility or Setup. RLS stays as
+    /// it was."
+    pub fn takes_exec_or_resume_in(self, carrier: Carrier) -> bool {
+        match self {
+            Connection::Ret => matches!(carrier, Carrier::Facility | Carrier::Setup),
+            Connection::Rls => carrier == Carrier::Setup,
+        }
+    }
+
     /// ccExecPossible and ccResume are sent "RET Facility, RLS Setup".
     pub fn facility_or_setup(self) -> Carrier {
         match self {

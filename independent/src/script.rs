@@ -1,5 +1,5 @@
 //! Plays a script: entries in, lines out, as REPLAY.md has them, and REPLAY-02.md
-//! in its sections on requests 2 and 5.
+//! in its sections on requests 2, 5 and 11.
 
 use crate::clerk::{Ask, ClerkDesk, FreeChoice, Timer};
 use crate::codec::{message_bytes, read_message, write_message, Fault, Identifier};
@@ -17,11 +17,13 @@ pub enum Entry {
     UserAFree(Identifier, FreeChoice),
     UserCancels(Identifier),
     TimerRunsOut(Identifier, Timer),
+    FellAtClerk(Identifier),
     ToLine { bytes: Vec<u8> },
     Report { digits: Vec<u8>, busy: bool },
     Look { digits: Vec<u8> },
     Act(Identifier, Act),
     GuardRunsOut(Identifier),
+    FellAtLine(Identifier),
     Write { bytes: Vec<u8>, place: usize, size: usize },
     PrintClerk,
     PrintLine,
@@ -164,11 +166,13 @@ impl Unread<'_> {
             19 => self.user_a_free(),
             20 => Some(Entry::UserCancels(self.identifier()?)),
             21 => self.timer(),
+            22 => Some(Entry::FellAtClerk(self.identifier()?)),
             32 => Some(Entry::ToLine { bytes: self.counted()? }),
             33 => Some(Entry::Report { digits: self.counted()?, busy: self.yes_or_no()? }),
             34 => Some(Entry::Look { digits: self.counted()? }),
             35 => self.act(),
             36 => Some(Entry::GuardRunsOut(self.identifier()?)),
+            37 => Some(Entry::FellAtLine(self.identifier()?)),
             48 => self.write(),
             64 => Some(Entry::PrintClerk),
             65 => Some(Entry::PrintLine),
@@ -232,11 +236,13 @@ impl Session {
             Entry::UserAFree(identifier, choice) => step(self.clerk.user_a_free(identifier, *choice)),
             Entry::UserCancels(identifier) => step(self.clerk.user_cancels(identifier)),
             Entry::TimerRunsOut(identifier, timer) => step(self.clerk.timer_runs_out(identifier, *timer)),
+            Entry::FellAtClerk(identifier) => step(self.clerk.connection_fell(identifier)),
             Entry::ToLine { bytes } => self.line_gets(bytes),
             Entry::Report { digits, busy } => step(self.line.report(digits, *busy)),
             Entry::Look { digits } => step(self.line.look(digits)),
             Entry::Act(identifier, act) => step(self.line.act(identifier, *act)),
             Entry::GuardRunsOut(identifier) => step(self.line.guard_runs_out(identifier)),
+            Entry::FellAtLine(identifier) => step(self.line.connection_fell(identifier)),
             Entry::Write { bytes, place, size } => write(bytes, *place, *size),
             Entry::PrintClerk => Answer::Printed { lines: clerk_lines(&self.clerk) },
             Entry::PrintLine => Answer::Printed { lines: line_lines(&self.line) },
@@ -307,13 +313,13 @@ fn bit(choice: bool) -> u32 {
     u32::from(choice)
 }
 
-/// "`c id kind A B service can-keep keep connection state`. .. keep 0, 1 or
-/// `-`; connection `-`, 1 RET, 2 RLS".
+/// "`c id kind A B service can-keep keep connection state down`. .. keep 0, 1
+/// or `-`; connection `-`, 1 RET, 2 RLS", "(1 for a record that is down)".
 fn clerk_record_line(record: &crate::clerk::Record) -> String {
     let keep = record.keep.map_or("-".to_string(), |k| bit(k).to_string());
     let connection = record.connection.map_or("-".to_string(), |c| c.number().to_string());
     format!(
-        "c {} {} {} {} {} {} {} {} {}",
+        "c {} {} {} {} {} {} {} {} {} {}",
         hex(&record.identifier),
         record.kind.number(),
         digits_text(&record.number_a),
@@ -322,7 +328,8 @@ fn clerk_record_line(record: &crate::clerk::Record) -> String {
         bit(record.can_keep),
         keep,
         connection,
-        record.state.number()
+        record.state.number(),
+        bit(record.down)
     )
 }
 
@@ -334,10 +341,10 @@ fn clerk_lines(desk: &ClerkDesk) -> Vec<String> {
     lines
 }
 
-/// "`r id kind A B service keep connection state active suspended`".
+/// "`r id kind A B service keep connection state active suspended down`".
 fn line_record_line(record: &crate::line::Record) -> String {
     format!(
-        "r {} {} {} {} {} {} {} {} {} {}",
+        "r {} {} {} {} {} {} {} {} {} {} {}",
         hex(&record.identifier),
         record.kind.number(),
         digits_text(&record.number_a),
@@ -347,7 +354,8 @@ fn line_record_line(record: &crate::line::Record) -> String {
         record.connection.number(),
         record.state.number(),
         bit(record.active),
-        bit(record.suspended)
+        bit(record.suspended),
+        bit(record.down)
     )
 }
 
@@ -542,24 +550,53 @@ mod tests {
         let lines = lines_behind(&format!("{start} 40 {again} 40 {again} 40"), 2);
         let expected = [
             "2 c 1",
-            "c ID 2 - 5 0 1 1 1 2",
+            "c ID 2 - 5 0 1 1 1 2 0",
             "3 0 - 4 0 4 0 0 -",
             "4 0 0601ID 0 4 0 0 0 -",
             "5 0 - 0 0 10 0 0 -",
             "6 c 1",
-            "c ID 1 - 5 0 1 1 1 2",
+            "c ID 1 - 5 0 1 1 1 2 0",
             "7 0 - 4 0 4 0 0 -",
             "8 0 0601ID 0 4 0 0 0 -",
             "9 0 - 0 0 7 0 0 -",
             "10 c 1",
-            "c ID 1 - 5 0 1 1 1 2",
+            "c ID 1 - 5 0 1 1 1 2 0",
         ];
         assert_eq!(lines, expected);
         // The line's end: a line that allows CCNR alone, busy at the request.
         let start = "01 01 01 05 02 03 21 01 05 01 20 17 02 01 a0..af 00 01 05 00 01 21 01 05 00 22 01 05";
         let lines = lines_behind(&format!("{start} 21 01 05 01 20 12 06 01 a0..af 41"), 5);
         let expected =
-            ["5 0 - 0 0 0 0 0 -", "6 0 0704ID01 0 0 0 0 0 -", "7 l 1 1", "l 5 2 1", "r ID 1 - 5 0 1 1 1 1 0"];
+            ["5 0 - 0 0 0 0 0 -", "6 0 0704ID01 0 0 0 0 0 -", "7 l 1 1", "l 5 2 1", "r ID 1 - 5 0 1 1 1 1 0 0"];
+        assert_eq!(lines, expected);
+    }
+
+    #[test]
+    fn request_11_the_connection_fell_at_both_ends() {
+        // 22 and 37 print a step line: refusal 0, 6 or 7 and nothing else.
+        let nothing = "0 - 0 0 0 0 0 -";
+        assert_eq!(played(&from_hex("16 a0..af 25 a0..af")), "0 6 - 0 0 0 0 0 -\n1 6 - 0 0 0 0 0 -\n");
+        let ask = "10 a0..af 01 00 01 05 00 00 01 00";
+        let lines = lines_behind(&format!("{ask} 16 a0..af 11 00 13 03 02 a0..af 01 16 a0..af 16 a0..af 40"), 1);
+        let expected = [
+            "1 7 - 0 0 0 0 0 -".to_string(),
+            "2 0 - 2 1 1 0 0 -".to_string(),
+            format!("3 {nothing}"),
+            format!("4 {nothing}"),
+            "5 c 1".to_string(),
+            "c ID 1 - 5 0 1 1 1 2 1".to_string(),
+        ];
+        assert_eq!(lines, expected);
+        // A desk that keeps and retains; the offer then goes in Setup.
+        let start = "01 01 01 05 03 03 20 17 01 01 a0..af 00 01 05 00 01";
+        let lines = lines_behind(&format!("{start} 25 a0..af 22 01 05 41"), 2);
+        let expected = [
+            format!("2 {nothing}"),
+            "3 0 0501ID 0 0 0 0 0 -".to_string(),
+            "4 l 1 1".to_string(),
+            "l 5 3 0".to_string(),
+            "r ID 1 - 5 0 1 1 2 0 0 1".to_string(),
+        ];
         assert_eq!(lines, expected);
     }
 
@@ -569,7 +606,7 @@ mod tests {
         script.extend_from_slice(&[0x0F; 16]);
         script.extend_from_slice(&[1, 2, 4, 2, 1, 9, 0x2C, 0x01, 1, 2, 64]);
         let id = "0f".repeat(16);
-        let expected = format!("0 0 0101{id}0204020109ac0205 1 0 0 0 0 -\n1 c 1\nc {id} 1 42 9 300 1 - - 1\n");
+        let expected = format!("0 0 0101{id}0204020109ac0205 1 0 0 0 0 -\n1 c 1\nc {id} 1 42 9 300 1 - - 1 0\n");
         assert_eq!(played(&script), expected);
     }
 }

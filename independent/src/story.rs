@@ -1,4 +1,4 @@
-//! The story of STORY.md: four scenes, each on two desks of its own with two
+//! The story of STORY.md: five scenes, each on two desks of its own with two
 //! wires between them, printed as ladders.
 
 mod ladder;
@@ -141,11 +141,13 @@ impl Stage {
             Event::Accept(tag) => clerk.accept(&identifier(tag)),
             Event::Cancel(tag) => clerk.user_cancels(&identifier(tag)),
             Event::T2(tag) => clerk.timer_runs_out(&identifier(tag), Timer::T2),
+            Event::ClerkFell(tag) => clerk.connection_fell(&identifier(tag)),
             Event::Busy(number) => line.report(&digits(number), true),
             Event::Free(number) => line.report(&digits(number), false),
             Event::Look(number) => line.look(&digits(number)),
             Event::Alerted(tag) => line.act(&identifier(tag), Act::Alerted),
             Event::Withdraw(tag) => line.act(&identifier(tag), Act::Cancel),
+            Event::LineFell(tag) => line.connection_fell(&identifier(tag)),
             Event::ClerkHears | Event::LineHears => return None,
             Event::Stray(_) | Event::Records | Event::Say(_) => return None,
         })
@@ -237,7 +239,8 @@ mod tests {
         }
     }
 
-    /// "No text of a cell is longer than 29 characters, so nothing is ever cut."
+    /// "no text of a left or right cell is longer than 29 characters and none of
+    /// the middle longer than 38, so nothing is ever cut".
     #[test]
     fn every_row_has_its_bars_in_their_places() {
         for scene in &scenes::SCENES {
@@ -246,7 +249,12 @@ mod tests {
                 let rows = stage.play(event);
                 assert!(!rows.is_empty(), "{event:?}");
                 let is_row = |row: &String| row.get(30..31) == Some("|") && row.get(69..70) == Some("|");
-                assert_eq!(rows.iter().all(is_row), !matches!(event, Event::Say(_)), "{event:?}");
+                let is_say = matches!(event, Event::Say(_));
+                assert_eq!(rows.iter().all(is_row), !is_say, "{event:?}");
+                for row in rows.iter().filter(|_| !is_say) {
+                    assert!(row[..30].ends_with(' ') && row.len() <= 71 + 29, "{row}");
+                    assert!(row.len() == 70 || row[70..].starts_with(' '), "{row}");
+                }
             }
         }
     }
@@ -283,6 +291,54 @@ mod tests {
         assert_eq!(first_records(&wrong), Some(expected));
         let expected = ladder::row("#34 Invoked, keep 1", middle, "#34 Invoked, keep 1");
         assert_eq!(first_records(&right), Some(expected));
+    }
+
+    #[test]
+    fn five_scenes_each_with_its_title() {
+        let text = text();
+        let titles: Vec<&str> = text.lines().filter(|line| line.starts_with("Scene ")).collect();
+        let expected = [
+            "Scene 1. The evening as it went wrong",
+            "Scene 2. The evening as it goes now",
+            "Scene 3. A cancel meets a ring-back",
+            "Scene 4. A stray reply",
+            "Scene 5. The connection falls",
+        ];
+        assert_eq!(titles, expected);
+        assert!(text.starts_with("TOLLHERRING: THREE LESSONS IN FIVE SCENES\n"));
+    }
+
+    /// Each line of the narration is told, and none that there is not.
+    #[test]
+    fn every_line_of_the_narration_is_told() {
+        let mut told: Vec<usize> = Vec::new();
+        for event in scenes::SCENES.iter().flat_map(|scene| scene.events()) {
+            if let Event::Say(number) = event {
+                assert!(scenes::narration(number).is_some(), "{number}");
+                told.push(number);
+            }
+        }
+        told.sort();
+        told.dedup();
+        assert_eq!(told, (1..=16).collect::<Vec<_>>());
+        assert_eq!(scenes::narration(17), None);
+    }
+
+    /// Scene 5: the mark goes up at the house's end, then at the clerk's, and
+    /// goes with the record.
+    #[test]
+    fn the_marks_of_scene_5() {
+        let [.., falls] = scenes::SCENES;
+        let lines = scene_lines(5, &falls);
+        let records: Vec<&String> = lines.iter().filter(|line| line.contains("(records)")).collect();
+        let row = |left, right| ladder::row(left, "              (records)", right);
+        let expected = [
+            row("#34 Invoked, keep 1", "#34 Invoked, keep 1"),
+            row("#34 Invoked, keep 1", "#34 Invoked, keep 1, down"),
+            row("#34 Ringout, keep 1, down", "#34 Alert, keep 1, down"),
+            row("no record", "no record"),
+        ];
+        assert_eq!(records, expected.iter().collect::<Vec<_>>());
     }
 
     #[test]

@@ -1,4 +1,4 @@
-//! What a script's lines cannot show of the Rust module: each step of an evening at both desks in every room, refusals that have a reply, full desks, the
+//! What a script's lines cannot show of the Rust module: each step of an evening at both desks in every room, a connection that falls, refusals that have a reply, full desks, the
 //! numbers that are lists, messages at every place, and bytes that are spoilt in known places. What Rust's types exclude (a busy of 2, an act that is not listed) cannot be written here.
 
 #[path = "../../rust/tollherring.rs"]
@@ -144,6 +144,35 @@ fn ring(clerk: &mut ClerkDesk, line: &mut LineDesk, id: &Identifier, b: &Number,
     assert!(end.notice == Some(if busy { Notice::BusyAgainKept } else { Notice::Completed }) && !end.clear);
 }
 
+/// The retained connection falls: the line's end sees it first, and the clerk's takes its Setup all the same. Each end has its own mark, and the choice stays.
+fn fall() {
+    let (mut clerk, mut line) = (ClerkDesk::start(), desk_of(&["80"]).expect("one line"));
+    let (id, b) = (identifier(1), number("80"));
+    let asked = step(&mut clerk, |desk, out| desk.ask(&id, &number("1"), &b, &KEPT, out));
+    assert!(step(&mut clerk, |desk, out| desk.act(&id, Act::Fell, out)).refuses(Refusal::NoRow));
+    assert!(step(&mut line, |desk, out| desk.act(&id, LineAct::Fell, out)).refuses(Refusal::NoRecord));
+    let accepted = step(&mut line, |desk, out| desk.receive(&asked.message, out));
+    assert!(step(&mut clerk, |desk, out| desk.receive(&accepted.message, false, out)).refusal.is_none());
+    assert_eq!(step(&mut line, |desk, out| desk.act(&id, LineAct::Fell, out)), Told::default());
+    let marks = |clerk: &ClerkDesk, line: &LineDesk| {
+        let (c, l) = (clerk.record(0).expect("a record"), line.record(0).expect("a record"));
+        assert!(c.connection == Some(Connection::Retained) && l.connection == Connection::Retained);
+        (c.down, l.down)
+    };
+    assert_eq!(marks(&clerk, &line), (false, true));
+    let offered = step(&mut line, |desk, out| desk.look(&b, out));
+    assert!(offered.sends(MessageType::CcExecPossible, Carrier::Setup));
+    assert_eq!(step(&mut clerk, |desk, out| desk.act(&id, Act::Fell, out)), Told::default());
+    let suspended = step(&mut clerk, |desk, out| desk.receive(&offered.message, true, out));
+    assert!(suspended.sends(MessageType::CcSuspend, Carrier::ReleaseComplete));
+    assert!(step(&mut line, |desk, out| desk.receive(&suspended.message, out)).refusal.is_none());
+    let resumed = step(&mut clerk, |desk, out| desk.act(&id, Act::Resume, out));
+    assert!(resumed.sends(MessageType::CcResume, Carrier::Setup));
+    assert!(step(&mut line, |desk, out| desk.receive(&resumed.message, out)).refusal.is_none());
+    assert_eq!(marks(&clerk, &line), (true, true));
+    assert!(step(&mut clerk, |desk, out| desk.act(&id, Act::Cancel, out)).sends(MessageType::CcCancel, Carrier::Setup));
+}
+
 /// A refusal that has a reply: it stands in the outcome beside the refusal, and needs its room too.
 fn replies() {
     let (mut clerk, mut line) = (ClerkDesk::start(), desk_of(&[]).expect("no lines"));
@@ -269,9 +298,9 @@ fn lists() {
     list(Notice::from_number, Notice::number, 1, 10);
     list(Kind::from_number, Kind::number, 1, 2);
     list(Preference::from_number, Preference::number, 0, 2);
-    list(Act::from_number, Act::number, 1, 4);
+    list(Act::from_number, Act::number, 1, 5);
     list(Timer::from_number, Timer::number, 1, 3);
-    list(LineAct::from_number, LineAct::number, 1, 3);
+    list(LineAct::from_number, LineAct::number, 1, 4);
     list(MessageType::from_number, MessageType::number, 1, 12);
     list(Carrier::from_number, Carrier::number, 1, 5);
     list(RequestError::from_number, RequestError::number, 1, 2);
@@ -365,11 +394,12 @@ fn places() {
 
 fn main() {
     evening();
+    fall();
     replies();
     full_desks();
     numbers_out_of_range();
     lists();
     messages();
     places();
-    println!("an evening in every room, replies, full desks, numbers, messages, places");
+    println!("an evening in every room, a fall, replies, full desks, numbers, messages, places");
 }

@@ -95,7 +95,9 @@ static void fields_of(struct unread *u, struct entry *e)
     case ACCEPT: e->choice = TOLLHERRING_CLERK_ACT_ACCEPT; break;
     case USER_A_FREE: e->choice = listed(u, 0, 1) ? TOLLHERRING_CLERK_ACT_GO_ON : TOLLHERRING_CLERK_ACT_RESUME; break;
     case USER_CANCELS: e->choice = TOLLHERRING_CLERK_ACT_CANCEL; break;
+    case CLERK_FELL: e->choice = TOLLHERRING_CLERK_ACT_FELL; break;
     case TIMER: case LINE_ACT: e->choice = listed(u, 1, 3); break;
+    case LINE_FELL: e->choice = TOLLHERRING_LINE_ACT_FELL; break;
     case TO_LINE: message_of(u, e); break;
     case LINE_REPORT: number_of(u, e->number_b); e->choice = listed(u, 0, 1); break;
     case LOOK: number_of(u, e->number_b); break;
@@ -107,7 +109,7 @@ static void fields_of(struct unread *u, struct entry *e)
 
 static int has_identifier(unsigned code)
 {
-    return code == ASK || (code >= ACCEPT && code <= TIMER) || code == LINE_ACT || code == GUARD;
+    return code == ASK || (code >= ACCEPT && code <= CLERK_FELL) || (code >= LINE_ACT && code <= LINE_FELL);
 }
 
 const uint8_t *read_entry(struct entry *entry, const uint8_t *at, const uint8_t *end)
@@ -138,13 +140,13 @@ uint64_t call(const struct entry *e, const struct lent *l)
         return tollherring_clerk_ask(l->clerk, l->identifier, e->kind, l->number_a, l->number_b, e->service, e->can_keep, e->preference,
                                      l->out, l->room, l->outcome);
     case TO_CLERK: return tollherring_clerk_receive(l->clerk, l->bytes, e->length, e->choice, l->out, l->room, l->outcome);
-    case ACCEPT: case USER_A_FREE: case USER_CANCELS:
+    case ACCEPT: case USER_A_FREE: case USER_CANCELS: case CLERK_FELL:
         return tollherring_clerk_act(l->clerk, l->identifier, e->choice, l->out, l->room, l->outcome);
     case TIMER: return tollherring_clerk_report(l->clerk, l->identifier, e->choice, l->out, l->room, l->outcome);
     case TO_LINE: return tollherring_line_receive(l->line, l->bytes, e->length, l->out, l->room, l->outcome);
     case LINE_REPORT: return tollherring_line_report(l->line, l->number_b, e->choice, l->out, l->room, l->outcome);
     case LOOK: return tollherring_line_look(l->line, l->number_b, l->out, l->room, l->outcome);
-    case LINE_ACT: return tollherring_line_act(l->line, l->identifier, e->choice, l->out, l->room, l->outcome);
+    case LINE_ACT: case LINE_FELL: return tollherring_line_act(l->line, l->identifier, e->choice, l->out, l->room, l->outcome);
     case GUARD: return tollherring_line_guard(l->line, l->identifier, l->out, l->room, l->outcome);
     default: return start(e, l);
     }

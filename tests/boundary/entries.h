@@ -4,8 +4,8 @@
 
 #include "tollherring.h"
 
-enum { START_LINE = 1, START_CLERK = 2, ASK = 16, TO_CLERK = 17, ACCEPT = 18, USER_A_FREE = 19, USER_CANCELS = 20, TIMER = 21,
-       TO_LINE = 32, LINE_REPORT = 33, LOOK = 34, LINE_ACT = 35, GUARD = 36, WRITE = 48, PRINT_CLERK = 64, PRINT_LINE = 65 };
+enum { START_LINE = 1, START_CLERK = 2, ASK = 16, TO_CLERK = 17, ACCEPT = 18, USER_A_FREE = 19, USER_CANCELS = 20, TIMER = 21, CLERK_FELL = 22,
+       TO_LINE = 32, LINE_REPORT = 33, LOOK = 34, LINE_ACT = 35, GUARD = 36, LINE_FELL = 37, WRITE = 48, PRINT_CLERK = 64, PRINT_LINE = 65 };
 
 /* the numbers of an entry, as they are handed to the library, and its bytes */
 struct entry {
@@ -35,7 +35,7 @@ struct lent {
 /* Where the next entry begins; NULL where the script ends inside this one, or a code or a choice is not listed. */
 const uint8_t *read_entry(struct entry *entry, const uint8_t *at, const uint8_t *end);
 
-/* The call of an entry with a code of 1 to 36: what it answers. A start has no outcome of its own: its answer is put into one. */
+/* The call of an entry with a code of 1 to 37: what it answers. A start has no outcome of its own: its answer is put into one. */
 uint64_t call(const struct entry *entry, const struct lent *lent);
 
 #endif

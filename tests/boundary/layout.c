@@ -5,10 +5,10 @@
 #define HOLDS(name, condition) typedef char holds_##name[(condition) ? 1 : -1]
 #define WORD(type, field, k) HOLDS(type##_##field, offsetof(tollherring_##type, field) == 8 * (k) && sizeof ((tollherring_##type *)0)->field == 8)
 
-HOLDS(clerk_size, sizeof(tollherring_clerk) == 1536 && offsetof(tollherring_clerk, words) == 0);
-HOLDS(line_size, sizeof(tollherring_line) == 3984 && offsetof(tollherring_line, words) == 0);
+HOLDS(clerk_size, sizeof(tollherring_clerk) == 1664 && offsetof(tollherring_clerk, words) == 0);
+HOLDS(line_size, sizeof(tollherring_line) == 4240 && offsetof(tollherring_line, words) == 0);
 HOLDS(outcome_size, sizeof(tollherring_outcome) == 72);
-HOLDS(record_size, sizeof(tollherring_record) == 64);
+HOLDS(record_size, sizeof(tollherring_record) == 72);
 HOLDS(status_size, sizeof(tollherring_line_status) == 16);
 HOLDS(message_size, sizeof(tollherring_message) == 32);
 HOLDS(given_size, sizeof(tollherring_line_given) == 17);
@@ -34,6 +34,7 @@ WORD(record, connection, 4);
 WORD(record, state, 5);
 WORD(record, active, 6);
 WORD(record, suspended, 7);
+WORD(record, down, 8);
 
 WORD(line_status, kinds, 0);
 WORD(line_status, busy, 1);

@@ -21,12 +21,12 @@ static uint64_t line_at(const void *place, void *const at[])
 }
 
 /* whatever the desk holds, a record that is shown has numbers of its lists */
-static int record_in_range(const uint64_t words[8], uint64_t states)
+static int record_in_range(const uint64_t words[9], uint64_t states)
 {
     tollherring_record r;
     memcpy(&r, words, sizeof r);
     return r.kind >= 1 && r.kind <= 2 && r.can_keep <= 1 && r.keep <= 2 && r.connection <= 2 && r.state >= 1 && r.state <= states &&
-           r.active <= 1 && r.suspended <= 1;
+           r.active <= 1 && r.suspended <= 1 && r.down <= 1;
 }
 
 /* how each looks: the desk's size, the number for a place that has nothing, the most places, and the sizes of what is written */
@@ -46,7 +46,7 @@ static const struct look looks[] = {
 /* whether there is something at the place */
 static int try_place(const struct look *look, void *desk, uint64_t place)
 {
-    uint64_t fresh[8], made[4][8], answer;
+    uint64_t fresh[9], made[4][9], answer;
     void *plain[5];
     struct thing things[5];
     size_t k;

@@ -163,6 +163,7 @@ static void print_clerk(unsigned long number, const tollherring_clerk *desk)
         print_choice(r.keep, 1);
         print_choice(r.connection, 0);
         print_field(r.state);
+        print_field(r.down);
         putchar('\n');
     }
 }
@@ -198,6 +199,7 @@ static uint64_t print_requests(const tollherring_line *desk, int silent)
         print_field(r.state);
         print_field(r.active);
         print_field(r.suspended);
+        print_field(r.down);
         putchar('\n');
     }
     return count;

@@ -146,6 +146,7 @@ impl Session {
                 self.clerk.act(&identifier, act, &mut self.out)
             }
             20 => self.clerk.act(&identifier, Act::Cancel, &mut self.out),
+            22 => self.clerk.act(&identifier, Act::Fell, &mut self.out),
             _ => self.clerk.report(&identifier, Timer::from_number(u64::from(unread.byte()?))?, &mut self.out),
         };
         Some(outcome_text(number, &outcome, 0))
@@ -165,8 +166,9 @@ impl Session {
             34 => self.line.look(&unread.number()?, &mut self.out),
             35 => {
                 let identifier = unread.identifier()?;
-                self.line.act(&identifier, LineAct::from_number(u64::from(unread.byte()?))?, &mut self.out)
+                self.line.act(&identifier, LineAct::from_number(u64::from(unread.listed(1, 3)?))?, &mut self.out)
             }
+            37 => self.line.act(&unread.identifier()?, LineAct::Fell, &mut self.out),
             _ => self.line.guard(&unread.identifier()?, &mut self.out),
         };
         Some(outcome_text(number, &outcome, 0))
@@ -177,12 +179,12 @@ impl Session {
         for r in self.clerk.records() {
             let keep = r.keep.map_or("-".to_string(), |keep| u8::from(keep).to_string());
             let connection = r.connection.map_or("-".to_string(), |connection| connection.number().to_string());
-            let (id, kind, can_keep, state) =
-                (hex(&r.identifier), r.kind.number(), u8::from(r.can_keep), r.state.number());
+            let (id, kind, can_keep) = (hex(&r.identifier), r.kind.number(), u8::from(r.can_keep));
+            let (state, down) = (r.state.number(), u8::from(r.down));
             let _ = writeln!(
                 text,
-                "c {} {} {} {} {} {} {} {} {}",
-                id, kind, r.number_a, r.number_b, r.service, can_keep, keep, connection, state
+                "c {} {} {} {} {} {} {} {} {} {}",
+                id, kind, r.number_a, r.number_b, r.service, can_keep, keep, connection, state, down
             );
         }
         text
@@ -196,9 +198,10 @@ impl Session {
         for r in self.line.records() {
             let (id, kind, keep, connection) =
                 (hex(&r.identifier), r.kind.number(), u8::from(r.keep), r.connection.number());
-            let (state, active, suspended) = (r.state.number(), u8::from(r.active), u8::from(r.suspended));
+            let (state, active, suspended, down) =
+                (r.state.number(), u8::from(r.active), u8::from(r.suspended), u8::from(r.down));
             let _ = write!(text, "r {} {} {} {} {}", id, kind, r.number_a, r.number_b, r.service);
-            let _ = writeln!(text, " {} {} {} {} {}", keep, connection, state, active, suspended);
+            let _ = writeln!(text, " {} {} {} {} {} {}", keep, connection, state, active, suspended, down);
         }
         text
     }
@@ -212,8 +215,8 @@ impl Session {
                 Some(start_text(number, None))
             }
             16 => self.ask(number, unread),
-            code @ 17..=21 => self.clerk_entry(code, number, unread),
-            code @ 32..=36 => self.line_entry(code, number, unread),
+            code @ 17..=22 => self.clerk_entry(code, number, unread),
+            code @ 32..=37 => self.line_entry(code, number, unread),
             48 => written_text(number, unread),
             64 => Some(self.clerk_text(number)),
             65 => Some(self.line_text(number)),

@@ -1,6 +1,6 @@
 -- What the clerk's desk decides about each input, by the list of records: the refusals in document 01's order, then the row of the table. And what it plans: the change and the outcome that a decision means.
 use Prim.Native.Nat.{ℕ}
-use mathlib.Core.Bool.{Bool}
+use mathlib.Core.Bool.{Bool, false}
 use mathlib.Core.List.{List}
 use lib.ListN.{getD}
 use Rattle.lists.specs.Choice.{pick}
@@ -40,7 +40,7 @@ use Rattle.clerk_table.specs.declared.inputs.Meant.the-variants as Meant
 use Rattle.clerk_records.specs.Records.{blank, meant, place}
 
 abbrev pub holdsFor : Row → Record → Bool
-holdsFor row r = holdsIn (homeOf row) (r .state)
+holdsFor row r = holdsIn (homeOf row) (r .state) (r .terms .connection)
 
 -- ---- ask: 4, 5, then stored at the first place that is not used
 abbrev pub askPlace : Request → Found → Decision
@@ -99,7 +99,7 @@ decided rs (Input.Timer identifier timer) = timerDecision rs identifier timer
 -- ---- what a decision means
 -- a new record is in Wait-Ack, its choices empty, with the can-keep that is sent
 abbrev pub newRecord : Names → Request → Record
-newRecord names q = record { terms = requestTerms names q Keep.Empty Connection.Empty; state = WaitAck; canKeep = canKeepSent (q .flags) }
+newRecord names q = record { terms = requestTerms names q Keep.Empty Connection.Empty; state = WaitAck; canKeep = canKeepSent (q .flags); down = false }
 
 -- the request is sent, T1 starts (8.1.1.1 to 8.1.1.3, 11.4.1)
 abbrev pub storedPlan : ℕ → Names → Request → Plan

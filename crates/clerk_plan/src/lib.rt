@@ -51,7 +51,9 @@ fn holds_for(row: Row, r: Record) -> bool
     ensures { λ q. ⌜ q ≡ holdsFor row r ⌝ }
 {
     let state = r.state;
-    holds_in(home_of(row), state)
+    let terms = r.terms;
+    let connection = terms.connection;
+    holds_in(home_of(row), state, connection)
 }
 
 // An ask, by the record with its identifier: 4, 5.
@@ -145,6 +147,7 @@ fn new_record(names: Names, q: Request) -> Record
         terms,
         state: State::WaitAck,
         canKeep: can_keep_sent(q.flags),
+        down: false,
     }
 }
 

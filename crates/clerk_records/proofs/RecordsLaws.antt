@@ -29,7 +29,7 @@ use Rattle.clerk_table.specs.declared.record.Turned.{Turned}
 use Rattle.clerk_table.specs.declared.record.Change.{Change}
 use Rattle.clerk_table.specs.declared.record.Change.the-variants.{Stay, Put, Turn, Remove}
 use Rattle.clerk_records.specs.Codes.{stateOf, stateCode}
-use Rattle.clerk_records.specs.Layout.{width, canKeepAt, places, words, lastState}
+use Rattle.clerk_records.specs.Layout.{width, downAt, canKeepAt, places, words, lastState}
 use Rattle.clerk_records.specs.Records.{recordOf, recordWords, turnedWords, blank, records, inUse, used, unused, identified, meant, place, turned, recordsAfter, applied}
 
 -- ---- codes: what is stored is read back
@@ -44,7 +44,7 @@ state-back Suspended = refl
 
 pub record-back : (r : Record) → recordOf (recordWords r) ≡ r
 unfolding recordOf
-record-back r = rw (terms-back (r .terms) _, state-back (r .state), flag-back (r .canKeep))
+record-back r = rw (terms-back (r .terms) _, state-back (r .state), flag-back (r .canKeep), flag-back (r .down))
 
 -- a row that is turned: can-keep, behind what is put anew, is read as it was
 record-turned :
@@ -53,8 +53,8 @@ unfolding recordOf
 record-turned t row long =
     let words = over (turnedWords t) (drop choicesAt row) in
     let new = word-from choicesAt row words (omega arith) in
-    let behind : getD words 4 0 ≡ getD row canKeepAt 0 = getD-drop 4 (drop choicesAt row) 0 0 ∙ getD-drop choicesAt row 4 0 in
-    rw (terms-chosen row _ (t .keep) (t .connection) (t .kind) (omega arith), new 3, state-back (t .state), new 4 ∙ behind)
+    let behind : getD words 5 0 ≡ getD row canKeepAt 0 = getD-drop 5 (drop choicesAt row) 0 0 ∙ getD-drop choicesAt row 5 0 in
+    rw (terms-chosen row _ (t .keep) (t .connection) (t .kind) (omega arith), new 3, state-back (t .state), new 4, flag-back (t .down), new 5 ∙ behind)
 
 -- a state word from 1 to the last is a record in use
 state-live : (w : ℕ) → both (ltb 0 w) (leb w lastState) ≡ inUse (stateOf w)
@@ -94,7 +94,7 @@ rows-room ws l = fit-from width places (length ws) (omega arith) (omega arith) (
 record-front : (row : List ℕ) → recordOf (take width row) ≡ recordOf row
 unfolding recordOf
 record-front row =
-    rw (terms-front width row (omega arith), getD-take width row Terms.width 0 (omega arith), getD-take width row canKeepAt 0 (omega arith))
+    rw (terms-front width row (omega arith), getD-take width row Terms.width 0 (omega arith), getD-take width row canKeepAt 0 (omega arith), getD-take width row downAt 0 (omega arith))
 
 pub record-at : (ws : List ℕ) (i : ℕ) → i < places → getD (records ws) i blank ≡ recordOf (drop (i * width) ws)
 unfolding records

@@ -2,12 +2,15 @@
 use Prim.Native.Nat.{ℕ, _+_, _*_}
 use Rattle.terms.specs.Terms as Terms
 
--- a record's words: its terms, the state behind them, can-keep last
+-- a record's words: its terms, the state and the mark "connection down" behind them, can-keep last
 abbrev pub width : ℕ
-width = Terms.width + 2
+width = Terms.width + 3
+
+abbrev pub downAt : ℕ
+downAt = Terms.width + 1
 
 abbrev pub canKeepAt : ℕ
-canKeepAt = Terms.width + 1
+canKeepAt = Terms.width + 2
 
 abbrev pub places : ℕ
 places = 16

@@ -12,7 +12,7 @@ use Rattle.lists.specs.declared.words.Words.{Words}
 use Rattle.store.specs.Rows.{stateWord, rows, putRow, turnRow, removedRow}
 use Rattle.terms.specs.Codes.{flagCode}
 use Rattle.terms.specs.Terms.{choicesAt, termsOf, choiceWords, termsWords, withChoices, withKind}
-use Rattle.clerk_table.specs.Record.{withState, withTerms}
+use Rattle.clerk_table.specs.Record.{withState, withTerms, withDown}
 use Rattle.clerk_table.specs.declared.table.State.{State}
 use Rattle.clerk_table.specs.declared.table.State.the-variants.{Free, WaitAck, Invoked, WaitAnswer, Ringout, Suspended}
 use Rattle.clerk_table.specs.declared.record.Record.{Record}
@@ -20,19 +20,20 @@ use Rattle.clerk_table.specs.declared.record.Turned.{Turned}
 use Rattle.clerk_table.specs.declared.record.Change.{Change}
 use Rattle.clerk_table.specs.declared.record.Change.the-variants.{Stay, Put, Turn, Remove}
 use Rattle.clerk_records.specs.Codes.{stateOf, stateCode}
-use Rattle.clerk_records.specs.Layout.{width, canKeepAt, places}
+use Rattle.clerk_records.specs.Layout.{width, downAt, canKeepAt, places}
 
 -- a row of words as a record
 unfoldable pub recordOf : List ℕ → Record
-recordOf row = record { terms = termsOf row; state = stateOf (stateWord row); canKeep = eqb (getD row canKeepAt 0) 1 }
+recordOf row =
+    record { terms = termsOf row; state = stateOf (stateWord row); canKeep = eqb (getD row canKeepAt 0) 1; down = eqb (getD row downAt 0) 1 }
 
 -- a record as a row of words
 abbrev pub recordWords : Record → List ℕ
-recordWords r = termsWords (r .terms) ++ (stateCode (r .state) ∷ flagCode (r .canKeep) ∷ [])
+recordWords r = termsWords (r .terms) ++ (stateCode (r .state) ∷ flagCode (r .down) ∷ flagCode (r .canKeep) ∷ [])
 
 -- the words of a row that a turn puts anew, from the choices on
 abbrev pub turnedWords : Turned → List ℕ
-turnedWords t = choiceWords (t .keep) (t .connection) (t .kind) ++ (stateCode (t .state) ∷ [])
+turnedWords t = choiceWords (t .keep) (t .connection) (t .kind) ++ (stateCode (t .state) ∷ flagCode (t .down) ∷ [])
 
 -- what a free place holds, and what is read past the last
 abbrev pub blank : Record
@@ -69,9 +70,9 @@ unfoldable pub place : List Record → Found
 place rs = first unused rs
 
 -- ---- a planned change
--- a record with other choices, of another kind and in another state
+-- a record with other choices, of another kind, in another state and with the mark or without it
 abbrev pub turned : Turned → Record → Record
-turned t r = withState (withTerms r (withKind (withChoices (r .terms) (t .keep) (t .connection)) (t .kind))) (t .state)
+turned t r = withDown (withState (withTerms r (withKind (withChoices (r .terms) (t .keep) (t .connection)) (t .kind))) (t .state)) (t .down)
 
 -- the records afterwards
 abbrev pub recordsAfter : List Record → Change → List Record

@@ -1,5 +1,6 @@
 // The places of a clerk's desk: a record is found, loaded, put, turned and removed, in words that the caller lends.
 use crate::CAN_KEEP_AT;
+use crate::DOWN_AT;
 use crate::LAST_STATE;
 use crate::PLACES;
 use crate::WIDTH;
@@ -39,6 +40,7 @@ fn record_of(row: &[u64]) -> Record
         terms,
         state,
         canKeep: row[CAN_KEEP_AT] == 1,
+        down: row[DOWN_AT] == 1,
     }
 }
 
@@ -51,6 +53,7 @@ fn put_words(row: &mut [u64], r: Record)
     let state = r.state;
     put_terms(row, terms);
     row[terms::WIDTH] = state_code(state);
+    row[DOWN_AT] = flag_code(r.down);
     row[CAN_KEEP_AT] = flag_code(r.canKeep);
 }
 
@@ -84,6 +87,7 @@ fn blank_record() -> Record
         terms,
         state: State::Free,
         canKeep: false,
+        down: false,
     }
 }
 
@@ -118,6 +122,7 @@ fn turn_words(words: &mut [u64], t: Turned)
     words[1] = connection_code(connection);
     words[2] = kind_code(kind);
     words[3] = state_code(state);
+    words[4] = flag_code(t.down);
 }
 
 fn turn_in(words: &mut [u64], i: usize, t: Turned)

@@ -15,7 +15,9 @@ use Rattle.message.specs.declared.Kind.the-variants.{Ccbs, Ccnr}
 use Rattle.message.specs.declared.Carrier.{Carrier}
 use Rattle.message.specs.declared.Carrier.the-variants.{Setup, Connect, Facility, ReleaseComplete, Alerting}
 use Rattle.desk.specs.Carriers.{carrierFits}
+use Rattle.desk.specs.declared.Connection.{Connection}
 use Rattle.desk.specs.declared.Connection.the-variants as Connection
+use Rattle.desk.proofs.CarriersLaws.{retained-holds}
 use Rattle.desk.specs.declared.Keep.{Keep}
 use Rattle.desk.specs.declared.Keep.the-variants as Keep
 use Rattle.desk.specs.declared.letter.Letter.{Letter}
@@ -23,16 +25,17 @@ use Rattle.terms.specs.declared.request.Names.{Names}
 use Rattle.terms.specs.declared.request.Request.{Request}
 use Rattle.places.specs.Places.{Moved, stays, turns, stores, removes}
 use Rattle.places.proofs.Holding.{meant-its}
-use Rattle.clerk_table.specs.Table.{holdsIn}
+use Rattle.clerk_table.specs.Table.{holdsIn, behind}
 use Rattle.terms.specs.Terms.{withKind}
-use Rattle.clerk_table.specs.Record.{withState, withTerms}
+use Rattle.clerk_table.specs.Record.{withState, withTerms, withDown}
 use Rattle.clerk_table.specs.Step.{rowTaken}
 use Rattle.clerk_table.specs.Inputs.{namesOf, messageFor, rowFor, rowOfAct, rowOfTimer, errorRow, possibleRow, busyAgainRow, ringoutErrorRow, keepChosen, connectionMeant, acknowledged, settled}
 use Rattle.clerk_table.specs.declared.table.State.{State}
 use Rattle.clerk_table.specs.declared.table.State.the-variants.{Free, WaitAck, Invoked, WaitAnswer, Ringout, Suspended}
-use Rattle.clerk_table.specs.declared.table.Home.the-variants.{InInvoked, InWaitAnswer, InRingout, InSuspended}
+use Rattle.clerk_table.specs.declared.table.Home.{Home}
+use Rattle.clerk_table.specs.declared.table.Home.the-variants.{InWaitAck, InInvoked, InWaitAnswer, InRingout, InSuspended}
 use Rattle.clerk_table.specs.declared.table.Row.{Row}
-use Rattle.clerk_table.specs.declared.table.Row.the-variants.{Accepted, DeniedShort, DeniedLong, Recalls, Suspends, RingsOut, Resumes, GoesOn, Completes, CallFails, BusyAgainKept, BusyAgainWaiting, BusyAgainEnded, NotMatched, LineCancels, UserCancels, T1RunsOut, T2RunsOut, T3RunsOut}
+use Rattle.clerk_table.specs.declared.table.Row.the-variants.{Accepted, DeniedShort, DeniedLong, Recalls, Suspends, RingsOut, Resumes, GoesOn, Completes, CallFails, BusyAgainKept, BusyAgainWaiting, BusyAgainEnded, NotMatched, LineCancels, UserCancels, Falls, T1RunsOut, T2RunsOut, T3RunsOut}
 use Rattle.clerk_table.specs.declared.table.Timer.{Timer}
 use Rattle.clerk_table.specs.declared.table.Timer.the-variants.{T1, T2, T3}
 use Rattle.clerk_table.specs.declared.record.Record.{Record}
@@ -40,7 +43,7 @@ use Rattle.clerk_table.specs.declared.record.Decision.{Decision}
 use Rattle.clerk_table.specs.declared.record.Change.the-variants.{Turn, Remove}
 use Rattle.clerk_table.specs.declared.record.Plan.{Plan}
 use Rattle.clerk_table.specs.declared.inputs.Act.{Act}
-use Rattle.clerk_table.specs.declared.inputs.Act.the-variants.{Accept, Resume, GoOn, Cancel}
+use Rattle.clerk_table.specs.declared.inputs.Act.the-variants.{Accept, Resume, GoOn, Cancel, Fell}
 use Rattle.clerk_table.specs.declared.inputs.Input.{Input}
 use Rattle.clerk_table.specs.declared.inputs.Input.the-variants as Input
 use Rattle.clerk_table.specs.declared.inputs.RecordMessage.{RecordMessage}
@@ -61,14 +64,6 @@ abbrev pub Goes : Words → List Record → Plan → Type 0
 Goes identifier rs plan = Moved clerkView Turned Whole identifier rs (recordsAfter rs (plan .change))
 
 -- ---- states: only Wait-Ack is before the acknowledgment
-abbrev behind : State → Bool
-behind Free = false
-behind WaitAck = false
-behind Invoked = true
-behind WaitAnswer = true
-behind Ringout = true
-behind Suspended = true
-
 behind-used : (s : State) → behind s ≡ true → inUse s ≡ true
 behind-used Free e = e
 behind-used WaitAck e = refl
@@ -79,6 +74,14 @@ behind-used Suspended e = e
 
 not-waiting : (s : State) → behind s ≡ true → s ≡ WaitAck → ⊥
 not-waiting s a e = no-true (sym (ap behind e) ∙ a)
+
+waits : (s : State) (c : Connection) → holdsIn InWaitAck s c ≡ true → s ≡ WaitAck
+waits Free c e = absurd (no-true e)
+waits WaitAck c e = refl
+waits Invoked c e = absurd (no-true e)
+waits WaitAnswer c e = absurd (no-true e)
+waits Ringout c e = absurd (no-true e)
+waits Suspended c e = absurd (no-true e)
 
 -- ---- the choices that a result brings
 ends : Keep.Ends ≡ Keep.Empty → ⊥
@@ -122,6 +125,7 @@ later BusyAgainEnded = true
 later NotMatched = true
 later LineCancels = true
 later UserCancels = true
+later Falls = true
 later T1RunsOut = true
 later T2RunsOut = true
 later T3RunsOut = true
@@ -147,6 +151,7 @@ act-later Accept = refl
 act-later Resume = refl
 act-later GoOn = refl
 act-later Cancel = refl
+act-later Fell = refl
 
 timer-later : (timer : Timer) → later (rowOfTimer timer) ≡ true
 timer-later T1 = refl
@@ -158,15 +163,21 @@ module _ (identifier : Words) (rs : List Record) (i : ℕ) (sound : Sound rs) (u
   abbrev r : Record
   r = getD rs i blank
 
+  -- a row of a state behind the acknowledgment is not taken in Wait-Ack
+  away : (home : Home) → holdsIn home WaitAck (r .terms .connection) ≡ false → holdsIn home (r .state) (r .terms .connection) ≡ true → r .state ≡ WaitAck → ⊥
+  away home not h e = no-true (sym not ∙ sym (ap (λ (s : State). holdsIn home s (r .terms .connection)) e) ∙ h)
+
   -- from state to state behind the acknowledgment
   turned :
-      (kind : Kind) (s : State) → (r .state ≡ WaitAck → ⊥) → behind s ≡ true →
-      Moved clerkView Turned Whole identifier rs (recordsAfter rs (Turn i (record { keep = r .terms .keep; connection = r .terms .connection; kind = kind; state = s })))
-  turned kind s away b =
-      turns i (withState (withTerms r (withKind (r .terms) kind)) s) u own (behind-used s b) own
+      (kind : Kind) (s : State) (down : Bool) → (down ≡ true → r .terms .connection ≡ Connection.Ret) → (r .state ≡ WaitAck → ⊥) → behind s ≡ true →
+      Moved clerkView Turned Whole identifier rs
+      (recordsAfter rs (Turn i (record { keep = r .terms .keep; connection = r .terms .connection; kind = kind; state = s; down = down })))
+  turned kind s down fell away b =
+      turns i (withDown (withState (withTerms r (withKind (r .terms) kind)) s) down) u own (behind-used s b) own
       (record {
         before = λ e. absurd (not-waiting s b e);
         behind = λ n. sound .each i u .behind away;
+        fell = fell;
         numberA = sound .each i u .numberA;
         numberB = sound .each i u .numberB;
         service = sound .each i u .service;
@@ -176,13 +187,15 @@ module _ (identifier : Words) (rs : List Record) (i : ℕ) (sound : Sound rs) (u
   gone : Moved clerkView Turned Whole identifier rs (recordsAfter rs (Remove i))
   gone = removes i u own refl
 
-  row-accepted : (keep : ℕ) (carrier : Carrier) → Goes identifier rs (rowTaken i (acknowledged r keep carrier) Accepted)
+  row-accepted : (keep : ℕ) (carrier : Carrier) → holdsFor Accepted r ≡ true → Goes identifier rs (rowTaken i (acknowledged r keep carrier) Accepted)
   unfolding rowTaken
-  row-accepted keep carrier =
+  row-accepted keep carrier h =
+      let whole = sound .each i u in
       turns i (withState (acknowledged r keep carrier) Invoked) u own refl own
       (record {
         before = λ e. absurd (not-waiting Invoked refl e);
         behind = λ n. (keep-chosen (r .canKeep) keep, connection-chosen carrier);
+        fell = λ e. absurd (retained (sym (whole .fell e) ∙ whole .before (waits (r .state) (r .terms .connection) h) .1));
         numberA = sound .each i u .numberA;
         numberB = sound .each i u .numberB;
         service = sound .each i u .service;
@@ -194,19 +207,22 @@ module _ (identifier : Words) (rs : List Record) (i : ℕ) (sound : Sound rs) (u
   row-later Accepted b h = absurd (no-true b)
   row-later DeniedShort b h = gone
   row-later DeniedLong b h = gone
-  row-later Recalls b h = turned (r .terms .kind) WaitAnswer (λ e. no-true (sym (ap (holdsIn InInvoked) e) ∙ h)) refl
-  row-later Suspends b h = turned (r .terms .kind) Suspended (λ e. no-true (sym (ap (holdsIn InInvoked) e) ∙ h)) refl
-  row-later RingsOut b h = turned (r .terms .kind) Ringout (λ e. no-true (sym (ap (holdsIn InWaitAnswer) e) ∙ h)) refl
-  row-later Resumes b h = turned (r .terms .kind) Invoked (λ e. no-true (sym (ap (holdsIn InSuspended) e) ∙ h)) refl
-  row-later GoesOn b h = turned (r .terms .kind) WaitAnswer (λ e. no-true (sym (ap (holdsIn InSuspended) e) ∙ h)) refl
+  row-later Recalls b h = turned (r .terms .kind) WaitAnswer (r .down) (sound .each i u .fell) (away InInvoked refl h) refl
+  row-later Suspends b h = turned (r .terms .kind) Suspended (r .down) (sound .each i u .fell) (away InInvoked refl h) refl
+  row-later RingsOut b h = turned (r .terms .kind) Ringout (r .down) (sound .each i u .fell) (away InWaitAnswer refl h) refl
+  row-later Resumes b h = turned (r .terms .kind) Invoked (r .down) (sound .each i u .fell) (away InSuspended refl h) refl
+  row-later GoesOn b h = turned (r .terms .kind) WaitAnswer (r .down) (sound .each i u .fell) (away InSuspended refl h) refl
   row-later Completes b h = gone
   row-later CallFails b h = gone
-  row-later BusyAgainKept b h = turned (r .terms .kind) Invoked (λ e. no-true (sym (ap (holdsIn InRingout) e) ∙ h)) refl
-  row-later BusyAgainWaiting b h = turned Ccbs Invoked (λ e. no-true (sym (ap (holdsIn InRingout) e) ∙ h)) refl
+  row-later BusyAgainKept b h = turned (r .terms .kind) Invoked (r .down) (sound .each i u .fell) (away InRingout refl h) refl
+  row-later BusyAgainWaiting b h = turned Ccbs Invoked (r .down) (sound .each i u .fell) (away InRingout refl h) refl
   row-later BusyAgainEnded b h = gone
   row-later NotMatched b h = gone
   row-later LineCancels b h = gone
   row-later UserCancels b h = gone
+  row-later Falls b h =
+      let holds = retained-holds (r .terms .connection) (behind (r .state)) h in
+      turned (r .terms .kind) (r .state) true (λ e. holds .0) (not-waiting (r .state) (holds .1)) (holds .1)
   row-later T1RunsOut b h = gone
   row-later T2RunsOut b h = gone
   row-later T3RunsOut b h = gone
@@ -214,7 +230,7 @@ module _ (identifier : Words) (rs : List Record) (i : ℕ) (sound : Sound rs) (u
   row-message :
       (message : RecordMessage) (carrier : Carrier) (busy : Bool) → holdsFor (rowFor message busy (r .terms .keep) (r .terms .kind)) r ≡ true →
       Goes identifier rs (rowTaken i (settled (Meant.Record message) carrier r) (rowFor message busy (r .terms .keep) (r .terms .kind)))
-  row-message (Message.Result keep) carrier busy h = row-accepted keep carrier
+  row-message (Message.Result keep) carrier busy h = row-accepted keep carrier h
   row-message (Message.Error error) carrier busy h = row-later (errorRow error) (error-later error) h
   row-message Message.ExecPossible carrier busy h = row-later (possibleRow busy) (possible-later busy) h
   row-message (Message.RingoutError error) carrier busy h = row-later (ringoutErrorRow error (r .terms .keep) (r .terms .kind)) (ringout-error-later error (r .terms .keep) (r .terms .kind)) h

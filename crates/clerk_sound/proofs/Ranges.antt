@@ -6,7 +6,7 @@ use mathlib.Core.List.{List}
 use lib.Dec.{ltb}
 use native.Mathlib.Omega.{arith}
 use borrow.Author.Tests.{ltb-true}
-use Rattle.lists.proofs.Choice.{pick-then}
+use Rattle.lists.proofs.Choice.{no-true, pick-then}
 use Rattle.message.specs.Format.{requestBody, requestInRange, fieldsInRange, inRange}
 use Rattle.message.specs.declared.Kind.{Kind}
 use Rattle.message.specs.declared.Kind.the-variants.{Ccbs, Ccnr}
@@ -56,6 +56,7 @@ ask-whole a typed e =
     record {
       before = λ e. (refl, refl);
       behind = λ n. absurd (n refl);
+      fell = λ f. absurd (no-true f);
       numberA = number-kept (a .numberA) 0 (typed .lengthA) (typed .bytesA) (r .rangeA);
       numberB = number-kept (a .numberB) 1 (typed .lengthB) (typed .bytesB) (r .rangeB);
       service = r .mostService;

@@ -57,6 +57,8 @@ pub record Whole (r : Record) : Type 0 where
   -- keep and connection choices are empty exactly before the acknowledgment
   pub before : r .state ≡ WaitAck → (r .terms .keep ≡ Keep.Empty) × (r .terms .connection ≡ Connection.Empty)
   pub behind : (r .state ≡ WaitAck → ⊥) → (r .terms .keep ≡ Keep.Empty → ⊥) × (r .terms .connection ≡ Connection.Empty → ⊥)
+  -- only a retained connection is marked down
+  pub fell : r .down ≡ true → r .terms .connection ≡ Connection.Ret
   -- only numberA may be missing
   pub numberA : digitsInRange 0 (bytesOf (r .terms .numberA)) ≡ true
   pub numberB : digitsInRange 1 (bytesOf (r .terms .numberB)) ≡ true

@@ -93,6 +93,7 @@ rowOfAct Act.Accept = Row.RingsOut
 rowOfAct Act.Resume = Row.Resumes
 rowOfAct Act.GoOn = Row.GoesOn
 rowOfAct Act.Cancel = Row.UserCancels
+rowOfAct Act.Fell = Row.Falls
 
 abbrev pub rowOfTimer : Timer → Row
 rowOfTimer T1 = Row.T1RunsOut
@@ -110,7 +111,7 @@ replyUnmatched Message.Cancel = Sends.Nothing
 replyUnmatched Message.Alerts = Sends.Nothing
 replyUnmatched Message.Failed = Sends.Nothing
 
--- on 7 or 8, to a ccExecPossible in Setup (clause 8.1.2.6: mend M3)
+-- on 7 or 8, to a ccExecPossible in Setup (clause 8.1.2.6: mend M3). None in Setup is 8 any more (document 02, Ask 11): for 7 and 8 there is one line all the same
 abbrev pub replyInSetup : Carrier → Sends
 replyInSetup Setup = Sends.One Body.CcCancel
 replyInSetup Connect = Sends.Nothing

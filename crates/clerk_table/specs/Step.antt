@@ -2,6 +2,7 @@
 use Prim.Native.Nat.{ℕ}
 use mathlib.Core.Bool.{Bool, true, false}
 use Rattle.lists.specs.Choice.{pick}
+use Rattle.desk.specs.Carriers.{sendsAs}
 use Rattle.desk.specs.Outcome.{noTimers}
 use Rattle.desk.specs.Sends.{sent}
 use Rattle.desk.specs.declared.outcome.Timers.{Timers}
@@ -12,7 +13,7 @@ use Rattle.clerk_table.specs.declared.table.State.{State}
 use Rattle.clerk_table.specs.declared.table.State.the-variants.{Free, WaitAck, Invoked, WaitAnswer, Ringout, Suspended}
 use Rattle.clerk_table.specs.declared.table.Row.{Row}
 use Rattle.clerk_table.specs.declared.table.Next.{Next}
-use Rattle.clerk_table.specs.declared.table.Next.the-variants.{Gone, To}
+use Rattle.clerk_table.specs.declared.table.Next.the-variants.{Gone, Same, To}
 use Rattle.clerk_table.specs.declared.table.Timer.{Timer}
 use Rattle.clerk_table.specs.declared.table.Timer.the-variants.{T1, T2, T3}
 use Rattle.clerk_table.specs.declared.table.Starts.{Starts}
@@ -20,14 +21,30 @@ use Rattle.clerk_table.specs.declared.table.Starts.the-variants as Start
 use Rattle.clerk_table.specs.declared.table.Stops.{Stops}
 use Rattle.clerk_table.specs.declared.table.Stops.the-variants as Stops
 use Rattle.clerk_table.specs.declared.record.Record.{Record}
+use Rattle.clerk_table.specs.declared.record.Turned.{Turned}
 use Rattle.clerk_table.specs.declared.record.Change.{Change}
 use Rattle.clerk_table.specs.declared.record.Change.the-variants.{Turn, Remove}
 use Rattle.clerk_table.specs.declared.record.Plan.{Plan}
 
-abbrev pub changed : Next → Becomes → ℕ → Record → Change
-changed Gone kind place r = Remove place
-changed (To state) kind place r =
-    Turn place (record { keep = r .terms .keep; connection = r .terms .connection; kind = kindAfter kind (r .terms .kind); state = state })
+-- the mark is set, and never cleared
+abbrev pub downAfter : Bool → Bool → Bool
+downAfter falls down = pick falls true down
+
+-- what a row turns in a record that goes on in a state
+abbrev pub turnedTo : State → Becomes → Bool → Record → Turned
+turnedTo state kind falls r =
+    record {
+      keep = r .terms .keep;
+      connection = r .terms .connection;
+      kind = kindAfter kind (r .terms .kind);
+      state = state;
+      down = downAfter falls (r .down);
+    }
+
+abbrev pub changed : Next → Becomes → Bool → ℕ → Record → Change
+changed Gone kind falls place r = Remove place
+changed Same kind falls place r = Turn place (turnedTo (r .state) kind falls r)
+changed (To state) kind falls place r = Turn place (turnedTo state kind falls r)
 
 abbrev pub only : Timer → Timers
 only T1 = record { t1 = true; t2 = false; t3 = false; guard = false }
@@ -67,10 +84,10 @@ cleared clears state = pick clears (inRingout state) false
 unfoldable pub rowTaken : ℕ → Record → Row → Plan
 rowTaken place r row =
     record {
-      change = changed (effectOf row .next) (effectOf row .kind) place r;
+      change = changed (effectOf row .next) (effectOf row .kind) (effectOf row .falls) place r;
       outcome = record {
         refusal = 0;
-        sending = sent (effectOf row .sends) (r .terms .identifier) (r .terms .connection);
+        sending = sent (effectOf row .sends) (r .terms .identifier) (sendsAs (r .terms .connection) (r .down));
         starts = started (effectOf row .starts);
         stops = stopped (effectOf row .stops) (r .state);
         notice = effectOf row .notice;

@@ -4,6 +4,8 @@ use Rattle.message.specs.declared.Kind.{Kind}
 use Rattle.message.specs.declared.Kind.the-variants.{Ccbs}
 use Rattle.message.specs.declared.Body.{Body}
 use Rattle.message.specs.declared.Body.the-variants.{CcSuspend, CcRingout, CcResume, CcCancel}
+use Rattle.desk.specs.Carriers.{byConnection}
+use Rattle.desk.specs.declared.Connection.{Connection}
 use Rattle.desk.specs.declared.outcome.Notice.{Notice}
 use Rattle.desk.specs.declared.outcome.Notice.the-variants as Says
 use Rattle.desk.specs.declared.sends.Sends.{Sends}
@@ -21,19 +23,21 @@ use Rattle.clerk_table.specs.declared.table.Effect.{Effect}
 use Rattle.clerk_table.specs.declared.table.Rule.{Rule}
 use Rattle.clerk_table.specs.declared.table.State.the-variants.{Free, WaitAck, Invoked, WaitAnswer, Ringout, Suspended}
 use Rattle.clerk_table.specs.declared.table.Row.the-variants as Row
-use Rattle.clerk_table.specs.declared.table.Home.the-variants.{InWaitAck, InInvoked, InWaitAnswer, InRingout, InSuspended, WhereT2Counts, Always}
-use Rattle.clerk_table.specs.declared.table.Next.the-variants.{Gone, To}
+use Rattle.clerk_table.specs.declared.table.Home.the-variants.{InWaitAck, InInvoked, InWaitAnswer, InRingout, InSuspended, WhereT2Counts, WhereRetained, Always}
+use Rattle.clerk_table.specs.declared.table.Next.the-variants.{Gone, Same, To}
 use Rattle.clerk_table.specs.declared.table.Timer.the-variants.{T1, T2, T3}
 use Rattle.clerk_table.specs.declared.table.Starts.the-variants as Starts
 use Rattle.clerk_table.specs.declared.table.Stops.the-variants as Stops
 
 -- ---- the words of the table: what stands in a column, and one word for nothing in all of them
 pub data Column : Type 0 where
-  changing sending starting stopping noticing clearing : Column
+  changing falling sending starting stopping noticing clearing : Column
 
 pub data Cell : Column → Type 0 where
   nothing : {column : Column} → Cell column
   becomes : Kind → Cell changing
+  -- the mark "connection down" is set
+  falls : Cell falling
   sends : Body → Cell sending
   starts : Timer → Cell starting
   stops : Timer → Cell stopping
@@ -46,6 +50,10 @@ pub data Cell : Column → Type 0 where
 abbrev kept : Cell changing → Becomes
 kept nothing = Becomes.Nothing
 kept (becomes kind) = Becomes.One kind
+
+abbrev fallen : Cell falling → Bool
+fallen nothing = false
+fallen falls = true
 
 abbrev sent : Cell sending → Sends
 sent nothing = Sends.Nothing
@@ -69,54 +77,56 @@ cleared nothing = false
 cleared clears = true
 
 -- a row of the table: where it is taken, and what it does
-abbrev pub rule : Home → Next → Becomes → Sends → Starts → Stops → Notice → Bool → Rule
-rule home next kind message start stop notice call =
-    record { home = home; effect = record { next = next; kind = kind; sends = message; starts = start; stops = stop; notice = notice; clears = call } }
+abbrev pub rule : Home → Next → Becomes → Bool → Sends → Starts → Stops → Notice → Bool → Rule
+rule home next kind down message start stop notice call =
+    record { home = home; effect = record { next = next; kind = kind; falls = down; sends = message; starts = start; stops = stop; notice = notice; clears = call } }
 
-abbrev row : Home → Next → Cell changing → Cell sending → Cell starting → Cell stopping → Cell noticing → Cell clearing → Rule
-row home next kind message start stop notice call = rule home next (kept kind) (sent message) (started start) (stopped stop) (noticed notice) (cleared call)
+abbrev row : Home → Next → Cell changing → Cell falling → Cell sending → Cell starting → Cell stopping → Cell noticing → Cell clearing → Rule
+row home next kind down message start stop notice call = rule home next (kept kind) (fallen down) (sent message) (started start) (stopped stop) (noticed notice) (cleared call)
 
 -- ---- the table
--- taken in · then · kind · sends · starts · stops · notice · clears the call
+-- taken in · then · kind · connection · sends · starts · stops · notice · clears the call
 abbrev pub ruleOf : Row → Rule
 -- type 3, result, in Wait-Ack (8.1.1.3; T2 by 8.1.1.1 and 8.1.1.2)
-ruleOf Row.Accepted = row InWaitAck (To Invoked) nothing nothing (starts T2) (stops T1) (says Says.Accepted) nothing
+ruleOf Row.Accepted = row InWaitAck (To Invoked) nothing nothing nothing (starts T2) (stops T1) (says Says.Accepted) nothing
 -- type 4, request error 1 (short), in Wait-Ack (8.1.2.1)
-ruleOf Row.DeniedShort = row InWaitAck Gone nothing nothing nothing all (says Says.DeniedShort) nothing
+ruleOf Row.DeniedShort = row InWaitAck Gone nothing nothing nothing nothing all (says Says.DeniedShort) nothing
 -- type 4, request error 2 (long), in Wait-Ack (8.1.2.1)
-ruleOf Row.DeniedLong = row InWaitAck Gone nothing nothing nothing all (says Says.DeniedLong) nothing
+ruleOf Row.DeniedLong = row InWaitAck Gone nothing nothing nothing nothing all (says Says.DeniedLong) nothing
 -- type 5, ccExecPossible, in Invoked, User A not busy (8.1.1.4)
-ruleOf Row.Recalls = row InInvoked (To WaitAnswer) nothing nothing (starts T3) nothing (says Says.Recall) nothing
+ruleOf Row.Recalls = row InInvoked (To WaitAnswer) nothing nothing nothing (starts T3) nothing (says Says.Recall) nothing
 -- type 5, ccExecPossible, in Invoked, User A busy (8.1.1.5)
-ruleOf Row.Suspends = row InInvoked (To Suspended) nothing (sends CcSuspend) nothing nothing nothing nothing
+ruleOf Row.Suspends = row InInvoked (To Suspended) nothing nothing (sends CcSuspend) nothing nothing nothing nothing
 -- accept in Wait-Answer (8.1.1.4)
-ruleOf Row.RingsOut = row InWaitAnswer (To Ringout) nothing (sends CcRingout) nothing (stops T3) nothing nothing
+ruleOf Row.RingsOut = row InWaitAnswer (To Ringout) nothing nothing (sends CcRingout) nothing (stops T3) nothing nothing
 -- User A free in Suspended: resume (8.1.1.5, of RLS too: the connection choice is for life)
-ruleOf Row.Resumes = row InSuspended (To Invoked) nothing (sends CcResume) nothing nothing nothing nothing
+ruleOf Row.Resumes = row InSuspended (To Invoked) nothing nothing (sends CcResume) nothing nothing nothing nothing
 -- User A free in Suspended: go on to recall (8.1.1.5, last paragraph)
-ruleOf Row.GoesOn = row InSuspended (To WaitAnswer) nothing nothing (starts T3) nothing (says Says.Recall) nothing
+ruleOf Row.GoesOn = row InSuspended (To WaitAnswer) nothing nothing nothing (starts T3) nothing (says Says.Recall) nothing
 -- type 11, call alerts, in Ringout (8.1.1.4)
-ruleOf Row.Completes = row InRingout Gone nothing nothing nothing all (says Says.Completed) nothing
+ruleOf Row.Completes = row InRingout Gone nothing nothing nothing nothing all (says Says.Completed) nothing
 -- type 12, call failed, in Ringout (8.1.2.4, last paragraph, and 8.1.1.6 a: mend M2)
-ruleOf Row.CallFails = row InRingout Gone nothing (sends CcCancel) nothing all (says Says.Failed) nothing
+ruleOf Row.CallFails = row InRingout Gone nothing nothing (sends CcCancel) nothing all (says Says.Failed) nothing
 -- type 7, ringout error 1 (busy again), in Ringout, keep chosen, CCBS (8.1.2.4)
-ruleOf Row.BusyAgainKept = row InRingout (To Invoked) nothing nothing nothing nothing (says Says.BusyAgainKept) nothing
+ruleOf Row.BusyAgainKept = row InRingout (To Invoked) nothing nothing nothing nothing nothing (says Says.BusyAgainKept) nothing
 -- type 7, ringout error 1 (busy again), in Ringout, keep chosen, CCNR, which goes on as CCBS (8.1.2.4; 6.2.1.3: document 02, Ask 5)
-ruleOf Row.BusyAgainWaiting = row InRingout (To Invoked) (becomes Ccbs) nothing nothing nothing (says Says.BusyAgainWaiting) nothing
+ruleOf Row.BusyAgainWaiting = row InRingout (To Invoked) (becomes Ccbs) nothing nothing nothing nothing (says Says.BusyAgainWaiting) nothing
 -- type 7, ringout error 1 (busy again), in Ringout, keep not chosen (8.1.2.4)
-ruleOf Row.BusyAgainEnded = row InRingout Gone nothing nothing nothing all (says Says.BusyAgainEnded) nothing
+ruleOf Row.BusyAgainEnded = row InRingout Gone nothing nothing nothing nothing all (says Says.BusyAgainEnded) nothing
 -- type 7, ringout error 2 (failureToMatch), in Ringout (8.1.2.4)
-ruleOf Row.NotMatched = row InRingout Gone nothing nothing nothing all (says Says.Failed) nothing
+ruleOf Row.NotMatched = row InRingout Gone nothing nothing nothing nothing all (says Says.Failed) nothing
 -- type 10, ccCancel, received (8.1.1.6 b: mend M4)
-ruleOf Row.LineCancels = row Always Gone nothing nothing nothing all (says Says.Failed) clears
+ruleOf Row.LineCancels = row Always Gone nothing nothing nothing nothing all (says Says.Failed) clears
 -- user's cancel (8.1.1.6 a)
-ruleOf Row.UserCancels = row Always Gone nothing (sends CcCancel) nothing all (says Says.Cancelled) clears
+ruleOf Row.UserCancels = row Always Gone nothing nothing (sends CcCancel) nothing all (says Says.Cancelled) clears
+-- the connection fell (8.1.2.5 and 8.2.2.5: document 02, Ask 11); it stays in its state
+ruleOf Row.Falls = row WhereRetained Same nothing falls nothing nothing nothing nothing nothing
 -- T1 reported (8.1.2.1; the ccCancel is document 01's)
-ruleOf Row.T1RunsOut = row InWaitAck Gone nothing (sends CcCancel) nothing all (says Says.Failed) nothing
+ruleOf Row.T1RunsOut = row InWaitAck Gone nothing nothing (sends CcCancel) nothing all (says Says.Failed) nothing
 -- T2 reported (8.1.2.2; not in Ringout: mend M1)
-ruleOf Row.T2RunsOut = row WhereT2Counts Gone nothing (sends CcCancel) nothing all (says Says.Failed) nothing
+ruleOf Row.T2RunsOut = row WhereT2Counts Gone nothing nothing (sends CcCancel) nothing all (says Says.Failed) nothing
 -- T3 reported (8.1.2.3)
-ruleOf Row.T3RunsOut = row InWaitAnswer Gone nothing (sends CcCancel) nothing all (says Says.Failed) nothing
+ruleOf Row.T3RunsOut = row InWaitAnswer Gone nothing nothing (sends CcCancel) nothing all (says Says.Failed) nothing
 
 abbrev pub homeOf : Row → Home
 homeOf row = ruleOf row .home
@@ -124,47 +134,57 @@ homeOf row = ruleOf row .home
 abbrev pub effectOf : Row → Effect
 effectOf row = ruleOf row .effect
 
--- the states in which a row is taken; a free place has no row
-abbrev pub holdsIn : Home → State → Bool
-holdsIn InWaitAck Free = false
-holdsIn InWaitAck WaitAck = true
-holdsIn InWaitAck Invoked = false
-holdsIn InWaitAck WaitAnswer = false
-holdsIn InWaitAck Ringout = false
-holdsIn InWaitAck Suspended = false
-holdsIn InInvoked Free = false
-holdsIn InInvoked WaitAck = false
-holdsIn InInvoked Invoked = true
-holdsIn InInvoked WaitAnswer = false
-holdsIn InInvoked Ringout = false
-holdsIn InInvoked Suspended = false
-holdsIn InWaitAnswer Free = false
-holdsIn InWaitAnswer WaitAck = false
-holdsIn InWaitAnswer Invoked = false
-holdsIn InWaitAnswer WaitAnswer = true
-holdsIn InWaitAnswer Ringout = false
-holdsIn InWaitAnswer Suspended = false
-holdsIn InRingout Free = false
-holdsIn InRingout WaitAck = false
-holdsIn InRingout Invoked = false
-holdsIn InRingout WaitAnswer = false
-holdsIn InRingout Ringout = true
-holdsIn InRingout Suspended = false
-holdsIn InSuspended Free = false
-holdsIn InSuspended WaitAck = false
-holdsIn InSuspended Invoked = false
-holdsIn InSuspended WaitAnswer = false
-holdsIn InSuspended Ringout = false
-holdsIn InSuspended Suspended = true
-holdsIn WhereT2Counts Free = false
-holdsIn WhereT2Counts WaitAck = false
-holdsIn WhereT2Counts Invoked = true
-holdsIn WhereT2Counts WaitAnswer = true
-holdsIn WhereT2Counts Ringout = false
-holdsIn WhereT2Counts Suspended = true
-holdsIn Always Free = false
-holdsIn Always WaitAck = true
-holdsIn Always Invoked = true
-holdsIn Always WaitAnswer = true
-holdsIn Always Ringout = true
-holdsIn Always Suspended = true
+-- behind the acknowledgment
+abbrev pub behind : State → Bool
+behind Free = false
+behind WaitAck = false
+behind Invoked = true
+behind WaitAnswer = true
+behind Ringout = true
+behind Suspended = true
+
+-- the states in which a row is taken, and of one the connection choice too; a free place has no row
+abbrev pub holdsIn : Home → State → Connection → Bool
+holdsIn InWaitAck Free connection = false
+holdsIn InWaitAck WaitAck connection = true
+holdsIn InWaitAck Invoked connection = false
+holdsIn InWaitAck WaitAnswer connection = false
+holdsIn InWaitAck Ringout connection = false
+holdsIn InWaitAck Suspended connection = false
+holdsIn InInvoked Free connection = false
+holdsIn InInvoked WaitAck connection = false
+holdsIn InInvoked Invoked connection = true
+holdsIn InInvoked WaitAnswer connection = false
+holdsIn InInvoked Ringout connection = false
+holdsIn InInvoked Suspended connection = false
+holdsIn InWaitAnswer Free connection = false
+holdsIn InWaitAnswer WaitAck connection = false
+holdsIn InWaitAnswer Invoked connection = false
+holdsIn InWaitAnswer WaitAnswer connection = true
+holdsIn InWaitAnswer Ringout connection = false
+holdsIn InWaitAnswer Suspended connection = false
+holdsIn InRingout Free connection = false
+holdsIn InRingout WaitAck connection = false
+holdsIn InRingout Invoked connection = false
+holdsIn InRingout WaitAnswer connection = false
+holdsIn InRingout Ringout connection = true
+holdsIn InRingout Suspended connection = false
+holdsIn InSuspended Free connection = false
+holdsIn InSuspended WaitAck connection = false
+holdsIn InSuspended Invoked connection = false
+holdsIn InSuspended WaitAnswer connection = false
+holdsIn InSuspended Ringout connection = false
+holdsIn InSuspended Suspended connection = true
+holdsIn WhereT2Counts Free connection = false
+holdsIn WhereT2Counts WaitAck connection = false
+holdsIn WhereT2Counts Invoked connection = true
+holdsIn WhereT2Counts WaitAnswer connection = true
+holdsIn WhereT2Counts Ringout connection = false
+holdsIn WhereT2Counts Suspended connection = true
+holdsIn WhereRetained state connection = byConnection connection (behind state) false
+holdsIn Always Free connection = false
+holdsIn Always WaitAck connection = true
+holdsIn Always Invoked connection = true
+holdsIn Always WaitAnswer connection = true
+holdsIn Always Ringout connection = true
+holdsIn Always Suspended connection = true

@@ -20,12 +20,13 @@ use terms::with_choices;
 ghost use mathlib.Core.Path.{_≡_};
 ghost use Rattle.clerk_table.specs.Inputs.{namesOf, messageFor, rowFor, rowOfAct, rowOfTimer, errorRow, possibleRow, busyAgainRow, ringoutErrorRow, replyUnmatched, replyInSetup, replyUnfit, keepChosen, connectionMeant, acknowledged, settled, settledBy};
 
-// User A's acts. User A free is two of them, as the host chooses.
+// User A's acts, and what the host tells of the connection. User A free is two of them, as the host chooses. Fell: the retained connection fell.
 pub enum Act {
     Accept,
     Resume,
     GoOn,
     Cancel,
+    Fell,
 }
 
 // All that the desk takes in: an ask, whom it names and what it asks for; a message in range, with the host's word on User A; User A's act, and a timer that
@@ -156,6 +157,7 @@ pub fn row_of_act(act: Act) -> Row
         Act::Resume => Row::Resumes,
         Act::GoOn => Row::GoesOn,
         Act::Cancel => Row::UserCancels,
+        Act::Fell => Row::Falls,
     }
 }
 

@@ -13,10 +13,11 @@ use terms::request::Request;
 ghost use mathlib.Core.Path.{_≡_};
 ghost use Rattle.clerk_table.specs.Record.{withTerms, refusedPlan};
 
-// The state, the can-keep that was sent, and the terms. Its bytes stand first, so that in a change they share their place with what a turn gives, and no word does.
+// The state, the can-keep that was sent, the mark "connection down", and the terms. Its bytes stand first, so that in a change they share their place with what a turn gives, and no word does.
 pub struct Record {
     pub state: State,
     pub canKeep: bool,
+    pub down: bool,
     pub terms: Terms,
 }
 
@@ -34,6 +35,7 @@ pub struct Turned {
     pub connection: Connection,
     pub kind: Kind,
     pub state: State,
+    pub down: bool,
 }
 
 // What becomes of the desk: nothing; a new record put at a place; the record of a place turned; the record of a place removed.
@@ -58,6 +60,7 @@ pub fn with_terms(r: Record, terms: Terms) -> Record
         terms,
         state,
         canKeep: r.canKeep,
+        down: r.down,
     }
 }
 

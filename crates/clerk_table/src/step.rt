@@ -10,6 +10,7 @@ use crate::table::State;
 use crate::table::Stops;
 use crate::table::Timer;
 use crate::table::effect_of;
+use desk::carriers::sends_as;
 use desk::outcome::Outcome;
 use desk::outcome::Timers;
 use desk::outcome::no_timers;
@@ -17,29 +18,47 @@ use desk::sends::sent_for;
 use terms::Becomes;
 use terms::kind_after;
 ghost use mathlib.Core.Path.{_≡_};
-ghost use Rattle.clerk_table.specs.Step.{changed, only, started, running, stopped, cleared, rowTaken};
+ghost use Rattle.clerk_table.specs.Step.{downAfter, turnedTo, changed, only, started, running, stopped, cleared, rowTaken};
 
-fn changed_to(next: Next, becomes: Becomes, place: usize, r: Record) -> Change
-    ensures { λ q. ⌜ q ≡ changed next becomes place r ⌝ }
+// The mark is set, and never cleared.
+fn down_after(falls: bool, down: bool) -> bool
+    ensures { λ r. ⌜ r ≡ downAfter falls down ⌝ }
+{
+    if falls {
+        return true;
+    }
+    down
+}
+
+// What a row turns in a record that goes on in a state.
+fn turned_to(state: State, becomes: Becomes, falls: bool, r: Record) -> Turned
+    ensures { λ q. ⌜ q ≡ turnedTo state becomes falls r ⌝ }
+{
+    let terms = r.terms;
+    let keep = terms.keep;
+    let connection = terms.connection;
+    let before = terms.kind;
+    let kind = kind_after(becomes, before);
+    let down = down_after(falls, r.down);
+    Turned {
+        keep,
+        connection,
+        kind,
+        state,
+        down,
+    }
+}
+
+fn changed_to(next: Next, becomes: Becomes, falls: bool, place: usize, r: Record) -> Change
+    ensures { λ q. ⌜ q ≡ changed next becomes falls place r ⌝ }
 {
     match next {
         Next::Gone => Change::Remove(place),
-        Next::To(state) => {
-            let terms = r.terms;
-            let keep = terms.keep;
-            let connection = terms.connection;
-            let before = terms.kind;
-            let kind = kind_after(becomes, before);
-            Change::Turn(
-                place,
-                Turned {
-                    keep,
-                    connection,
-                    kind,
-                    state,
-                },
-            )
+        Next::Same => {
+            let state = r.state;
+            Change::Turn(place, turned_to(state, becomes, falls, r))
         }
+        Next::To(state) => Change::Turn(place, turned_to(state, becomes, falls, r)),
     }
 }
 
@@ -136,8 +155,9 @@ pub fn take_row(place: usize, r: Record, row: Row) -> Plan
     let state = r.state;
     let terms = r.terms;
     let identifier = terms.identifier;
-    let connection = terms.connection;
-    let change = changed_to(next, becomes, place, r);
+    let chosen = terms.connection;
+    let connection = sends_as(chosen, r.down);
+    let change = changed_to(next, becomes, effect.falls, place, r);
     let sending = sent_for(sends, identifier, connection);
     let started = timers_started(starts);
     let stopped = timers_stopped(stops, state);

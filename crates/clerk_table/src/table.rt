@@ -1,16 +1,19 @@
 // The clerk's table: document 01, "Steps at the clerk's desk", one row for each of its steps, with the clause of H.450.9 beside it.
 // A row says in which states it is taken and what it does; everything else about the clerk's desk reads it here.
+use desk::Connection;
 use desk::outcome::Notice;
 use desk::sends::Sends;
 use message::Body;
 use message::Kind;
 use terms::Becomes;
 ghost use mathlib.Core.Path.{_≡_};
-ghost use mathlib.Core.Bool.{false};
+ghost use mathlib.Core.Bool.{true, false};
 ghost use Rattle.message.specs.declared.Body.the-variants.{CcCancel};
 ghost use Rattle.desk.specs.declared.sends.Sends.the-variants as Sends;
+ghost use Rattle.desk.specs.declared.outcome.Notice.the-variants.{Silent};
+ghost use Rattle.clerk_table.specs.declared.table.Home.the-variants.{WhereRetained};
 ghost use Rattle.terms.specs.declared.Becomes.the-variants as Becomes;
-ghost use Rattle.clerk_table.specs.declared.table.Next.the-variants.{Gone, To};
+ghost use Rattle.clerk_table.specs.declared.table.Next.the-variants.{Gone, Same, To};
 ghost use Rattle.clerk_table.specs.declared.table.Starts.the-variants as Starts;
 ghost use Rattle.clerk_table.specs.declared.table.Stops.the-variants as Stops;
 ghost use Rattle.clerk_table.specs.Table.{rule, ruleOf, homeOf, effectOf, holdsIn};
@@ -58,6 +61,8 @@ pub enum Row {
     LineCancels,
     // user's cancel (8.1.1.6 a)
     UserCancels,
+    // the connection fell (8.1.2.5 and 8.2.2.5: document 02, Ask 11); it stays in its state
+    Falls,
     // T1 reported (8.1.2.1; the ccCancel is document 01's)
     T1RunsOut,
     // T2 reported (8.1.2.2; not in Ringout: mend M1)
@@ -66,7 +71,7 @@ pub enum Row {
     T3RunsOut,
 }
 
-// The states in which a row is taken.
+// The states in which a row is taken; where a connection is retained: behind the acknowledgment, and the choice is RET.
 pub enum Home {
     InWaitAck,
     InInvoked,
@@ -74,12 +79,14 @@ pub enum Home {
     InRingout,
     InSuspended,
     WhereT2Counts,
+    WhereRetained,
     Always,
 }
 
-// What becomes of the record.
+// What becomes of the record: deleted, in the state that it is in, or on to a state.
 pub enum Next {
     Gone,
+    Same,
     To(State),
 }
 
@@ -105,6 +112,8 @@ pub enum Stops {
 pub struct Effect {
     pub next: Next,
     pub kind: Becomes,
+    // the mark "connection down" is set
+    pub falls: bool,
     pub sends: Sends,
     pub starts: Starts,
     pub stops: Stops,
@@ -129,11 +138,12 @@ fn goes(
     stops: Stops,
     notice: Notice,
 ) -> Rule
-    ensures { λ r. ⌜ r ≡ rule home (To state) kind sends starts stops notice false ⌝ }
+    ensures { λ r. ⌜ r ≡ rule home (To state) kind false sends starts stops notice false ⌝ }
 {
     let effect = Effect {
         next: Next::To(state),
         kind,
+        falls: false,
         sends,
         starts,
         stops,
@@ -145,11 +155,12 @@ fn goes(
 
 // The record is deleted, and nothing is sent.
 fn ends(home: Home, notice: Notice, clears: bool) -> Rule
-    ensures { λ r. ⌜ r ≡ rule home Gone Becomes.Nothing Sends.Nothing Starts.Nothing Stops.Running notice clears ⌝ }
+    ensures { λ r. ⌜ r ≡ rule home Gone Becomes.Nothing false Sends.Nothing Starts.Nothing Stops.Running notice clears ⌝ }
 {
     let effect = Effect {
         next: Next::Gone,
         kind: Becomes::Nothing,
+        falls: false,
         sends: Sends::Nothing,
         starts: Starts::Nothing,
         stops: Stops::Running,
@@ -161,11 +172,12 @@ fn ends(home: Home, notice: Notice, clears: bool) -> Rule
 
 // The record is deleted, and a ccCancel is sent.
 fn cancels(home: Home, notice: Notice, clears: bool) -> Rule
-    ensures { λ r. ⌜ r ≡ rule home Gone Becomes.Nothing (Sends.One CcCancel) Starts.Nothing Stops.Running notice clears ⌝ }
+    ensures { λ r. ⌜ r ≡ rule home Gone Becomes.Nothing false (Sends.One CcCancel) Starts.Nothing Stops.Running notice clears ⌝ }
 {
     let effect = Effect {
         next: Next::Gone,
         kind: Becomes::Nothing,
+        falls: false,
         sends: Sends::One(Body::CcCancel),
         starts: Starts::Nothing,
         stops: Stops::Running,
@@ -173,6 +185,26 @@ fn cancels(home: Home, notice: Notice, clears: bool) -> Rule
         clears,
     };
     Rule { home, effect }
+}
+
+// The mark "connection down" is set; the record stays in its state.
+fn falls() -> Rule
+    ensures { λ r. ⌜ r ≡ rule WhereRetained Same Becomes.Nothing true Sends.Nothing Starts.Nothing Stops.Nothing Silent false ⌝ }
+{
+    let effect = Effect {
+        next: Next::Same,
+        kind: Becomes::Nothing,
+        falls: true,
+        sends: Sends::Nothing,
+        starts: Starts::Nothing,
+        stops: Stops::Nothing,
+        notice: Notice::Silent,
+        clears: false,
+    };
+    Rule {
+        home: Home::WhereRetained,
+        effect,
+    }
 }
 
 // The table: where a row is taken, and what it does.
@@ -260,6 +292,7 @@ pub fn rule_of(row: Row) -> Rule
         Row::NotMatched => ends(Home::InRingout, Notice::Failed, false),
         Row::LineCancels => ends(Home::Always, Notice::Failed, true),
         Row::UserCancels => cancels(Home::Always, Notice::Cancelled, true),
+        Row::Falls => falls(),
         Row::T1RunsOut => cancels(Home::InWaitAck, Notice::Failed, false),
         Row::T2RunsOut => cancels(Home::WhereT2Counts, Notice::Failed, false),
         Row::T3RunsOut => cancels(Home::InWaitAnswer, Notice::Failed, false),
@@ -282,9 +315,9 @@ pub fn effect_of(row: Row) -> Effect
     rule.effect
 }
 
-// Whether a row is taken in a state.
-pub fn holds_in(home: Home, state: State) -> bool
-    ensures { λ r. ⌜ r ≡ holdsIn home state ⌝ }
+// Whether a row is taken in a state, and for a connection choice.
+pub fn holds_in(home: Home, state: State, connection: Connection) -> bool
+    ensures { λ r. ⌜ r ≡ holdsIn home state connection ⌝ }
 {
     match home {
         Home::InWaitAck => match state {
@@ -334,6 +367,18 @@ pub fn holds_in(home: Home, state: State) -> bool
             State::WaitAnswer => true,
             State::Ringout => false,
             State::Suspended => true,
+        },
+        Home::WhereRetained => match connection {
+            Connection::Empty => false,
+            Connection::Ret => match state {
+                State::Free => false,
+                State::WaitAck => false,
+                State::Invoked => true,
+                State::WaitAnswer => true,
+                State::Ringout => true,
+                State::Suspended => true,
+            },
+            Connection::Rls => false,
         },
         Home::Always => match state {
             State::Free => false,

@@ -1,4 +1,4 @@
--- Document 01, "Messages and carriers", last column, with mend M5 (clause 8.2.1.6): the carriers that a type is received in, and the one it is sent in.
+-- Document 01, "Messages and carriers", last column, with mend M5 (clause 8.2.1.6) and document 02, Ask 11: the carriers that a type is received in, and the one it is sent in.
 use mathlib.Core.Bool.{Bool, true, false}
 use Rattle.message.specs.declared.Carrier.{Carrier}
 use Rattle.message.specs.declared.Carrier.the-variants as C
@@ -7,7 +7,7 @@ use Rattle.message.specs.declared.Body.the-variants.{CcbsRequest, CcnrRequest, 
 use Rattle.desk.specs.declared.Connection.{Connection}
 use Rattle.desk.specs.declared.Connection.the-variants.{Empty, Ret, Rls}
 use Rattle.desk.specs.declared.carriers.Allowed.{Allowed}
-use Rattle.desk.specs.declared.carriers.Allowed.the-variants.{Setup, ReleaseComplete, Facility, ConnectOrReleaseComplete, SetupOrReleaseComplete, FacilityOrSetup, AlertingOrConnect}
+use Rattle.desk.specs.declared.carriers.Allowed.the-variants.{Setup, ReleaseComplete, FacilityOrReleased, ConnectOrReleaseComplete, SetupOrReleaseComplete, FacilityOrSetup, AlertingOrConnect}
 
 -- by the connection choice; before the acknowledgment no row asks for it
 abbrev pub byConnection : {A : Type 0} → Connection → A → A → A
@@ -15,16 +15,17 @@ byConnection Empty retained released = released
 byConnection Ret retained released = retained
 byConnection Rls retained released = released
 
--- 8.1.1.3 to 8.1.1.6, 8.1.2.4, 8.2.1.3 to 8.2.1.7, 8.2.2.1, 8.2.2.3
+-- 8.1.1.3 to 8.1.1.6, 8.1.2.4, 8.2.1.3 to 8.2.1.7, 8.2.2.1, 8.2.2.3. For a record that is RET either carrier is taken, that of RET and that of RLS: the other end may
+-- have seen the connection fall first (Ask 11)
 abbrev pub allowedFor : Body → Connection → Allowed
 allowedFor (CcbsRequest service flags) connection = Setup
 allowedFor (CcnrRequest service flags) connection = Setup
 allowedFor (RequestResult keep) connection = ConnectOrReleaseComplete
 allowedFor (RequestError error) connection = ReleaseComplete
-allowedFor CcExecPossible connection = byConnection connection Facility Setup
+allowedFor CcExecPossible connection = byConnection connection FacilityOrSetup Setup
 allowedFor CcRingout connection = Setup
 allowedFor (RingoutError error) connection = ReleaseComplete
-allowedFor CcSuspend connection = byConnection connection Facility ConnectOrReleaseComplete
+allowedFor CcSuspend connection = byConnection connection FacilityOrReleased ConnectOrReleaseComplete
 allowedFor CcResume connection = byConnection connection FacilityOrSetup Setup
 allowedFor CcCancel connection = SetupOrReleaseComplete
 allowedFor CallAlerts connection = AlertingOrConnect
@@ -41,11 +42,11 @@ takes ReleaseComplete C.Connect = false
 takes ReleaseComplete C.Facility = false
 takes ReleaseComplete C.ReleaseComplete = true
 takes ReleaseComplete C.Alerting = false
-takes Facility C.Setup = false
-takes Facility C.Connect = false
-takes Facility C.Facility = true
-takes Facility C.ReleaseComplete = false
-takes Facility C.Alerting = false
+takes FacilityOrReleased C.Setup = false
+takes FacilityOrReleased C.Connect = true
+takes FacilityOrReleased C.Facility = true
+takes FacilityOrReleased C.ReleaseComplete = true
+takes FacilityOrReleased C.Alerting = false
 takes ConnectOrReleaseComplete C.Setup = false
 takes ConnectOrReleaseComplete C.Connect = true
 takes ConnectOrReleaseComplete C.Facility = false
@@ -69,6 +70,13 @@ takes AlertingOrConnect C.Alerting = true
 
 unfoldable pub carrierFits : Body → Connection → Carrier → Bool
 carrierFits body connection carrier = takes (allowedFor body connection) carrier
+
+-- a record whose retained connection fell sends by the carriers of RLS; its connection choice stays
+abbrev pub sendsAs : Connection → Bool → Connection
+sendsAs Empty down = Empty
+sendsAs Ret true = Rls
+sendsAs Ret false = Ret
+sendsAs Rls down = Rls
 
 -- a ccCancel goes in Release Complete for RET or before the acknowledgment, in Setup for RLS (8.1.1.6 a, 8.2.1.7 b)
 abbrev pub cancelIn : Connection → Carrier

@@ -4,13 +4,14 @@ use crate::Connection;
 use message::Body;
 use message::Carrier;
 ghost use mathlib.Core.Path.{_≡_};
-ghost use Rattle.desk.specs.Carriers.{allowedFor, byConnection, takes, carrierFits, cancelIn, sentIn};
+ghost use Rattle.desk.specs.Carriers.{allowedFor, byConnection, takes, carrierFits, sendsAs, cancelIn, sentIn};
 
 // The carriers that a type may be received in.
 pub enum Allowed {
     Setup,
     ReleaseComplete,
-    Facility,
+    // Facility, or one that RLS is received in, Release Complete or Connect
+    FacilityOrReleased,
     ConnectOrReleaseComplete,
     SetupOrReleaseComplete,
     FacilityOrSetup,
@@ -41,12 +42,12 @@ fn allowed_for(body: Body, connection: Connection) -> Allowed
         } => Allowed::Setup,
         Body::RequestResult { keep: _ } => Allowed::ConnectOrReleaseComplete,
         Body::RequestError { error: _ } => Allowed::ReleaseComplete,
-        Body::CcExecPossible => allowed_by(connection, Allowed::Facility, Allowed::Setup),
+        Body::CcExecPossible => allowed_by(connection, Allowed::FacilityOrSetup, Allowed::Setup),
         Body::CcRingout => Allowed::Setup,
         Body::RingoutError { error: _ } => Allowed::ReleaseComplete,
         Body::CcSuspend => allowed_by(
             connection,
-            Allowed::Facility,
+            Allowed::FacilityOrReleased,
             Allowed::ConnectOrReleaseComplete,
         ),
         Body::CcResume => allowed_by(connection, Allowed::FacilityOrSetup, Allowed::Setup),
@@ -74,11 +75,11 @@ fn takes_carrier(allowed: Allowed, carrier: Carrier) -> bool
             Carrier::ReleaseComplete => true,
             Carrier::Alerting => false,
         },
-        Allowed::Facility => match carrier {
+        Allowed::FacilityOrReleased => match carrier {
             Carrier::Setup => false,
-            Carrier::Connect => false,
+            Carrier::Connect => true,
             Carrier::Facility => true,
-            Carrier::ReleaseComplete => false,
+            Carrier::ReleaseComplete => true,
             Carrier::Alerting => false,
         },
         Allowed::ConnectOrReleaseComplete => match carrier {
@@ -136,6 +137,22 @@ fn cancel_in(connection: Connection) -> Carrier
         Connection::Empty => Carrier::ReleaseComplete,
         Connection::Ret => Carrier::ReleaseComplete,
         Connection::Rls => Carrier::Setup,
+    }
+}
+
+// The connection choice by whose carriers a record sends: once its retained connection fell, by those of RLS.
+pub fn sends_as(connection: Connection, down: bool) -> Connection
+    ensures { λ r. ⌜ r ≡ sendsAs connection down ⌝ }
+{
+    match connection {
+        Connection::Empty => Connection::Empty,
+        Connection::Ret => {
+            if down {
+                return Connection::Rls;
+            }
+            Connection::Ret
+        }
+        Connection::Rls => Connection::Rls,
     }
 }
 

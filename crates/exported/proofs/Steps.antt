@@ -136,7 +136,8 @@ module _ (w : World) (out : List ℕ) where
       pick-elim (ActIn identifier) (eqb number 1) (λ t. act-in identifier ClerkAct.Accept)
       (λ f. pick-elim (ActIn identifier) (eqb number 2) (λ t. act-in identifier ClerkAct.Resume)
       (λ f. pick-elim (ActIn identifier) (eqb number 3) (λ t. act-in identifier ClerkAct.GoOn)
-      (λ f. pick-elim (ActIn identifier) (eqb number 4) (λ t. act-in identifier ClerkAct.Cancel) (λ f. (ClerkAct.Cancel, refused 2 Nothing)))))
+      (λ f. pick-elim (ActIn identifier) (eqb number 4) (λ t. act-in identifier ClerkAct.Cancel)
+      (λ f. pick-elim (ActIn identifier) (eqb number 5) (λ t. act-in identifier ClerkAct.Fell) (λ f. (ClerkAct.Cancel, refused 2 Nothing))))))
 
   abbrev TimerIn : List ℕ → ClerkEntries.Entry → Type 0
   TimerIn identifier entry = (timer : Timer) × ClerkIn (clerkDoes (AtClerk.Timer (wordsOf identifier) timer)) entry
@@ -181,7 +182,8 @@ module _ (w : World) (out : List ℕ) where
   line-acting identifier number =
       pick-elim (LineActIn identifier) (eqb number 1) (λ t. line-act-in identifier LineAct.Alerted)
       (λ f. pick-elim (LineActIn identifier) (eqb number 2) (λ t. line-act-in identifier LineAct.CallFailed)
-      (λ f. pick-elim (LineActIn identifier) (eqb number 3) (λ t. line-act-in identifier LineAct.Cancel) (λ f. (LineAct.Cancel, refused 2 Nothing))))
+      (λ f. pick-elim (LineActIn identifier) (eqb number 3) (λ t. line-act-in identifier LineAct.Cancel)
+      (λ f. pick-elim (LineActIn identifier) (eqb number 4) (λ t. line-act-in identifier LineAct.Fell) (λ f. (LineAct.Cancel, refused 2 Nothing)))))
 
   guarding : (identifier : List ℕ) → LineIn (lineDoes (AtLine.Guard (wordsOf identifier))) (LineEntry.guardEntry identifier)
   unfolding LineEntry.guardEntry Line.entered next

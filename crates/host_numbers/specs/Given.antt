@@ -20,14 +20,15 @@ use Rattle.line.specs.declared.entry.Entry as Line
 use Rattle.line.specs.declared.entry.Entry.the-variants as LineEntered
 use Rattle.host_numbers.specs.Messages.{least}
 
--- User A's acts: 1 accept, 2 resume, 3 go on to recall, 4 cancel
+-- acts at the clerk's end: User A's 1 accept, 2 resume, 3 go on to recall, 4 cancel; 5 the connection fell
 unfoldable pub clerkActGiven : List ℕ → ℕ → Clerk.Entry
 clerkActGiven identifier number =
     pick (eqb number 1) (ClerkEntry.actEntry identifier ClerkAct.Accept)
     (pick (eqb number 2) (ClerkEntry.actEntry identifier ClerkAct.Resume)
     (pick (eqb number 3) (ClerkEntry.actEntry identifier ClerkAct.GoOn)
     (pick (eqb number 4) (ClerkEntry.actEntry identifier ClerkAct.Cancel)
-    (ClerkEntered.Refused 2))))
+    (pick (eqb number 5) (ClerkEntry.actEntry identifier ClerkAct.Fell)
+    (ClerkEntered.Refused 2)))))
 
 -- timers that run out at the clerk's end: 1 T1, 2 T2, 3 T3
 unfoldable pub timerGiven : List ℕ → ℕ → Clerk.Entry
@@ -37,13 +38,14 @@ timerGiven identifier number =
     (pick (eqb number 3) (ClerkEntry.timerEntry identifier T3)
     (ClerkEntered.Refused 2)))
 
--- acts at the line's end: 1 alerted, 2 call failed, 3 cancel
+-- acts at the line's end: 1 alerted, 2 call failed, 3 cancel, 4 the connection fell
 unfoldable pub lineActGiven : List ℕ → ℕ → Line.Entry
 lineActGiven identifier number =
     pick (eqb number 1) (LineEntry.actEntry identifier LineAct.Alerted)
     (pick (eqb number 2) (LineEntry.actEntry identifier LineAct.CallFailed)
     (pick (eqb number 3) (LineEntry.actEntry identifier LineAct.Cancel)
-    (LineEntered.Refused 2)))
+    (pick (eqb number 4) (LineEntry.actEntry identifier LineAct.Fell)
+    (LineEntered.Refused 2))))
 
 -- a word, 0 no or 1 yes
 abbrev pub isWord : ℕ → Bool

@@ -11,17 +11,17 @@ use Rattle.line_table.specs.declared.record.Record as LineRecord
 use Rattle.line_table.specs.declared.line.Line.{Line}
 use Rattle.line_records.specs.Codes as LineCodes
 
--- ---- kind, service, can-keep, keep, connection, state, activity mark, suspended mark
-abbrev pub recordNumbers : Terms → Bool → ℕ → Bool → Bool → List ℕ
-recordNumbers t canKeep state active suspended =
-    kindCode (t .kind) ∷ t .service ∷ flagCode canKeep ∷ keepCode (t .keep) ∷ connectionCode (t .connection) ∷ state ∷ flagCode active ∷ flagCode suspended ∷ []
+-- ---- kind, service, can-keep, keep, connection, state, activity mark, suspended mark, connection down
+abbrev pub recordNumbers : Terms → Bool → ℕ → Bool → Bool → Bool → List ℕ
+recordNumbers t canKeep state active suspended down =
+    kindCode (t .kind) ∷ t .service ∷ flagCode canKeep ∷ keepCode (t .keep) ∷ connectionCode (t .connection) ∷ state ∷ flagCode active ∷ flagCode suspended ∷ flagCode down ∷ []
 
--- a clerk's record has no marks, a line's no can-keep
+-- a clerk's record has the last mark alone, a line's no can-keep
 abbrev pub clerkNumbers : ClerkRecord.Record → List ℕ
-clerkNumbers r = recordNumbers (r .terms) (r .canKeep) (ClerkCodes.stateCode (r .state)) false false
+clerkNumbers r = recordNumbers (r .terms) (r .canKeep) (ClerkCodes.stateCode (r .state)) false false (r .down)
 
 abbrev pub lineNumbers : LineRecord.Record → List ℕ
-lineNumbers r = recordNumbers (r .terms) false (LineCodes.stateCode (r .state)) (r .active) (r .suspended)
+lineNumbers r = recordNumbers (r .terms) false (LineCodes.stateCode (r .state)) (r .active) (r .suspended) (r .down)
 
 -- ---- a line's kinds: 1 CCBS + 2 CCNR
 abbrev pub kindsNumber : Line → ℕ

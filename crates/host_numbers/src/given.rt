@@ -19,7 +19,7 @@ use terms::codes::kind_of;
 ghost use mathlib.Core.Path.{_≡_};
 ghost use Rattle.host_numbers.specs.Given.{clerkActGiven, timerGiven, lineActGiven, reportGiven, askWords, askingOf, askGiven, clerkBytesGiven};
 
-// User A's act, by its number.
+// An act at the clerk's end, by its number.
 pub fn clerk_act_given(identifier: [u8; 16], number: u64) -> ClerkEntry
     ensures { λ r. ⌜ r ≡ clerkActGiven identifier number ⌝ }
 {
@@ -28,6 +28,7 @@ pub fn clerk_act_given(identifier: [u8; 16], number: u64) -> ClerkEntry
         2 => clerk_act_entry(identifier, ClerkAct::Resume),
         3 => clerk_act_entry(identifier, ClerkAct::GoOn),
         4 => clerk_act_entry(identifier, ClerkAct::Cancel),
+        5 => clerk_act_entry(identifier, ClerkAct::Fell),
         _ => ClerkEntry::Refused(2),
     }
 }
@@ -52,6 +53,7 @@ pub fn line_act_given(identifier: [u8; 16], number: u64) -> LineEntry
         1 => line_act_entry(identifier, LineAct::Alerted),
         2 => line_act_entry(identifier, LineAct::CallFailed),
         3 => line_act_entry(identifier, LineAct::Cancel),
+        4 => line_act_entry(identifier, LineAct::Fell),
         _ => LineEntry::Refused(2),
     }
 }

@@ -15,7 +15,7 @@ ghost use Rattle.lists.specs.Words.{bytesOf};
 ghost use Rattle.host_numbers.specs.Shown.{recordNumbers, clerkNumbers, lineNumbers, kindsNumber};
 
 // How many numbers a host is shown of a record.
-pub const NUMBERS: usize = 8;
+pub const NUMBERS: usize = 9;
 
 // The identifier and the two numbers of digits.
 pub fn show_names(
@@ -34,15 +34,16 @@ pub fn show_names(
     *numberB = bytes_of(b);
 }
 
-// Kind, service, can-keep, keep, connection, state, and the two marks of a record.
+// Kind, service, can-keep, keep, connection, state, and the three marks of a record: active, suspended, connection down.
 fn record_numbers(
     terms: Terms,
     canKeep: bool,
     state: u64,
     active: bool,
     suspended: bool,
+    down: bool,
 ) -> [u64; NUMBERS]
-    ensures { λ q. ⌜ q ≡ recordNumbers terms canKeep state active suspended ⌝ }
+    ensures { λ q. ⌜ q ≡ recordNumbers terms canKeep state active suspended down ⌝ }
 {
     let kind = terms.kind;
     let keep = terms.keep;
@@ -53,17 +54,18 @@ fn record_numbers(
     let c = connection_code(connection);
     let a = flag_code(active);
     let s = flag_code(suspended);
-    [k, terms.service, can, kept, c, state, a, s]
+    let d = flag_code(down);
+    [k, terms.service, can, kept, c, state, a, s, d]
 }
 
-// A clerk's record has no marks.
+// A clerk's record has the last mark alone.
 pub fn clerk_numbers(r: ClerkRecord) -> [u64; NUMBERS]
     ensures { λ q. ⌜ q ≡ clerkNumbers r ⌝ }
 {
     let terms = r.terms;
     let state = r.state;
     let code = clerk_state_code(state);
-    record_numbers(terms, r.canKeep, code, false, false)
+    record_numbers(terms, r.canKeep, code, false, false, r.down)
 }
 
 // A line's record has no can-keep.
@@ -73,7 +75,7 @@ pub fn line_numbers(r: LineRecord) -> [u64; NUMBERS]
     let terms = r.terms;
     let state = r.state;
     let code = line_state_code(state);
-    record_numbers(terms, false, code, r.active, r.suspended)
+    record_numbers(terms, false, code, r.active, r.suspended, r.down)
 }
 
 // 1 CCBS + 2 CCNR.

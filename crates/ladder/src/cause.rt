@@ -30,8 +30,10 @@ fn put_cause_words(page: Page, entry: usize) -> Page {
  User A accepts
  User A cancels
  T2 runs out
+ the connection fell
  the phone rings
  the house withdraws
+ the connection fell
 line 41180 is busy
 line 41180 is free
 Look at line 41180

@@ -12,30 +12,34 @@ pub const CANCEL: u8 = 3;
 
 pub const T2: u8 = 4;
 
-pub const ALERTED: u8 = 5;
+pub const CLERK_FELL: u8 = 5;
 
-pub const WITHDRAW: u8 = 6;
+pub const ALERTED: u8 = 6;
+
+pub const WITHDRAW: u8 = 7;
+
+pub const LINE_FELL: u8 = 8;
 
 // About a line, by the first two digits of its number.
-pub const BUSY: u8 = 7;
+pub const BUSY: u8 = 9;
 
-pub const FREE: u8 = 8;
+pub const FREE: u8 = 10;
 
-pub const LOOK: u8 = 9;
+pub const LOOK: u8 = 11;
 
 // A message that no desk sent, by its tag.
-pub const STRAY: u8 = 10;
+pub const STRAY: u8 = 12;
 
 // A wire delivers its first message.
-pub const CLERK_HEARS: u8 = 11;
+pub const CLERK_HEARS: u8 = 13;
 
-pub const LINE_HEARS: u8 = 12;
+pub const LINE_HEARS: u8 = 14;
 
 // Both desks are printed.
-pub const RECORDS: u8 = 13;
+pub const RECORDS: u8 = 15;
 
 // A line of the narration, by its number.
-pub const SAY: u8 = 14;
+pub const SAY: u8 = 16;
 
 // An event at an end, the clerk's or the line's. One of a prelude is not seen.
 pub struct Event {

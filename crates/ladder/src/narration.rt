@@ -26,6 +26,9 @@ pub fn say(number: usize) {
 * A late reply for #12. Request #34 stands in Ringout, the very state that such a reply is for.
 * Two forged replies: one for a request that nobody made, and a second result for #34.
 * Nothing has touched #34: its call goes through.
+* The connection falls while the request waits. The house's end sees it, the clerk's not yet.
+* The line clears. The house rings back all the same, over a new connection.
+* Now the clerk's end sees it too. User A accepts, and the call gets through.
 ",
         number,
     );
@@ -38,7 +41,7 @@ fn frame(number: usize) {
 ====================================================================================================
 CLERK'S DESK (User A)         |               THE WIRES              | LINE DESK (User B)
 ------------------------------+--------------------------------------+------------------------------
-TOLLHERRING: THREE LESSONS IN FOUR SCENES
+TOLLHERRING: THREE LESSONS IN FIVE SCENES
 A clerk finds a house's line busy and asks to be rung back. #34 is the request for a group of 34.
 A message is sent: o---...   It arrives: ...--->   No desk sent it: ...---?   Its carrier is in [ ].
 States, timers, notices and refusals are the desks' own. A scene says which messages it forges.
@@ -58,6 +61,10 @@ Scene 4. A stray reply
 Replies arrive that no request is waiting for, at a desk that holds a live request.
 LESSON 3. A stray reply must never touch the nearest request. A record is found by its identifier
 and by nothing else.
+Scene 5. The connection falls
+Both ends keep a connection for the request, and it falls. Nobody cancels anything.
+LESSON 1, ONCE MORE. A connection is not the request. What both ends have stored outlives it, and
+whichever end sees the fall first, the other takes its messages.
 ",
         number,
     );

@@ -9,11 +9,12 @@ use printing::Page;
 use printing::blank_page;
 use printing::put_entry;
 
-// What is shown of a record: its tag, the entry of its state (`NO_RECORD` where the place is not used), and its keep choice by its code.
+// What is shown of a record: its tag, the entry of its state (`NO_RECORD` where the place is not used), its keep choice by its code, and 1 where its connection is down.
 pub struct Shown {
     pub tag: u8,
     pub state: usize,
     pub keep: usize,
+    pub down: usize,
 }
 
 // The record of a desk's place. A desk without any says so in the first row.
@@ -21,14 +22,15 @@ fn put_record(page: Page, i: usize, shown: Shown) -> Page {
     if shown.state == NO_RECORD {
         return put_entry(page, b"no record\n", i);
     }
-    put_entry(
+    let kept = put_entry(
         put_state(put_tag(page, shown.tag), b" ", shown.state),
         b", keep -
 , keep 0
 , keep 1
 ",
         shown.keep,
-    )
+    );
+    put_entry(kept, b"\n, down\n", shown.down)
 }
 
 // The row of one place of both desks: the first one, and behind it only those that a desk uses.

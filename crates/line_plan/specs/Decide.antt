@@ -41,7 +41,7 @@ abbrev pub lineMost : ℕ
 lineMost = 5
 
 abbrev pub holdsFor : Row → Record → Bool
-holdsFor row r = holdsIn (homeOf row) (r .state)
+holdsFor row r = holdsIn (homeOf row) (r .state) (r .terms .connection)
 
 -- ---- messages about a record: 6, 7, 8
 -- whether the line of a number can take a call; the number of a record is a line's on every desk that is reached

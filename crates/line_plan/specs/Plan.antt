@@ -39,6 +39,7 @@ newRecord ws names q busy =
       state = Invoked;
       active = busy;
       suspended = false;
+      down = false;
     }
 
 -- the record is put, the result is sent, the guard starts

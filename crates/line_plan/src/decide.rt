@@ -47,7 +47,9 @@ fn holds_for(row: Row, r: Record) -> bool
 {
     let home = home_of(row);
     let state = r.state;
-    holds_in(home, state)
+    let agreed = r.terms;
+    let connection = agreed.connection;
+    holds_in(home, state, connection)
 }
 
 // Whether the line of a number can take a call.

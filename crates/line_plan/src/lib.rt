@@ -59,6 +59,7 @@ fn new_record(words: &[u64; WORDS], names: Names, q: Request, busy: bool) -> Rec
         state: State::Invoked,
         active: busy,
         suspended: false,
+        down: false,
     }
 }
 

@@ -22,7 +22,8 @@ use Rattle.terms.specs.Terms.{kindAt, termsOf}
 use Rattle.terms.proofs.CodesLaws.{flag-back}
 use Rattle.terms.proofs.TermsLaws.{terms-back, terms-front, word-from, terms-kind}
 use Rattle.line_table.specs.Record.{turned}
-use Rattle.line_table.specs.Search.{inUse, used}
+use Rattle.line_table.specs.Table.{inUse}
+use Rattle.line_table.specs.Search.{used}
 use Rattle.line_table.specs.declared.table.State.{State}
 use Rattle.line_table.specs.declared.table.State.the-variants.{Free, Invoked, Await, Alert}
 use Rattle.line_table.specs.declared.record.Record.{Record}
@@ -41,7 +42,7 @@ state-back Alert = refl
 
 pub record-back : (r : Record) → recordOf (recordWords r) ≡ r
 unfolding recordOf
-record-back r = rw (terms-back (r .terms), state-back (r .state), flag-back (r .active), flag-back (r .suspended))
+record-back r = rw (terms-back (r .terms), state-back (r .state), flag-back (r .active), flag-back (r .suspended), flag-back (r .down))
 
 pub record-front : (row : List ℕ) → recordOf (take Layout.width row) ≡ recordOf row
 unfolding recordOf
@@ -52,6 +53,7 @@ record-front row =
       same Terms.width (omega arith),
       same Layout.activeAt (omega arith),
       same Layout.suspendedAt (omega arith),
+      same Layout.downAt (omega arith),
     )
 
 record-turned :
@@ -60,7 +62,7 @@ unfolding recordOf
 record-turned t row long =
     let words = over (turnedWords t) (drop kindAt row) in
     let new = word-from kindAt row words (omega arith) in
-    rw (terms-kind row _ (t .kind) (omega arith), new 1, new 2, new 3, state-back (t .state), flag-back (t .active), flag-back (t .suspended))
+    rw (terms-kind row _ (t .kind) (omega arith), new 1, new 2, new 3, new 4, state-back (t .state), flag-back (t .active), flag-back (t .suspended), flag-back (t .down))
 
 blank-row : recordOf (blankRow Layout.width) ≡ blank
 unfolding recordOf termsOf

@@ -2,15 +2,18 @@
 use Prim.Native.Nat.{ℕ, _+_, _*_}
 use Rattle.terms.specs.Terms as Terms
 
--- ---- a record: its terms, its state, the activity mark, the suspended mark
+-- ---- a record: its terms, its state, the activity mark, the suspended mark, the mark "connection down"
 abbrev pub activeAt : ℕ
 activeAt = Terms.width + 1
 
 abbrev pub suspendedAt : ℕ
 suspendedAt = Terms.width + 2
 
+abbrev pub downAt : ℕ
+downAt = Terms.width + 3
+
 abbrev pub width : ℕ
-width = Terms.width + 3
+width = Terms.width + 4
 
 abbrev pub places : ℕ
 places = 32

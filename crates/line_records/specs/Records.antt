@@ -16,7 +16,7 @@ use Rattle.line_table.specs.Search.{used}
 use Rattle.line_table.specs.declared.table.State.{State}
 use Rattle.line_table.specs.declared.record.Record.{Record}
 use Rattle.line_table.specs.declared.record.Turned.{Turned}
-use Rattle.line_records.specs.Layout.{activeAt, suspendedAt, width, places}
+use Rattle.line_records.specs.Layout.{activeAt, suspendedAt, downAt, width, places}
 use Rattle.line_records.specs.Codes.{stateOf, stateCode}
 
 -- a row of words as a record
@@ -27,18 +27,19 @@ recordOf row =
       state = stateOf (stateWord row);
       active = eqb (getD row activeAt 0) 1;
       suspended = eqb (getD row suspendedAt 0) 1;
+      down = eqb (getD row downAt 0) 1;
     }
 
 -- a record as a row of words: its terms, and behind them its state and its marks
-abbrev pub stateWords : State → Bool → Bool → List ℕ
-stateWords state active suspended = stateCode state ∷ flagCode active ∷ flagCode suspended ∷ []
+abbrev pub stateWords : State → Bool → Bool → Bool → List ℕ
+stateWords state active suspended down = stateCode state ∷ flagCode active ∷ flagCode suspended ∷ flagCode down ∷ []
 
 abbrev pub recordWords : Record → List ℕ
-recordWords r = termsWords (r .terms) ++ stateWords (r .state) (r .active) (r .suspended)
+recordWords r = termsWords (r .terms) ++ stateWords (r .state) (r .active) (r .suspended) (r .down)
 
 -- the words of a row that a turn puts anew, from the kind on, which stands last in the terms
 abbrev pub turnedWords : Turned → List ℕ
-turnedWords t = kindCode (t .kind) ∷ stateWords (t .state) (t .active) (t .suspended)
+turnedWords t = kindCode (t .kind) ∷ stateWords (t .state) (t .active) (t .suspended) (t .down)
 
 -- what a free place holds, and what is read past the last
 abbrev pub blank : Record

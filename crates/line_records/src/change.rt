@@ -30,6 +30,7 @@ fn mark_place(words: &mut [u64; WORDS], i: usize, number: Words)
             state,
             active: true,
             suspended: r.suspended,
+            down: r.down,
         };
         turn_record(words, i, activity);
     }

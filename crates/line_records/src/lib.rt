@@ -6,14 +6,16 @@ pub mod lines;
 pub mod places;
 pub mod search;
 
-// A record: its terms, its state, the activity mark, the suspended mark.
+// A record: its terms, its state, the activity mark, the suspended mark, the mark "connection down".
 const STATE_AT: usize = terms::WIDTH;
 
 const ACTIVE_AT: usize = terms::WIDTH + 1;
 
 const SUSPENDED_AT: usize = terms::WIDTH + 2;
 
-pub const WIDTH: usize = terms::WIDTH + 3;
+const DOWN_AT: usize = terms::WIDTH + 3;
+
+pub const WIDTH: usize = terms::WIDTH + 4;
 
 pub const PLACES: usize = 32;
 

@@ -1,5 +1,6 @@
 // The places of a line desk: a record is found, loaded, put, turned and removed, in words that the caller lends.
 use crate::ACTIVE_AT;
+use crate::DOWN_AT;
 use crate::LAST_STATE;
 use crate::PLACES;
 use crate::STATE_AT;
@@ -37,6 +38,7 @@ fn record_of(row: &[u64]) -> Record
         state,
         active: row[ACTIVE_AT] == 1,
         suspended: row[SUSPENDED_AT] == 1,
+        down: row[DOWN_AT] == 1,
     }
 }
 
@@ -51,6 +53,7 @@ fn turn_words(words: &mut [u64], t: Turned)
     words[1] = state_code(state);
     words[2] = flag_code(t.active);
     words[3] = flag_code(t.suspended);
+    words[4] = flag_code(t.down);
 }
 
 // A record over the front of some words: its terms, and from the kind on, which stands last in them, what a turn would give.
@@ -69,6 +72,7 @@ fn put_words(row: &mut [u64], r: Record)
             state,
             active: r.active,
             suspended: r.suspended,
+            down: r.down,
         },
     );
 }

@@ -147,6 +147,7 @@ status-parts rs ls k busy parts =
             agreed = whole .agreed;
             line = λ e. whole .line (sym (line-status (getD rs i blank .terms .numberB) ls k busy) ∙ e);
             suspension = whole .suspension;
+            fell = whole .fell;
           };
       five = parts .five;
       apart = λ a b n e.
@@ -170,7 +171,7 @@ marking-blank number = refl
 marking-whole : (ls : List Line) (number : Words) (r : Record) → Whole ls r → Whole ls (marking number r)
 marking-whole ls number r whole =
     pick-elim (Whole ls) (marks number r)
-    (λ t. record { agreed = whole .agreed; line = whole .line; suspension = whole .suspension })
+    (λ t. record { agreed = whole .agreed; line = whole .line; suspension = whole .suspension; fell = whole .fell })
     (λ f. whole)
 
 marked-parts : (number : Words) (rs : List Record) (ls : List Line) → Parts rs ls → Parts (map (marking number) rs) ls

@@ -17,6 +17,8 @@ use Rattle.lists.proofs.Lists.{both-parts, first-holds, first-none}
 use Rattle.lists.proofs.WordsLaws.{words-same}
 use Rattle.desk.specs.Carriers.{carrierFits}
 use Rattle.desk.specs.declared.Connection.the-variants as Connection
+use Rattle.desk.specs.declared.Connection.the-variants.{Ret}
+use Rattle.desk.proofs.CarriersLaws.{retained-holds}
 use Rattle.desk.specs.declared.letter.Letter.{Letter}
 use Rattle.desk.specs.declared.sends.Sends.{Sends}
 use Rattle.terms.specs.Request.{letterNames}
@@ -32,11 +34,12 @@ use Rattle.line_table.specs.Inputs.{namesOf, messageFor, rowFor}
 use Rattle.message.specs.declared.Kind.{Kind}
 use Rattle.terms.specs.Terms.{withKind}
 use Rattle.terms.specs.declared.Terms.{Terms}
-use Rattle.line_table.specs.Search.{inUse, used, invoked, ofLine, marks, fitsKind, fits, passes}
+use Rattle.line_table.specs.Table.{inUse}
+use Rattle.line_table.specs.Search.{used, invoked, ofLine, marks, fitsKind, fits, passes}
 use Rattle.line_table.specs.declared.table.State.{State}
 use Rattle.line_table.specs.declared.table.State.the-variants.{Free, Invoked, Await, Alert}
 use Rattle.line_table.specs.declared.table.Row.{Row}
-use Rattle.line_table.specs.declared.table.Row.the-variants.{Offers, Suspends, Resumes, RingsOut, BusyAgainKept, BusyAgainEnded, Alerts, CallFails, ClerkCancels, LineCancels, GuardRunsOut}
+use Rattle.line_table.specs.declared.table.Row.the-variants.{Offers, Suspends, Resumes, RingsOut, BusyAgainKept, BusyAgainEnded, Alerts, CallFails, ClerkCancels, LineCancels, Falls, GuardRunsOut}
 use Rattle.line_table.specs.declared.line.Line.{Line}
 use Rattle.line_table.specs.declared.record.Record.{Record}
 use Rattle.line_table.specs.declared.record.Turned.{Turned}
@@ -65,7 +68,7 @@ pub data Good (ws : List ℕ) : Input → Decision → Type 0 where
   denies : {input : Input} {error : ℕ} → Good ws input (Deny error)
   takes :
       {input : Input} (i : ℕ) (row : Row) → used (getD (records ws) i blank) ≡ true → getD (records ws) i blank .terms .identifier ≡ namesOf input .identifier →
-      Good ws input (Take i row)
+      holdsFor row (getD (records ws) i blank) ≡ true → Good ws input (Take i row)
   offers : {number : Words} (i : ℕ) → used (getD (records ws) i blank) ≡ true → Good ws (Input.Look number) (Take i Offers)
   stores :
       {input : Input} (i : ℕ) (q : Request) (busy : Bool) → place (records ws) ≡ At i → meant (namesOf input .identifier) (records ws) ≡ Nothing →
@@ -88,42 +91,48 @@ module _ (ws : List ℕ) (sound : Sound ws) where
     abbrev its : Record
     its = getD (records ws) i blank
 
-    turn : (t : Turned) → inUse (t .state) ≡ true → (t .suspended ≡ true → t .state ≡ Await) → Turns identifier (Turn t i)
-    turn t is suspension =
+    turn :
+        (t : Turned) → inUse (t .state) ≡ true → (t .suspended ≡ true → t .state ≡ Await) → (t .down ≡ true → its .terms .connection ≡ Ret) → Turns identifier (Turn t i)
+    turn t is suspension fell =
         let whole = sound .each i u in
         record {
           lines-same = refl;
           moves =
               P.turns i (turned t its) u own is own
-              (record { numberB = refl; whole = record { agreed = kind-agreed (t .kind) (whole .agreed); line = whole .line; suspension = suspension } })
+              (record { numberB = refl; whole = record { agreed = kind-agreed (t .kind) (whole .agreed); line = whole .line; suspension = suspension; fell = fell } })
               refl;
         }
 
     remove : Turns identifier (Remove i)
     remove = record { lines-same = refl; moves = P.removes i u own refl }
 
-    turn-row : (row : Row) → Turns identifier (rowTaken i its row .change)
+    offer-row : Turns identifier (rowTaken i its Offers .change)
     unfolding rowTaken
-    turn-row Offers = turn _ refl (λ e. refl)
-    turn-row Suspends = turn _ refl (λ e. refl)
-    turn-row Resumes = turn _ refl (λ e. absurd (no-true e))
-    turn-row RingsOut = turn _ refl (λ e. absurd (no-true e))
-    turn-row BusyAgainKept = turn _ refl (λ e. absurd (no-true e))
-    turn-row BusyAgainEnded = remove
-    turn-row Alerts = remove
-    turn-row CallFails = remove
-    turn-row ClerkCancels = remove
-    turn-row LineCancels = remove
-    turn-row GuardRunsOut = remove
+    offer-row = turn _ refl (λ e. refl) (sound .each i u .fell)
+
+    turn-row : (row : Row) → holdsFor row its ≡ true → Turns identifier (rowTaken i its row .change)
+    unfolding rowTaken
+    turn-row Offers h = offer-row
+    turn-row Suspends h = turn _ refl (λ e. refl) (sound .each i u .fell)
+    turn-row Resumes h = turn _ refl (λ e. absurd (no-true e)) (sound .each i u .fell)
+    turn-row RingsOut h = turn _ refl (λ e. absurd (no-true e)) (sound .each i u .fell)
+    turn-row BusyAgainKept h = turn _ refl (λ e. absurd (no-true e)) (sound .each i u .fell)
+    turn-row BusyAgainEnded h = remove
+    turn-row Alerts h = remove
+    turn-row CallFails h = remove
+    turn-row ClerkCancels h = remove
+    turn-row LineCancels h = remove
+    turn-row Falls h = turn _ u (sound .each i u .suspension) (λ e. retained-holds (its .terms .connection) (inUse (its .state)) h .0)
+    turn-row GuardRunsOut h = remove
 
   pub goes-plan : {input : Input} {decision : Decision} → Good ws input decision → Goes ws input (planOf ws input decision .change)
   unfolding planOf place meant
   goes-plan refuses = named refl (P.stays refl)
   goes-plan denies = named refl (P.stays refl)
-  goes-plan {input} (takes i row u own) = let t = turn-row i (namesOf input .identifier) u own row in named (t .lines-same) (t .moves)
+  goes-plan {input} (takes i row u own h) = let t = turn-row i (namesOf input .identifier) u own row h in named (t .lines-same) (t .moves)
   goes-plan (offers i u) =
       let identifier : Words = getD (records ws) i blank .terms .identifier in
-      let t = turn-row i identifier u refl Offers in
+      let t = offer-row i identifier u refl in
       offered identifier (t .lines-same) (t .moves)
   goes-plan {input} (stores i q busy free new few whole) =
       named refl (P.stores i (newRecord ws (namesOf input) q busy) free new refl refl (record { few = few; whole = whole }) refl)
@@ -149,7 +158,7 @@ module _ (ws : List ℕ) (input : Input) where
   good-own-found row Nothing e = refuses
   good-own-found row (At i) e =
       let own = meant-own (records ws) (namesOf input .identifier) i e in
-      pick-elim (Good ws input) (holdsFor row (getD (records ws) i blank)) (λ h. takes i row (own .0) (own .1)) (λ h. refuses)
+      pick-elim (Good ws input) (holdsFor row (getD (records ws) i blank)) (λ h. takes i row (own .0) (own .1) h) (λ h. refuses)
 
   pub good-own : (row : Row) → Good ws input (ownDecision ws (namesOf input .identifier) row)
   unfolding ownDecision
@@ -220,7 +229,7 @@ module _ (ws : List ℕ) (l : Letter) where
       let r : Record = getD (records ws) i blank in
       let own = meant-own (records ws) (l .identifier) i e in
       pick-elim GoodHere (holdsFor row r)
-      (λ h. pick-elim GoodHere (carrierFits (l .body) (r .terms .connection) (l .carrier)) (λ g. takes i row (own .0) (own .1)) (λ g. refuses))
+      (λ h. pick-elim GoodHere (carrierFits (l .body) (r .terms .connection) (l .carrier)) (λ g. takes i row (own .0) (own .1) h) (λ g. refuses))
       (λ h. refuses)
 
   good-found : (message : RecordMessage) (f : Found) → meant (l .identifier) (records ws) ≡ f → GoodHere (recordFound ws l message f)

@@ -70,7 +70,7 @@ module _ (d : Desk) (number : Words) (full : length (d .words) ≡ Layout.words)
     unfolding planOf rowTaken
     tells-fitting unblocked Nothing e zero = absurd (omega (arith, zero))
     tells-fitting unblocked (At i) e zero =
-        let t : Turned = record { kind = recordAt d i .terms .kind; state = Await; active = recordAt d i .active; suspended = recordAt d i .suspended } in
+        let t : Turned = record { kind = recordAt d i .terms .kind; state = Await; active = recordAt d i .active; suspended = recordAt d i .suspended; down = recordAt d i .down } in
         record {
           place = i;
           line = k;
@@ -126,5 +126,5 @@ oldest-offered = record { offers = look-offers; nothing = look-done }
 pub kept-fits : KeptFits
 unfolding rowTaken
 kept-fits place r =
-    kept (record { kind = Ccbs; state = Invoked; active = true; suspended = false })
+    kept (record { kind = Ccbs; state = Invoked; active = true; suspended = false; down = r .down })
     (λ active. rw (words-same (r .terms .numberB) (r .terms .numberB) refl))

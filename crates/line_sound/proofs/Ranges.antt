@@ -109,6 +109,7 @@ request-whole ws m typed ranged q e busy line =
       };
       line = line;
       suspension = λ e. absurd (no-true e);
+      fell = λ e. absurd (no-true e);
     }
 
 -- ---- a message that is read

@@ -77,11 +77,12 @@ pub record Agreed (t : Terms) : Type 0 where
   pub numberB : digitsInRange 1 (bytesOf (t .numberB)) ≡ true
   pub service : t .service < 16384
 
--- a used record: its line is there, and it is suspended only in Await
+-- a used record: its line is there, it is suspended only in Await, and only a retained connection is marked down
 pub record Whole (ls : List Line) (r : Record) : Type 0 where
   pub agreed : Agreed (r .terms)
   pub line : lineAt (r .terms .numberB) ls ≡ Nothing → ⊥
   pub suspension : r .suspended ≡ true → r .state ≡ Await
+  pub fell : r .down ≡ true → r .terms .connection ≡ Connection.Ret
 
 pub record Sound (words : List ℕ) : Type 0 where
   pub full : length words ≡ Layout.words

@@ -15,7 +15,7 @@ use Rattle.desk.specs.declared.sends.Sends.the-variants as Sends
 use Rattle.terms.specs.Request.{letterNames, onlyIdentifier, onlyLine, canKeepSent}
 use Rattle.terms.specs.declared.request.Names.{Names}
 use Rattle.line_table.specs.declared.table.Row.{Row}
-use Rattle.line_table.specs.declared.table.Row.the-variants.{Suspends, Resumes, RingsOut, BusyAgainKept, BusyAgainEnded, Alerts, CallFails, ClerkCancels, LineCancels}
+use Rattle.line_table.specs.declared.table.Row.the-variants.{Suspends, Resumes, RingsOut, BusyAgainKept, BusyAgainEnded, Alerts, CallFails, ClerkCancels, LineCancels, Falls}
 use Rattle.line_table.specs.declared.inputs.Act.{Act}
 use Rattle.line_table.specs.declared.inputs.Act.the-variants as Act
 use Rattle.line_table.specs.declared.inputs.Input.{Input}
@@ -68,6 +68,7 @@ abbrev pub rowOfAct : Act → Row
 rowOfAct Act.Alerted = Alerts
 rowOfAct Act.CallFailed = CallFails
 rowOfAct Act.Cancel = LineCancels
+rowOfAct Act.Fell = Falls
 
 -- ---- replies on 6 or 7, with the refused message's identifier: ringout error failureToMatch to a ccRingout, ccCancel to a ccResume (8.2.2.2)
 abbrev pub replyMissed : RecordMessage → Sends

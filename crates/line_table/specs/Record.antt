@@ -11,17 +11,17 @@ use Rattle.line_table.specs.declared.record.Change.the-variants.{Stay}
 use Rattle.line_table.specs.declared.record.Plan.{Plan}
 
 abbrev pub withState : Record → State → Record
-withState r state = record { terms = r .terms; state = state; active = r .active; suspended = r .suspended }
+withState r state = record { terms = r .terms; state = state; active = r .active; suspended = r .suspended; down = r .down }
 
 abbrev pub withActivity : Record → Bool → Record
-withActivity r active = record { terms = r .terms; state = r .state; active = active; suspended = r .suspended }
+withActivity r active = record { terms = r .terms; state = r .state; active = active; suspended = r .suspended; down = r .down }
 
 abbrev pub turned : Turned → Record → Record
-turned t r = record { terms = withKind (r .terms) (t .kind); state = t .state; active = t .active; suspended = t .suspended }
+turned t r = record { terms = withKind (r .terms) (t .kind); state = t .state; active = t .active; suspended = t .suspended; down = t .down }
 
 -- what a busy report of its line turns in an Invoked record
 abbrev pub activity : Record → Turned
-activity r = record { kind = r .terms .kind; state = r .state; active = true; suspended = r .suspended }
+activity r = record { kind = r .terms .kind; state = r .state; active = true; suspended = r .suspended; down = r .down }
 
 abbrev pub activated : Record → Record
 activated r = withActivity r true

@@ -8,18 +8,12 @@ use Rattle.message.specs.declared.Kind.{Kind}
 use Rattle.message.specs.declared.Kind.the-variants.{Ccbs, Ccnr}
 use Rattle.desk.specs.Sends.{noNumber}
 use Rattle.terms.specs.declared.request.Names.{Names}
+use Rattle.line_table.specs.Table.{inUse}
 use Rattle.line_table.specs.declared.table.State.{State}
 use Rattle.line_table.specs.declared.table.State.the-variants.{Free, Invoked, Await, Alert}
 use Rattle.line_table.specs.declared.record.Record.{Record}
 use Rattle.line_table.specs.declared.search.Sought.{Sought}
 use Rattle.line_table.specs.declared.search.Sought.the-variants.{Blocking, Fitting, Duplicate}
-
--- a place is used if its record has a state
-abbrev pub inUse : State → Bool
-inUse Free = false
-inUse Invoked = true
-inUse Await = true
-inUse Alert = true
 
 abbrev pub used : Record → Bool
 used r = inUse (r .state)

@@ -17,11 +17,12 @@ use terms::request::only_line;
 ghost use mathlib.Core.Path.{_≡_};
 ghost use Rattle.line_table.specs.Inputs.{namesOf, messageFor, ringoutRow, rowFor, rowOfAct, replyMissed, keepChosen, connectionChosen, keepSent};
 
-// The acts at the line's end.
+// The acts at the line's end. Fell: the retained connection fell.
 pub enum Act {
     Alerted,
     CallFailed,
     Cancel,
+    Fell,
 }
 
 // An input in range: a message; an act, and the guard reported, by the request's identifier; a line reported busy or free, and a Look at a line, by its number.
@@ -122,6 +123,7 @@ pub fn row_of_act(act: Act) -> Row
         Act::Alerted => Row::Alerts,
         Act::CallFailed => Row::CallFails,
         Act::Cancel => Row::LineCancels,
+        Act::Fell => Row::Falls,
     }
 }
 

@@ -18,6 +18,7 @@ pub struct Record {
     pub state: State,
     pub active: bool,
     pub suspended: bool,
+    pub down: bool,
 }
 
 // What a step decides, of its input and the desk: a refusal, by its number, with its reply or none; a request denied by its error, 1 short or 2 long, which stores
@@ -36,6 +37,7 @@ pub struct Turned {
     pub state: State,
     pub active: bool,
     pub suspended: bool,
+    pub down: bool,
 }
 
 // What becomes of the desk: nothing; a new record put at a place; the record of a place turned; the record of a place removed; the status of the line at a place,

@@ -5,7 +5,8 @@ use lists::words::same_words;
 use message::Kind;
 use terms::request::Names;
 ghost use mathlib.Core.Path.{_≡_};
-ghost use Rattle.line_table.specs.Search.{inUse, waits, invoked, fitsKind, given};
+ghost use Rattle.line_table.specs.Table.{inUse};
+ghost use Rattle.line_table.specs.Search.{waits, invoked, fitsKind, given};
 
 // What is looked for: by a line's number, or by whom a request names.
 pub enum Sought {

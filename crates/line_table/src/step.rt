@@ -3,18 +3,20 @@ use crate::record::Change;
 use crate::record::Plan;
 use crate::record::Record;
 use crate::record::Turned;
+use crate::table::Effect;
 use crate::table::Mark;
 use crate::table::Next;
 use crate::table::Row;
+use crate::table::State;
 use crate::table::effect_of;
+use desk::carriers::sends_as;
 use desk::outcome::Timers;
 use desk::outcome::done;
 use desk::outcome::no_timers;
 use desk::sends::sent_for;
-use message::Kind;
 use terms::kind_after;
 ghost use mathlib.Core.Path.{_≡_};
-ghost use Rattle.line_table.specs.Step.{guard, markedBy, changed, stopped, rowTaken};
+ghost use Rattle.line_table.specs.Step.{guard, markedBy, turnedTo, changed, stopped, rowTaken};
 
 // The guard alone.
 pub fn only_guard() -> Timers
@@ -38,20 +40,39 @@ fn marked_by(mark: Mark, before: bool) -> bool
     }
 }
 
-fn changed_to(next: Next, place: usize, kind: Kind, active: bool, suspended: bool) -> Change
-    ensures { λ q. ⌜ q ≡ changed next place kind active suspended ⌝ }
+// What a row turns in a record that goes on in a state.
+fn turned_to(state: State, effect: Effect, r: Record) -> Turned
+    ensures { λ q. ⌜ q ≡ turnedTo state effect r ⌝ }
+{
+    let terms = r.terms;
+    let becomes = effect.kind;
+    let before = terms.kind;
+    let activity = effect.active;
+    let suspension = effect.suspended;
+    let fall = effect.down;
+    let kind = kind_after(becomes, before);
+    let active = marked_by(activity, r.active);
+    let suspended = marked_by(suspension, r.suspended);
+    let down = marked_by(fall, r.down);
+    Turned {
+        kind,
+        state,
+        active,
+        suspended,
+        down,
+    }
+}
+
+fn changed_to(next: Next, effect: Effect, place: usize, r: Record) -> Change
+    ensures { λ q. ⌜ q ≡ changed next effect place r ⌝ }
 {
     match next {
         Next::Gone => Change::Remove(place),
-        Next::To(state) => Change::Turn(
-            Turned {
-                kind,
-                state,
-                active,
-                suspended,
-            },
-            place,
-        ),
+        Next::Same => {
+            let state = r.state;
+            Change::Turn(turned_to(state, effect, r), place)
+        }
+        Next::To(state) => Change::Turn(turned_to(state, effect, r), place),
     }
 }
 
@@ -61,6 +82,7 @@ fn timers_stopped(next: Next) -> Timers
 {
     match next {
         Next::Gone => only_guard(),
+        Next::Same => no_timers(),
         Next::To(_) => no_timers(),
     }
 }
@@ -71,18 +93,12 @@ pub fn take_row(place: usize, r: Record, row: Row) -> Plan
 {
     let effect = effect_of(row);
     let next = effect.next;
-    let becomes = effect.kind;
     let sends = effect.sends;
-    let activity = effect.active;
-    let suspension = effect.suspended;
     let terms = r.terms;
     let identifier = terms.identifier;
-    let connection = terms.connection;
-    let before = terms.kind;
-    let kind = kind_after(becomes, before);
-    let active = marked_by(activity, r.active);
-    let suspended = marked_by(suspension, r.suspended);
-    let change = changed_to(next, place, kind, active, suspended);
+    let chosen = terms.connection;
+    let connection = sends_as(chosen, r.down);
+    let change = changed_to(next, effect, place, r);
     let sending = sent_for(sends, identifier, connection);
     let stops = timers_stopped(next);
     let outcome = done(sending, no_timers(), stops);

@@ -1,13 +1,16 @@
 // The line's table: document 01, "Steps at the line desk", as mended (M5), one row for each of its steps with a record, with the clause of H.450.9 beside it.
 // A row says in which states it is taken and what it does; everything else about the line desk reads it here.
+use desk::Connection;
 use desk::sends::Sends;
 use message::Body;
 use message::Kind;
 use terms::Becomes;
 ghost use mathlib.Core.Path.{_≡_};
 ghost use Rattle.terms.specs.declared.Becomes.the-variants as Becomes;
-ghost use Rattle.line_table.specs.declared.table.Next.the-variants.{Gone, To};
+ghost use Rattle.line_table.specs.declared.table.Next.the-variants.{Gone, Same, To};
+ghost use Rattle.line_table.specs.declared.table.Home.the-variants.{WhereRetained};
 ghost use Rattle.line_table.specs.declared.table.Mark.the-variants as Mark;
+ghost use Rattle.desk.specs.declared.sends.Sends.the-variants as Sends;
 ghost use Rattle.line_table.specs.Table.{rule, ruleOf, homeOf, effectOf, holdsIn};
 
 // Free is a place with no record, CC-Idle; then CC-Invoked-User-B, CC-Await-Call-Completion and CC-Wait-User-B-Alert.
@@ -39,21 +42,25 @@ pub enum Row {
     ClerkCancels,
     // act cancel (8.2.1.7 b): ccCancel; deleted
     LineCancels,
+    // the connection fell (8.2.2.5: document 02, Ask 11): the mark "connection down" is set
+    Falls,
     // guard reported (8.2.1.4, note; 8.2.1.7 b; ours, as 11.4.2 names no timer): ccCancel; deleted
     GuardRunsOut,
 }
 
-// The states in which a row is taken.
+// The states in which a row is taken; where a connection is retained: the choice is RET.
 pub enum Home {
     InInvoked,
     InAwait,
     InAlert,
+    WhereRetained,
     Always,
 }
 
-// What becomes of the record.
+// What becomes of the record: deleted, in the state that it is in, or on to a state.
 pub enum Next {
     Gone,
+    Same,
     To(State),
 }
 
@@ -64,13 +71,14 @@ pub enum Mark {
     Clears,
 }
 
-// What becomes of the record and of its kind, what is sent, and what becomes of its two marks.
+// What becomes of the record and of its kind, what is sent, and what becomes of its three marks.
 pub struct Effect {
     pub next: Next,
     pub kind: Becomes,
     pub sends: Sends,
     pub active: Mark,
     pub suspended: Mark,
+    pub down: Mark,
 }
 
 // A row of the table: where it is taken, and what it does.
@@ -88,7 +96,7 @@ fn goes(
     active: Mark,
     suspended: Mark,
 ) -> Rule
-    ensures { λ r. ⌜ r ≡ rule home (To state) kind sends active suspended ⌝ }
+    ensures { λ r. ⌜ r ≡ rule home (To state) kind sends active suspended Mark.Nothing ⌝ }
 {
     let effect = Effect {
         next: Next::To(state),
@@ -96,13 +104,14 @@ fn goes(
         sends,
         active,
         suspended,
+        down: Mark::Nothing,
     };
     Rule { home, effect }
 }
 
 // The record is deleted.
 fn ends(home: Home, sends: Sends) -> Rule
-    ensures { λ r. ⌜ r ≡ rule home Gone Becomes.Nothing sends Mark.Nothing Mark.Nothing ⌝ }
+    ensures { λ r. ⌜ r ≡ rule home Gone Becomes.Nothing sends Mark.Nothing Mark.Nothing Mark.Nothing ⌝ }
 {
     let effect = Effect {
         next: Next::Gone,
@@ -110,8 +119,27 @@ fn ends(home: Home, sends: Sends) -> Rule
         sends,
         active: Mark::Nothing,
         suspended: Mark::Nothing,
+        down: Mark::Nothing,
     };
     Rule { home, effect }
+}
+
+// The mark "connection down" is set; the record stays in its state.
+fn falls() -> Rule
+    ensures { λ r. ⌜ r ≡ rule WhereRetained Same Becomes.Nothing Sends.Nothing Mark.Nothing Mark.Nothing Mark.Sets ⌝ }
+{
+    let effect = Effect {
+        next: Next::Same,
+        kind: Becomes::Nothing,
+        sends: Sends::Nothing,
+        active: Mark::Nothing,
+        suspended: Mark::Nothing,
+        down: Mark::Sets,
+    };
+    Rule {
+        home: Home::WhereRetained,
+        effect,
+    }
 }
 
 // The table: where a row is taken, and what it does.
@@ -164,6 +192,7 @@ pub fn rule_of(row: Row) -> Rule
         Row::CallFails => ends(Home::InAlert, Sends::One(Body::CallFailed)),
         Row::ClerkCancels => ends(Home::Always, Sends::Nothing),
         Row::LineCancels => ends(Home::Always, Sends::One(Body::CcCancel)),
+        Row::Falls => falls(),
         Row::GuardRunsOut => ends(Home::Always, Sends::One(Body::CcCancel)),
     }
 }
@@ -184,9 +213,9 @@ pub fn effect_of(row: Row) -> Effect
     rule.effect
 }
 
-// Whether a state is one of a row's; a free place has no row.
-pub fn holds_in(home: Home, state: State) -> bool
-    ensures { λ r. ⌜ r ≡ holdsIn home state ⌝ }
+// Whether a state is one of a row's, and the connection choice; a free place has no row.
+pub fn holds_in(home: Home, state: State, connection: Connection) -> bool
+    ensures { λ r. ⌜ r ≡ holdsIn home state connection ⌝ }
 {
     match home {
         Home::InInvoked => match state {
@@ -206,6 +235,16 @@ pub fn holds_in(home: Home, state: State) -> bool
             State::Invoked => false,
             State::Await => false,
             State::Alert => true,
+        },
+        Home::WhereRetained => match connection {
+            Connection::Empty => false,
+            Connection::Ret => match state {
+                State::Free => false,
+                State::Invoked => true,
+                State::Await => true,
+                State::Alert => true,
+            },
+            Connection::Rls => false,
         },
         Home::Always => match state {
             State::Free => false,

@@ -64,7 +64,7 @@ stores-now {p} {w} {e} {j} {n} {m} sim after t h =
           requests-head j (t .asked-data) (t .asked-kind) (t .preference) (t .rest) (w .up) (h .1)
           (sim .up ∙ ap (map (messageRead j)) (t .under-way));
       absent = sim .line ∙ ap (lineRead j (sim .active)) (t .held-none);
-      stored = lineRecord j (after .active) (R.termsOf p (t .asked-data) (t .preference)) (t .asked-kind) R.idle;
+      stored = lineRecord j (after .active) (R.termsOf p (t .asked-data) (t .preference)) (R.has (t .asked-kind) false) R.idle;
       present = after .line ∙ ap (lineRead j (after .active)) (t .holds-now);
     }
 
@@ -101,7 +101,7 @@ acknowledged-accepted :
 acknowledged-accepted n j c R.absent r q e a = not-one (sym e)
 acknowledged-accepted n j c (R.waiting d kind) r q e a =
     absurd (a (ap (λ (x : ClerkRecord.Record). x .terms .connection) (the-one c (waitingRecord j d kind) e)))
-acknowledged-accepted n j c (R.live t kind s) r q e a = acked-was-accepted t kind s r q
+acknowledged-accepted n j c (R.live t own s) r q e a = acked-was-accepted t own s r q
 
 pub acknowledged-was-accepted : AcknowledgedWasAccepted
 acknowledged-was-accepted given keep retain b w run j c e a =
@@ -110,9 +110,9 @@ acknowledged-was-accepted given keep retain b w run j c e a =
 
 -- ---- 2. the data agree
 agree-waiting :
-    (j : Words) (active : Bool) (d : R.Data) (t : R.Terms) (kind kind′ : Kind) (s : R.LState) → d ≡ R.asked t →
-    Agree (waitingRecord j d kind) (lineRecord j active t kind′ s)
-agree-waiting j active d t kind kind′ s e =
+    (j : Words) (active : Bool) (d : R.Data) (t : R.Terms) (kind : Kind) (own′ : R.Own) (s : R.LState) → d ≡ R.asked t →
+    Agree (waitingRecord j d kind) (lineRecord j active t own′ s)
+agree-waiting j active d t kind own′ s e =
     record {
       numberA = ap (λ (x : R.Data). x .numberA) e;
       numberB = ap (λ (x : R.Data). x .numberB) e;
@@ -122,9 +122,9 @@ agree-waiting j active d t kind kind′ s e =
     }
 
 agree-live :
-    (j : Words) (active : Bool) (t t′ : R.Terms) (kind kind′ : Kind) (x : R.CState) (y : R.LState) → t ≡ t′ →
-    Agree (liveRecord j t kind x) (lineRecord j active t′ kind′ y)
-agree-live j active t t′ kind kind′ x y e =
+    (j : Words) (active : Bool) (t t′ : R.Terms) (own own′ : R.Own) (x : R.CState) (y : R.LState) → t ≡ t′ →
+    Agree (liveRecord j t own x) (lineRecord j active t′ own′ y)
+agree-live j active t t′ own own′ x y e =
     record {
       numberA = ap (λ (z : R.Terms). R.asked z .numberA) e;
       numberB = ap (λ (z : R.Terms). R.asked z .numberB) e;
@@ -138,15 +138,15 @@ agree-net :
     n .clerk ≡ k → n .line ≡ m → P.one c ≡ clerkRead j k → P.one l ≡ lineRead j active m → Agree c l
 agree-net n r j active c l R.absent m q s e f = not-one (sym e)
 agree-net n r j active c l (R.waiting d kind) R.none q s e f = not-one (sym f)
-agree-net n r j active c l (R.waiting d kind) (R.holds t kind′ y) q s e f =
+agree-net n r j active c l (R.waiting d kind) (R.holds t own′ y) q s e f =
     subst (λ a. Agree a l) (sym (the-one c (waitingRecord j d kind) e))
-    (subst (λ b. Agree (waitingRecord j d kind) b) (sym (the-one l (lineRecord j active t kind′ y) f))
-    (agree-waiting j active d t kind kind′ y (both-hold-waiting d t kind kind′ y r q s)))
-agree-net n r j active c l (R.live t kind x) R.none q s e f = not-one (sym f)
-agree-net n r j active c l (R.live t kind x) (R.holds t′ kind′ y) q s e f =
-    subst (λ a. Agree a l) (sym (the-one c (liveRecord j t kind x) e))
-    (subst (λ b. Agree (liveRecord j t kind x) b) (sym (the-one l (lineRecord j active t′ kind′ y) f))
-    (agree-live j active t t′ kind kind′ x y (both-hold-live t t′ kind kind′ x y r q s)))
+    (subst (λ b. Agree (waitingRecord j d kind) b) (sym (the-one l (lineRecord j active t own′ y) f))
+    (agree-waiting j active d t kind own′ y (both-hold-waiting d t kind own′ y r q s)))
+agree-net n r j active c l (R.live t own x) R.none q s e f = not-one (sym f)
+agree-net n r j active c l (R.live t own x) (R.holds t′ own′ y) q s e f =
+    subst (λ a. Agree a l) (sym (the-one c (liveRecord j t own x) e))
+    (subst (λ b. Agree (liveRecord j t own x) b) (sym (the-one l (lineRecord j active t′ own′ y) f))
+    (agree-live j active t t′ own own′ x y (both-hold-live t t′ own own′ x y r q s)))
 
 pub data-agree : DataAgree
 data-agree w reach j c l e f =
@@ -242,11 +242,11 @@ over-for-good w reach j t u none later run =
 clerk-absent : (j : Words) (c : R.Clerk) → clerkRead j c ≡ P.none → c ≡ R.absent
 clerk-absent j R.absent e = refl
 clerk-absent j (R.waiting d kind) e = not-one (sym e)
-clerk-absent j (R.live t kind s) e = not-one (sym e)
+clerk-absent j (R.live t own s) e = not-one (sym e)
 
 line-absent : (j : Words) (active : Bool) (l : R.Line) → lineRead j active l ≡ P.none → l ≡ R.none
 line-absent j active R.none e = refl
-line-absent j active (R.holds t kind s) e = not-one (sym e)
+line-absent j active (R.holds t own s) e = not-one (sym e)
 
 plain-read : (j : Words) (m : R.Msg) → isRequest (messageRead j m .body) ≡ false → RL.NotReq m
 unfolding messageOf

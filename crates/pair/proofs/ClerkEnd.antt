@@ -17,6 +17,7 @@ use Rattle.message.specs.declared.Kind.the-variants.{Ccbs, Ccnr}
 use Rattle.desk.specs.Carriers.{carrierFits}
 use Rattle.desk.specs.Letter.{messageOf}
 use Rattle.desk.specs.Sends.{answered}
+use Rattle.desk.specs.declared.Connection.{Connection}
 use Rattle.desk.specs.declared.letter.Letter.{Letter}
 use Rattle.desk.specs.declared.outcome.Sending.the-variants as Sending
 use Rattle.desk.specs.declared.sends.Sends.{Sends}
@@ -32,7 +33,7 @@ use Rattle.clerk_table.specs.Inputs.{namesOf, messageFor, rowFor, rowOfAct, row
 use Rattle.clerk_table.specs.declared.table.Row.{Row}
 use Rattle.clerk_table.specs.declared.table.Home.the-variants.{Always}
 use Rattle.clerk_table.specs.declared.table.Next.{Next}
-use Rattle.clerk_table.specs.declared.table.Next.the-variants.{Gone, To}
+use Rattle.clerk_table.specs.declared.table.Next.the-variants.{Gone, Same, To}
 use Rattle.clerk_table.specs.declared.table.Timer.{Timer}
 use Rattle.clerk_table.specs.declared.table.Timer.the-variants.{T1, T2, T3}
 use Rattle.clerk_table.specs.declared.record.Record.{Record}
@@ -87,7 +88,7 @@ planAt input r (Store i q) = storedPlan i (namesOf input) q
 abbrev heard : Words → R.Msg → Bool → Input
 heard j m busy = Input.Message (letterRead j m) busy
 
-abbrev takeDecision : ℕ → Record → Letter → Bool → Meant → Decision
+abbrev pub takeDecision : ℕ → Record → Letter → Bool → Meant → Decision
 takeDecision i r l busy Meant.NotHere = Refuse 3 Sends.Nothing
 takeDecision i r l busy (Meant.Record message) = recordDecision i r l busy message
 
@@ -95,7 +96,7 @@ abbrev takePlan : ℕ → Record → Words → R.Msg → Bool → Plan
 takePlan i r j m busy = planAt (heard j m busy) r (takeDecision i r (letterRead j m) busy (messageFor (letterRead j m .body)))
 
 -- a request is for the line
-request-away : (kind : Kind) (service flags : ℕ) → messageFor (requestBody kind service flags) ≡ Meant.NotHere
+pub request-away : (kind : Kind) (service flags : ℕ) → messageFor (requestBody kind service flags) ≡ Meant.NotHere
 request-away Ccbs service flags = refl
 request-away Ccnr service flags = refl
 
@@ -154,78 +155,81 @@ waiting-takes j i d kind R.alerts busy = (refl, refl)
 waiting-takes j i d kind R.failed busy = (refl, refl)
 
 live-takes :
-    (j : Words) (i : ℕ) (t : R.Terms) (kind : Kind) (s : R.CState) (m : R.Msg) (busy : Bool) →
-    Says j (takePlan i (liveRecord j t kind s) j m busy) (one (liveRecord j t kind s)) (R.clerkTakes (R.live t kind s) m busy)
+    (j : Words) (i : ℕ) (t : R.Terms) (own : R.Own) (s : R.CState) (m : R.Msg) (busy : Bool) →
+    Says j (takePlan i (liveRecord j t own s) j m busy) (one (liveRecord j t own s)) (R.clerkTakes (R.live t own s) m busy)
 unfolding rowTaken carrierFits R.clerkTakes R.inRinging R.onBusyAgain R.onExec
-live-takes j i t kind s (R.request e kind′ q) busy = rw (request-away kind′ (e .service) (askFlags (e .canKeep) q)) (refl, refl)
-live-takes j i t kind R.invoked (R.result given o) busy = (refl, refl)
-live-takes j i t kind R.waitAnswer (R.result given o) busy = (refl, refl)
-live-takes j i t kind R.ringing (R.result given o) busy = (refl, refl)
-live-takes j i t kind R.suspended (R.result given o) busy = (refl, refl)
-live-takes j i t kind R.invoked (R.denied true) busy = (refl, refl)
-live-takes j i t kind R.invoked (R.denied false) busy = (refl, refl)
-live-takes j i t kind R.waitAnswer (R.denied true) busy = (refl, refl)
-live-takes j i t kind R.waitAnswer (R.denied false) busy = (refl, refl)
-live-takes j i t kind R.ringing (R.denied true) busy = (refl, refl)
-live-takes j i t kind R.ringing (R.denied false) busy = (refl, refl)
-live-takes j i t kind R.suspended (R.denied true) busy = (refl, refl)
-live-takes j i t kind R.suspended (R.denied false) busy = (refl, refl)
-live-takes j i (R.chosen d k R.ret) kind R.invoked (R.exec R.ret) true = (refl, refl)
-live-takes j i (R.chosen d k R.rls) kind R.invoked (R.exec R.ret) true = (refl, refl)
-live-takes j i (R.chosen d k R.ret) kind R.invoked (R.exec R.ret) false = (refl, refl)
-live-takes j i (R.chosen d k R.rls) kind R.invoked (R.exec R.ret) false = (refl, refl)
-live-takes j i (R.chosen d k R.ret) kind R.invoked (R.exec R.rls) true = (refl, refl)
-live-takes j i (R.chosen d k R.rls) kind R.invoked (R.exec R.rls) true = (refl, refl)
-live-takes j i (R.chosen d k R.ret) kind R.invoked (R.exec R.rls) false = (refl, refl)
-live-takes j i (R.chosen d k R.rls) kind R.invoked (R.exec R.rls) false = (refl, refl)
-live-takes j i t kind R.waitAnswer (R.exec R.ret) true = (refl, refl)
-live-takes j i t kind R.waitAnswer (R.exec R.ret) false = (refl, refl)
-live-takes j i t kind R.waitAnswer (R.exec R.rls) true = (refl, refl)
-live-takes j i t kind R.waitAnswer (R.exec R.rls) false = (refl, refl)
-live-takes j i t kind R.ringing (R.exec R.ret) true = (refl, refl)
-live-takes j i t kind R.ringing (R.exec R.ret) false = (refl, refl)
-live-takes j i t kind R.ringing (R.exec R.rls) true = (refl, refl)
-live-takes j i t kind R.ringing (R.exec R.rls) false = (refl, refl)
-live-takes j i t kind R.suspended (R.exec R.ret) true = (refl, refl)
-live-takes j i t kind R.suspended (R.exec R.ret) false = (refl, refl)
-live-takes j i t kind R.suspended (R.exec R.rls) true = (refl, refl)
-live-takes j i t kind R.suspended (R.exec R.rls) false = (refl, refl)
-live-takes j i t kind s R.ringout busy = (refl, refl)
-live-takes j i (R.chosen d true n) Ccbs R.invoked R.busyAgain busy = (refl, refl)
-live-takes j i (R.chosen d true n) Ccnr R.invoked R.busyAgain busy = (refl, refl)
-live-takes j i (R.chosen d false n) kind R.invoked R.busyAgain busy = (refl, refl)
-live-takes j i (R.chosen d true n) Ccbs R.waitAnswer R.busyAgain busy = (refl, refl)
-live-takes j i (R.chosen d true n) Ccnr R.waitAnswer R.busyAgain busy = (refl, refl)
-live-takes j i (R.chosen d false n) kind R.waitAnswer R.busyAgain busy = (refl, refl)
-live-takes j i (R.chosen d true n) Ccbs R.ringing R.busyAgain busy = (refl, refl)
-live-takes j i (R.chosen d true n) Ccnr R.ringing R.busyAgain busy = (refl, refl)
-live-takes j i (R.chosen d false n) kind R.ringing R.busyAgain busy = (refl, refl)
-live-takes j i (R.chosen d true n) Ccbs R.suspended R.busyAgain busy = (refl, refl)
-live-takes j i (R.chosen d true n) Ccnr R.suspended R.busyAgain busy = (refl, refl)
-live-takes j i (R.chosen d false n) kind R.suspended R.busyAgain busy = (refl, refl)
-live-takes j i t kind R.invoked R.noMatch busy = (refl, refl)
-live-takes j i t kind R.waitAnswer R.noMatch busy = (refl, refl)
-live-takes j i t kind R.ringing R.noMatch busy = (refl, refl)
-live-takes j i t kind R.suspended R.noMatch busy = (refl, refl)
-live-takes j i t kind s (R.suspend o) busy = (refl, refl)
-live-takes j i t kind s (R.resume o) busy = (refl, refl)
-live-takes j i t kind R.invoked (R.cancel R.ret) busy = (refl, refl)
-live-takes j i t kind R.invoked (R.cancel R.rls) busy = (refl, refl)
-live-takes j i t kind R.waitAnswer (R.cancel R.ret) busy = (refl, refl)
-live-takes j i t kind R.waitAnswer (R.cancel R.rls) busy = (refl, refl)
-live-takes j i t kind R.ringing (R.cancel R.ret) busy = (refl, refl)
-live-takes j i t kind R.ringing (R.cancel R.rls) busy = (refl, refl)
-live-takes j i t kind R.suspended (R.cancel R.ret) busy = (refl, refl)
-live-takes j i t kind R.suspended (R.cancel R.rls) busy = (refl, refl)
-live-takes j i t kind R.invoked R.alerts busy = (refl, refl)
-live-takes j i t kind R.waitAnswer R.alerts busy = (refl, refl)
-live-takes j i t kind R.ringing R.alerts busy = (refl, refl)
-live-takes j i t kind R.suspended R.alerts busy = (refl, refl)
-live-takes j i t kind R.invoked R.failed busy = (refl, refl)
-live-takes j i t kind R.waitAnswer R.failed busy = (refl, refl)
-live-takes j i (R.chosen d k R.ret) kind R.ringing R.failed busy = (refl, refl)
-live-takes j i (R.chosen d k R.rls) kind R.ringing R.failed busy = (refl, refl)
-live-takes j i t kind R.suspended R.failed busy = (refl, refl)
+live-takes j i t own s (R.request e kind′ q) busy = rw (request-away kind′ (e .service) (askFlags (e .canKeep) q)) (refl, refl)
+live-takes j i t own R.invoked (R.result given o) busy = (refl, refl)
+live-takes j i t own R.waitAnswer (R.result given o) busy = (refl, refl)
+live-takes j i t own R.ringing (R.result given o) busy = (refl, refl)
+live-takes j i t own R.suspended (R.result given o) busy = (refl, refl)
+live-takes j i t own R.invoked (R.denied true) busy = (refl, refl)
+live-takes j i t own R.invoked (R.denied false) busy = (refl, refl)
+live-takes j i t own R.waitAnswer (R.denied true) busy = (refl, refl)
+live-takes j i t own R.waitAnswer (R.denied false) busy = (refl, refl)
+live-takes j i t own R.ringing (R.denied true) busy = (refl, refl)
+live-takes j i t own R.ringing (R.denied false) busy = (refl, refl)
+live-takes j i t own R.suspended (R.denied true) busy = (refl, refl)
+live-takes j i t own R.suspended (R.denied false) busy = (refl, refl)
+live-takes j i (R.chosen d k R.ret) (R.has kind true) R.invoked (R.exec R.ret) true = (refl, refl)
+live-takes j i (R.chosen d k R.ret) (R.has kind false) R.invoked (R.exec R.ret) true = (refl, refl)
+live-takes j i (R.chosen d k R.rls) own R.invoked (R.exec R.ret) true = (refl, refl)
+live-takes j i (R.chosen d k R.ret) own R.invoked (R.exec R.ret) false = (refl, refl)
+live-takes j i (R.chosen d k R.rls) own R.invoked (R.exec R.ret) false = (refl, refl)
+live-takes j i (R.chosen d k R.ret) (R.has kind true) R.invoked (R.exec R.rls) true = (refl, refl)
+live-takes j i (R.chosen d k R.ret) (R.has kind false) R.invoked (R.exec R.rls) true = (refl, refl)
+live-takes j i (R.chosen d k R.rls) own R.invoked (R.exec R.rls) true = (refl, refl)
+live-takes j i (R.chosen d k R.ret) own R.invoked (R.exec R.rls) false = (refl, refl)
+live-takes j i (R.chosen d k R.rls) own R.invoked (R.exec R.rls) false = (refl, refl)
+live-takes j i t own R.waitAnswer (R.exec R.ret) true = (refl, refl)
+live-takes j i t own R.waitAnswer (R.exec R.ret) false = (refl, refl)
+live-takes j i t own R.waitAnswer (R.exec R.rls) true = (refl, refl)
+live-takes j i t own R.waitAnswer (R.exec R.rls) false = (refl, refl)
+live-takes j i t own R.ringing (R.exec R.ret) true = (refl, refl)
+live-takes j i t own R.ringing (R.exec R.ret) false = (refl, refl)
+live-takes j i t own R.ringing (R.exec R.rls) true = (refl, refl)
+live-takes j i t own R.ringing (R.exec R.rls) false = (refl, refl)
+live-takes j i t own R.suspended (R.exec R.ret) true = (refl, refl)
+live-takes j i t own R.suspended (R.exec R.ret) false = (refl, refl)
+live-takes j i t own R.suspended (R.exec R.rls) true = (refl, refl)
+live-takes j i t own R.suspended (R.exec R.rls) false = (refl, refl)
+live-takes j i t own s R.ringout busy = (refl, refl)
+live-takes j i (R.chosen d true n) (R.has Ccbs down) R.invoked R.busyAgain busy = (refl, refl)
+live-takes j i (R.chosen d true n) (R.has Ccnr down) R.invoked R.busyAgain busy = (refl, refl)
+live-takes j i (R.chosen d false n) own R.invoked R.busyAgain busy = (refl, refl)
+live-takes j i (R.chosen d true n) (R.has Ccbs down) R.waitAnswer R.busyAgain busy = (refl, refl)
+live-takes j i (R.chosen d true n) (R.has Ccnr down) R.waitAnswer R.busyAgain busy = (refl, refl)
+live-takes j i (R.chosen d false n) own R.waitAnswer R.busyAgain busy = (refl, refl)
+live-takes j i (R.chosen d true n) (R.has Ccbs down) R.ringing R.busyAgain busy = (refl, refl)
+live-takes j i (R.chosen d true n) (R.has Ccnr down) R.ringing R.busyAgain busy = (refl, refl)
+live-takes j i (R.chosen d false n) own R.ringing R.busyAgain busy = (refl, refl)
+live-takes j i (R.chosen d true n) (R.has Ccbs down) R.suspended R.busyAgain busy = (refl, refl)
+live-takes j i (R.chosen d true n) (R.has Ccnr down) R.suspended R.busyAgain busy = (refl, refl)
+live-takes j i (R.chosen d false n) own R.suspended R.busyAgain busy = (refl, refl)
+live-takes j i t own R.invoked R.noMatch busy = (refl, refl)
+live-takes j i t own R.waitAnswer R.noMatch busy = (refl, refl)
+live-takes j i t own R.ringing R.noMatch busy = (refl, refl)
+live-takes j i t own R.suspended R.noMatch busy = (refl, refl)
+live-takes j i t own s (R.suspend o) busy = (refl, refl)
+live-takes j i t own s (R.resume o) busy = (refl, refl)
+live-takes j i t own R.invoked (R.cancel R.ret) busy = (refl, refl)
+live-takes j i t own R.invoked (R.cancel R.rls) busy = (refl, refl)
+live-takes j i t own R.waitAnswer (R.cancel R.ret) busy = (refl, refl)
+live-takes j i t own R.waitAnswer (R.cancel R.rls) busy = (refl, refl)
+live-takes j i t own R.ringing (R.cancel R.ret) busy = (refl, refl)
+live-takes j i t own R.ringing (R.cancel R.rls) busy = (refl, refl)
+live-takes j i t own R.suspended (R.cancel R.ret) busy = (refl, refl)
+live-takes j i t own R.suspended (R.cancel R.rls) busy = (refl, refl)
+live-takes j i t own R.invoked R.alerts busy = (refl, refl)
+live-takes j i t own R.waitAnswer R.alerts busy = (refl, refl)
+live-takes j i t own R.ringing R.alerts busy = (refl, refl)
+live-takes j i t own R.suspended R.alerts busy = (refl, refl)
+live-takes j i t own R.invoked R.failed busy = (refl, refl)
+live-takes j i t own R.waitAnswer R.failed busy = (refl, refl)
+live-takes j i (R.chosen d k R.ret) (R.has kind true) R.ringing R.failed busy = (refl, refl)
+live-takes j i (R.chosen d k R.ret) (R.has kind false) R.ringing R.failed busy = (refl, refl)
+live-takes j i (R.chosen d k R.rls) own R.ringing R.failed busy = (refl, refl)
+live-takes j i t own R.suspended R.failed busy = (refl, refl)
 
 -- ---- acts and timers, by the record
 abbrev rowRead : R.CAct → Row
@@ -245,6 +249,7 @@ waiting-acts j i d kind (R.act Act.Accept) refusal = (refl, refl)
 waiting-acts j i d kind (R.act Act.Resume) refusal = (refl, refl)
 waiting-acts j i d kind (R.act Act.GoOn) refusal = (refl, refl)
 waiting-acts j i d kind (R.act Act.Cancel) refusal = (refl, refl)
+waiting-acts j i d kind (R.act Act.Fell) refusal = (refl, refl)
 waiting-acts j i d kind (R.timer T1) refusal = (refl, refl)
 waiting-acts j i d kind (R.timer T2) refusal = (refl, refl)
 waiting-acts j i d kind (R.timer T3) refusal = (refl, refl)
@@ -253,61 +258,71 @@ waiting-acts j i d kind (R.signal rejected) refusal = (refl, refl)
 
 -- a row that ends the record with a ccCancel, in a state where it is taken; and one that is always taken
 live-cancels :
-    (j : Words) (i : ℕ) (t : R.Terms) (kind : Kind) (s : R.CState) (row : Row) (refusal : ℕ) →
-    holdsFor row (liveRecord j t kind s) ≡ true → effectOf row .next ≡ Gone → effectOf row .sends ≡ Sends.One CcCancel →
-    Says j (ownPlan i (liveRecord j t kind s) row refusal) (one (liveRecord j t kind s)) (R.absent, R.cancel (R.conn t) ∷ [])
+    (j : Words) (i : ℕ) (t : R.Terms) (own : R.Own) (s : R.CState) (row : Row) (refusal : ℕ) →
+    holdsFor row (liveRecord j t own s) ≡ true → effectOf row .next ≡ Gone → effectOf row .sends ≡ Sends.One CcCancel →
+    Says j (ownPlan i (liveRecord j t own s) row refusal) (one (liveRecord j t own s)) (R.absent, R.cancel (R.way t own) ∷ [])
 unfolding rowTaken
-live-cancels j i (R.chosen d k R.ret) kind s row refusal held ends cancels = rw (held, ends, cancels) (refl, refl)
-live-cancels j i (R.chosen d k R.rls) kind s row refusal held ends cancels = rw (held, ends, cancels) (refl, refl)
+live-cancels j i (R.chosen d k R.ret) (R.has kind true) s row refusal held ends cancels = rw (held, ends, cancels) (refl, refl)
+live-cancels j i (R.chosen d k R.ret) (R.has kind false) s row refusal held ends cancels = rw (held, ends, cancels) (refl, refl)
+live-cancels j i (R.chosen d k R.rls) own s row refusal held ends cancels = rw (held, ends, cancels) (refl, refl)
 
-always : (s : R.CState) → holdsIn Always (clerkStateRead s) ≡ true
-always R.invoked = refl
-always R.waitAnswer = refl
-always R.ringing = refl
-always R.suspended = refl
+always : (s : R.CState) (c : Connection) → holdsIn Always (clerkStateRead s) c ≡ true
+always R.invoked c = refl
+always R.waitAnswer c = refl
+always R.ringing c = refl
+always R.suspended c = refl
 
 live-acts :
-    (j : Words) (i : ℕ) (t : R.Terms) (kind : Kind) (s : R.CState) (x : R.CAct) (refusal : ℕ) →
-    Says j (ownPlan i (liveRecord j t kind s) (rowRead x) refusal) (one (liveRecord j t kind s)) (R.clerkActs (R.live t kind s) x)
+    (j : Words) (i : ℕ) (t : R.Terms) (own : R.Own) (s : R.CState) (x : R.CAct) (refusal : ℕ) →
+    Says j (ownPlan i (liveRecord j t own s) (rowRead x) refusal) (one (liveRecord j t own s)) (R.clerkActs (R.live t own s) x)
 unfolding rowTaken R.clerkActs R.liveActs R.clerkTakes R.inRinging
-live-acts j i t kind R.invoked (R.act Act.Accept) refusal = (refl, refl)
-live-acts j i t kind R.waitAnswer (R.act Act.Accept) refusal = (refl, refl)
-live-acts j i t kind R.ringing (R.act Act.Accept) refusal = (refl, refl)
-live-acts j i t kind R.suspended (R.act Act.Accept) refusal = (refl, refl)
-live-acts j i t kind R.invoked (R.act Act.Resume) refusal = (refl, refl)
-live-acts j i t kind R.waitAnswer (R.act Act.Resume) refusal = (refl, refl)
-live-acts j i t kind R.ringing (R.act Act.Resume) refusal = (refl, refl)
-live-acts j i (R.chosen d k R.ret) kind R.suspended (R.act Act.Resume) refusal = (refl, refl)
-live-acts j i (R.chosen d k R.rls) kind R.suspended (R.act Act.Resume) refusal = (refl, refl)
-live-acts j i t kind R.invoked (R.act Act.GoOn) refusal = (refl, refl)
-live-acts j i t kind R.waitAnswer (R.act Act.GoOn) refusal = (refl, refl)
-live-acts j i t kind R.ringing (R.act Act.GoOn) refusal = (refl, refl)
-live-acts j i t kind R.suspended (R.act Act.GoOn) refusal = (refl, refl)
-live-acts j i t kind s (R.act Act.Cancel) refusal = live-cancels j i t kind s (rowOfAct Act.Cancel) refusal (always s) refl refl
-live-acts j i t kind R.invoked (R.timer T1) refusal = (refl, refl)
-live-acts j i t kind R.waitAnswer (R.timer T1) refusal = (refl, refl)
-live-acts j i t kind R.ringing (R.timer T1) refusal = (refl, refl)
-live-acts j i t kind R.suspended (R.timer T1) refusal = (refl, refl)
-live-acts j i t kind R.invoked (R.timer T2) refusal = live-cancels j i t kind R.invoked (rowOfTimer T2) refusal refl refl refl
-live-acts j i t kind R.waitAnswer (R.timer T2) refusal = live-cancels j i t kind R.waitAnswer (rowOfTimer T2) refusal refl refl refl
-live-acts j i t kind R.ringing (R.timer T2) refusal = (refl, refl)
-live-acts j i t kind R.suspended (R.timer T2) refusal = live-cancels j i t kind R.suspended (rowOfTimer T2) refusal refl refl refl
-live-acts j i t kind R.invoked (R.timer T3) refusal = (refl, refl)
-live-acts j i t kind R.waitAnswer (R.timer T3) refusal = live-cancels j i t kind R.waitAnswer (rowOfTimer T3) refusal refl refl refl
-live-acts j i t kind R.ringing (R.timer T3) refusal = (refl, refl)
-live-acts j i t kind R.suspended (R.timer T3) refusal = (refl, refl)
-live-acts j i t kind R.invoked (R.signal callDied) refusal = (refl, refl)
-live-acts j i t kind R.waitAnswer (R.signal callDied) refusal = (refl, refl)
-live-acts j i t kind R.ringing (R.signal callDied) refusal = live-cancels j i t kind R.ringing Row.CallFails refusal refl refl refl
-live-acts j i t kind R.suspended (R.signal callDied) refusal = (refl, refl)
-live-acts j i t kind R.invoked (R.signal rejected) refusal = (refl, refl)
-live-acts j i t kind R.waitAnswer (R.signal rejected) refusal = (refl, refl)
-live-acts j i t kind R.ringing (R.signal rejected) refusal = (refl, refl)
-live-acts j i t kind R.suspended (R.signal rejected) refusal = (refl, refl)
+live-acts j i t own R.invoked (R.act Act.Accept) refusal = (refl, refl)
+live-acts j i t own R.waitAnswer (R.act Act.Accept) refusal = (refl, refl)
+live-acts j i t own R.ringing (R.act Act.Accept) refusal = (refl, refl)
+live-acts j i t own R.suspended (R.act Act.Accept) refusal = (refl, refl)
+live-acts j i t own R.invoked (R.act Act.Resume) refusal = (refl, refl)
+live-acts j i t own R.waitAnswer (R.act Act.Resume) refusal = (refl, refl)
+live-acts j i t own R.ringing (R.act Act.Resume) refusal = (refl, refl)
+live-acts j i (R.chosen d k R.ret) (R.has kind true) R.suspended (R.act Act.Resume) refusal = (refl, refl)
+live-acts j i (R.chosen d k R.ret) (R.has kind false) R.suspended (R.act Act.Resume) refusal = (refl, refl)
+live-acts j i (R.chosen d k R.rls) own R.suspended (R.act Act.Resume) refusal = (refl, refl)
+live-acts j i t own R.invoked (R.act Act.GoOn) refusal = (refl, refl)
+live-acts j i t own R.waitAnswer (R.act Act.GoOn) refusal = (refl, refl)
+live-acts j i t own R.ringing (R.act Act.GoOn) refusal = (refl, refl)
+live-acts j i t own R.suspended (R.act Act.GoOn) refusal = (refl, refl)
+live-acts j i t own s (R.act Act.Cancel) refusal = live-cancels j i t own s (rowOfAct Act.Cancel) refusal (always s _) refl refl
+live-acts j i (R.chosen d k R.ret) (R.has kind down) R.invoked (R.act Act.Fell) refusal = (refl, refl)
+live-acts j i (R.chosen d k R.rls) own R.invoked (R.act Act.Fell) refusal = (refl, refl)
+live-acts j i (R.chosen d k R.ret) (R.has kind down) R.waitAnswer (R.act Act.Fell) refusal = (refl, refl)
+live-acts j i (R.chosen d k R.rls) own R.waitAnswer (R.act Act.Fell) refusal = (refl, refl)
+live-acts j i (R.chosen d k R.ret) (R.has kind down) R.ringing (R.act Act.Fell) refusal = (refl, refl)
+live-acts j i (R.chosen d k R.rls) own R.ringing (R.act Act.Fell) refusal = (refl, refl)
+live-acts j i (R.chosen d k R.ret) (R.has kind down) R.suspended (R.act Act.Fell) refusal = (refl, refl)
+live-acts j i (R.chosen d k R.rls) own R.suspended (R.act Act.Fell) refusal = (refl, refl)
+live-acts j i t own R.invoked (R.timer T1) refusal = (refl, refl)
+live-acts j i t own R.waitAnswer (R.timer T1) refusal = (refl, refl)
+live-acts j i t own R.ringing (R.timer T1) refusal = (refl, refl)
+live-acts j i t own R.suspended (R.timer T1) refusal = (refl, refl)
+live-acts j i t own R.invoked (R.timer T2) refusal = live-cancels j i t own R.invoked (rowOfTimer T2) refusal refl refl refl
+live-acts j i t own R.waitAnswer (R.timer T2) refusal = live-cancels j i t own R.waitAnswer (rowOfTimer T2) refusal refl refl refl
+live-acts j i t own R.ringing (R.timer T2) refusal = (refl, refl)
+live-acts j i t own R.suspended (R.timer T2) refusal = live-cancels j i t own R.suspended (rowOfTimer T2) refusal refl refl refl
+live-acts j i t own R.invoked (R.timer T3) refusal = (refl, refl)
+live-acts j i t own R.waitAnswer (R.timer T3) refusal = live-cancels j i t own R.waitAnswer (rowOfTimer T3) refusal refl refl refl
+live-acts j i t own R.ringing (R.timer T3) refusal = (refl, refl)
+live-acts j i t own R.suspended (R.timer T3) refusal = (refl, refl)
+live-acts j i t own R.invoked (R.signal callDied) refusal = (refl, refl)
+live-acts j i t own R.waitAnswer (R.signal callDied) refusal = (refl, refl)
+live-acts j i t own R.ringing (R.signal callDied) refusal = live-cancels j i t own R.ringing Row.CallFails refusal refl refl refl
+live-acts j i t own R.suspended (R.signal callDied) refusal = (refl, refl)
+live-acts j i t own R.invoked (R.signal rejected) refusal = (refl, refl)
+live-acts j i t own R.waitAnswer (R.signal rejected) refusal = (refl, refl)
+live-acts j i t own R.ringing (R.signal rejected) refusal = (refl, refl)
+live-acts j i t own R.suspended (R.signal rejected) refusal = (refl, refl)
 
 -- ---- the record that is found is the one that is read
 module _ (j : Words) (rs : List Record) where
-  at-record : (i : ℕ) (r : Record) (P : Record → Type 0) → meant j rs ≡ At i → held clerkView j rs ≡ one r → P r → P (getD rs i blank)
+  pub at-record : (i : ℕ) (r : Record) (P : Record → Type 0) → meant j rs ≡ At i → held clerkView j rs ≡ one r → P r → P (getD rs i blank)
   unfolding meant
   at-record i r P e h p = subst P (sym (the-one (getD rs i blank) r (sym (held-found clerkView rs j i e) ∙ h))) p
 
@@ -319,11 +334,11 @@ module _ (j : Words) (rs : List Record) where
       (subst (λ (b : Held Record). Says j (plan r) b answer) (sym h) says)
 
   -- nothing is found where nothing is held, and something where something is
-  not-found : {A : Type 0} {r : Record} → meant j rs ≡ Nothing → held clerkView j rs ≡ one r → A
+  pub not-found : {A : Type 0} {r : Record} → meant j rs ≡ Nothing → held clerkView j rs ≡ one r → A
   unfolding meant
   not-found e h = not-one (sym (held-missed clerkView rs j e) ∙ h)
 
-  not-missed : {A : Type 0} (i : ℕ) → meant j rs ≡ At i → held clerkView j rs ≡ none → A
+  pub not-missed : {A : Type 0} (i : ℕ) → meant j rs ≡ At i → held clerkView j rs ≡ none → A
   unfolding meant
   not-missed i e h = not-one (sym h ∙ held-found clerkView rs j i e)
 
@@ -361,8 +376,8 @@ module _ (j : Words) (rs : List Record) where
     found-takes R.absent (At i) e h = not-missed i e h
     found-takes (R.waiting d kind) Nothing e h = not-found e h
     found-takes (R.waiting d kind) (At i) e h = taken-says (R.waiting d kind) i (waitingRecord j d kind) e h (waiting-takes j i d kind m busy)
-    found-takes (R.live t kind s) Nothing e h = not-found e h
-    found-takes (R.live t kind s) (At i) e h = taken-says (R.live t kind s) i (liveRecord j t kind s) e h (live-takes j i t kind s m busy)
+    found-takes (R.live t own s) Nothing e h = not-found e h
+    found-takes (R.live t own s) (At i) e h = taken-says (R.live t own s) i (liveRecord j t own s) e h (live-takes j i t own s m busy)
 
     message-says :
         (c : R.Clerk) → held clerkView j rs ≡ clerkRead j c → Says j (planFor rs (heard j m busy)) (held clerkView j rs) (R.clerkTakes c m busy)
@@ -395,8 +410,8 @@ module _ (j : Words) (rs : List Record) where
     found-acts R.absent (At i) e h = not-missed i e h
     found-acts (R.waiting d kind) Nothing e h = not-found e h
     found-acts (R.waiting d kind) (At i) e h = done-says (R.waiting d kind) i (waitingRecord j d kind) e h (waiting-acts j i d kind x refusal)
-    found-acts (R.live t kind s) Nothing e h = not-found e h
-    found-acts (R.live t kind s) (At i) e h = done-says (R.live t kind s) i (liveRecord j t kind s) e h (live-acts j i t kind s x refusal)
+    found-acts (R.live t own s) Nothing e h = not-found e h
+    found-acts (R.live t own s) (At i) e h = done-says (R.live t own s) i (liveRecord j t own s) e h (live-acts j i t own s x refusal)
 
 -- ---- timers that run out
 -- T3 is no timer of the demand
@@ -417,21 +432,21 @@ waiting-runs-out j i d kind T2 = refl
 waiting-runs-out j i d kind T3 = refl
 
 live-runs-out :
-    (j : Words) (i : ℕ) (t : R.Terms) (kind : Kind) (s : R.CState) (timer : Timer) →
-    ranOut timer (ownPlan i (liveRecord j t kind s) (rowRead (R.timer timer)) 9) ≡ R.runsOut (R.live t kind s) (R.timer timer)
+    (j : Words) (i : ℕ) (t : R.Terms) (own : R.Own) (s : R.CState) (timer : Timer) →
+    ranOut timer (ownPlan i (liveRecord j t own s) (rowRead (R.timer timer)) 9) ≡ R.runsOut (R.live t own s) (R.timer timer)
 unfolding rowTaken R.clerkActs R.liveActs
-live-runs-out j i t kind R.invoked T1 = refl
-live-runs-out j i t kind R.waitAnswer T1 = refl
-live-runs-out j i t kind R.ringing T1 = refl
-live-runs-out j i t kind R.suspended T1 = refl
-live-runs-out j i t kind R.invoked T2 = refl
-live-runs-out j i t kind R.waitAnswer T2 = refl
-live-runs-out j i t kind R.ringing T2 = refl
-live-runs-out j i t kind R.suspended T2 = refl
-live-runs-out j i t kind R.invoked T3 = refl
-live-runs-out j i t kind R.waitAnswer T3 = refl
-live-runs-out j i t kind R.ringing T3 = refl
-live-runs-out j i t kind R.suspended T3 = refl
+live-runs-out j i t own R.invoked T1 = refl
+live-runs-out j i t own R.waitAnswer T1 = refl
+live-runs-out j i t own R.ringing T1 = refl
+live-runs-out j i t own R.suspended T1 = refl
+live-runs-out j i t own R.invoked T2 = refl
+live-runs-out j i t own R.waitAnswer T2 = refl
+live-runs-out j i t own R.ringing T2 = refl
+live-runs-out j i t own R.suspended T2 = refl
+live-runs-out j i t own R.invoked T3 = refl
+live-runs-out j i t own R.waitAnswer T3 = refl
+live-runs-out j i t own R.ringing T3 = refl
+live-runs-out j i t own R.suspended T3 = refl
 
 absent-runs-out : (timer : Timer) → both (counts timer) false ≡ R.runsOut R.absent (R.timer timer)
 absent-runs-out T1 = refl
@@ -455,8 +470,8 @@ module _ (j : Words) (rs : List Record) (timer : Timer) where
   found-runs-out R.absent (At i) e h = not-missed j rs i e h
   found-runs-out (R.waiting d kind) Nothing e h = not-found j rs e h
   found-runs-out (R.waiting d kind) (At i) e h = runs-out-at (R.waiting d kind) i (waitingRecord j d kind) e h (waiting-runs-out j i d kind timer)
-  found-runs-out (R.live t kind s) Nothing e h = not-found j rs e h
-  found-runs-out (R.live t kind s) (At i) e h = runs-out-at (R.live t kind s) i (liveRecord j t kind s) e h (live-runs-out j i t kind s timer)
+  found-runs-out (R.live t own s) Nothing e h = not-found j rs e h
+  found-runs-out (R.live t own s) (At i) e h = runs-out-at (R.live t own s) i (liveRecord j t own s) e h (live-runs-out j i t own s timer)
 
 -- ---- every decision is about the identifier that its input names
 module _ (rs : List Record) (input : Input) where
@@ -474,9 +489,10 @@ module _ (rs : List Record) (input : Input) where
   unfolding planOf rowTaken meant
   own-taken i e row = by (effectOf row .next)
     where
-      by : (next : Next) → OwnChange (changed next (effectOf row .kind) i (settledBy input (getD rs i blank)))
+      by : (next : Next) → OwnChange (changed next (effectOf row .kind) (effectOf row .falls) i (settledBy input (getD rs i blank)))
       by Gone = removes i e
-      by (To state) = turns-found clerkView rs _ i (leaves (changed (To state) (effectOf row .kind) i (settledBy input (getD rs i blank)))) e refl
+      by Same = turns-found clerkView rs _ i (leaves (changed Same (effectOf row .kind) (effectOf row .falls) i (settledBy input (getD rs i blank)))) e refl
+      by (To state) = turns-found clerkView rs _ i (leaves (changed (To state) (effectOf row .kind) (effectOf row .falls) i (settledBy input (getD rs i blank)))) e refl
 
   own-message :
       (l : Letter) (busy : Bool) (m : Meant) (f : Found) → meant (namesOf input .identifier) rs ≡ f → OwnPlan (messageMeant rs l busy f m)
@@ -497,10 +513,10 @@ module _ (rs : List Record) (input : Input) where
 clerk-its : (j : Words) (c : R.Clerk) → Its clerkView j (clerkRead j c)
 clerk-its j R.absent = tt
 clerk-its j (R.waiting d kind) = (refl, refl)
-clerk-its j (R.live t kind R.invoked) = (refl, refl)
-clerk-its j (R.live t kind R.waitAnswer) = (refl, refl)
-clerk-its j (R.live t kind R.ringing) = (refl, refl)
-clerk-its j (R.live t kind R.suspended) = (refl, refl)
+clerk-its j (R.live t own R.invoked) = (refl, refl)
+clerk-its j (R.live t own R.waitAnswer) = (refl, refl)
+clerk-its j (R.live t own R.ringing) = (refl, refl)
+clerk-its j (R.live t own R.suspended) = (refl, refl)
 
 -- ---- the desk
 -- an ask is refused, or stored and sent

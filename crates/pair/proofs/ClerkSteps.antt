@@ -169,7 +169,7 @@ module _ {p : R.Policy} {w : World} (g : Good p w) (known : Known p w) where
   clerk-does (Input.Timer k timer) allowed = clerk-timer k timer
 
   -- ---- a message delivered
-  hears-as :
+  pub hears-as :
       (busy : Bool) {m : Message} (k : Words) (c : R.Msg) → m ≡ messageRead k c → Clear k c →
       received (w .clerk) m busy ≡ step (w .clerk) (Input.Message (letterRead k c) busy)
   unfolding messageEntry entered

@@ -91,24 +91,25 @@ abbrev pub chosenRead : Words → R.Terms → Kind → Terms
 chosenRead identifier t kind = termsRead identifier (R.asked t) kind (keepRead (R.keep t)) (connRead (R.conn t))
 
 abbrev pub waitingRecord : Words → R.Data → Kind → ClerkRecord.Record
-waitingRecord identifier d kind = record { terms = termsRead identifier d kind Keep.Empty Connection.Empty; state = ClerkState.WaitAck; canKeep = d .canKeep }
+waitingRecord identifier d kind = record { terms = termsRead identifier d kind Keep.Empty Connection.Empty; state = ClerkState.WaitAck; canKeep = d .canKeep; down = false }
 
-abbrev pub liveRecord : Words → R.Terms → Kind → R.CState → ClerkRecord.Record
-liveRecord identifier t kind s = record { terms = chosenRead identifier t kind; state = clerkStateRead s; canKeep = R.asked t .canKeep }
+abbrev pub liveRecord : Words → R.Terms → R.Own → R.CState → ClerkRecord.Record
+liveRecord identifier t own s =
+    record { terms = chosenRead identifier t (R.kindOf own); state = clerkStateRead s; canKeep = R.asked t .canKeep; down = R.downOf own }
 
 abbrev pub clerkRead : Words → R.Clerk → P.Held ClerkRecord.Record
 clerkRead identifier R.absent = P.none
 clerkRead identifier (R.waiting d kind) = P.one (waitingRecord identifier d kind)
-clerkRead identifier (R.live t kind s) = P.one (liveRecord identifier t kind s)
+clerkRead identifier (R.live t own s) = P.one (liveRecord identifier t own s)
 
 -- the activity mark is no part of the reading
-abbrev pub lineRecord : Words → Bool → R.Terms → Kind → R.LState → LineRecord.Record
-lineRecord identifier active t kind s =
-    record { terms = chosenRead identifier t kind; state = lineStateRead s; active = active; suspended = suspendedRead s }
+abbrev pub lineRecord : Words → Bool → R.Terms → R.Own → R.LState → LineRecord.Record
+lineRecord identifier active t own s =
+    record { terms = chosenRead identifier t (R.kindOf own); state = lineStateRead s; active = active; suspended = suspendedRead s; down = R.downOf own }
 
 abbrev pub lineRead : Words → Bool → R.Line → P.Held LineRecord.Record
 lineRead identifier active R.none = P.none
-lineRead identifier active (R.holds t kind s) = P.one (lineRecord identifier active t kind s)
+lineRead identifier active (R.holds t own s) = P.one (lineRecord identifier active t own s)
 
 -- ---- its messages
 abbrev pub byConn : {A : Type 0} → R.Conn → A → A → A
@@ -163,6 +164,7 @@ abbrev pub lineActRead : LineActs.Act → R.LAct
 lineActRead LineAct.Alerted = R.alerted
 lineActRead LineAct.CallFailed = R.callFailed
 lineActRead LineAct.Cancel = R.cancels
+lineActRead LineAct.Fell = R.falls
 
 abbrev pub policyOf : List ℕ → R.Policy
 policyOf words = record { keeps = keeps words; default = pick (retains words) R.ret R.rls }

@@ -15,4 +15,6 @@ pub mod LineSteps
 pub mod Runs
 pub mod Claims
 pub mod Others
+pub mod ClerkCarriers
+pub mod LineCarriers
 pub mod Demand3

@@ -13,7 +13,7 @@ use Rattle.line_table.specs.Step.{changed, rowTaken}
 use Rattle.line_table.specs.Table.{effectOf}
 use Rattle.line_table.specs.declared.table.Row.{Row}
 use Rattle.line_table.specs.declared.table.Next.{Next}
-use Rattle.line_table.specs.declared.table.Next.the-variants.{Gone, To}
+use Rattle.line_table.specs.declared.table.Next.the-variants.{Gone, Same, To}
 use Rattle.line_table.specs.declared.record.Record.{Record}
 use Rattle.line_table.specs.declared.record.Change.{Change}
 use Rattle.line_table.specs.declared.record.Plan.{Plan}
@@ -36,9 +36,9 @@ policy-kept ws change full = rw (keeps-applied ws change full, retains-applied w
 -- what is read is used and has the identifier
 line-its : (j : Words) (active : Bool) (l : R.Line) → Its lineView j (lineRead j active l)
 line-its j active R.none = tt
-line-its j active (R.holds t kind R.idle) = (refl, refl)
-line-its j active (R.holds t kind (R.await m)) = (refl, refl)
-line-its j active (R.holds t kind R.alert) = (refl, refl)
+line-its j active (R.holds t own R.idle) = (refl, refl)
+line-its j active (R.holds t own (R.await m)) = (refl, refl)
+line-its j active (R.holds t own R.alert) = (refl, refl)
 
 -- ---- a plan that does to the request with an identifier what a reading says
 abbrev pub OwnChange : List Record → Words → Change → Type 0
@@ -69,11 +69,11 @@ plan-step d reached j plan reading does l b h = by (does .answer l b h)
 -- ---- by what a search finds
 -- what is found is what is held, as it is read
 pub found-read :
-    (ws : List ℕ) (identifier : Words) (b : Bool) (t : R.Terms) (kind : Kind) (s : R.LState) (i : ℕ) →
-    meant identifier (records ws) ≡ At i → P.held lineView identifier (records ws) ≡ lineRead identifier b (R.holds t kind s) →
-    getD (records ws) i blank ≡ lineRecord identifier b t kind s
+    (ws : List ℕ) (identifier : Words) (b : Bool) (t : R.Terms) (own : R.Own) (s : R.LState) (i : ℕ) →
+    meant identifier (records ws) ≡ At i → P.held lineView identifier (records ws) ≡ lineRead identifier b (R.holds t own s) →
+    getD (records ws) i blank ≡ lineRecord identifier b t own s
 unfolding meant
-found-read ws identifier b t kind s i e h = the-one _ _ (sym (held-found lineView (records ws) identifier i e) ∙ h)
+found-read ws identifier b t own s i e h = the-one _ _ (sym (held-found lineView (records ws) identifier i e) ∙ h)
 
 module _ (ws : List ℕ) (identifier : Words) (reading : R.Line → R.LAnswer) where
   pub missed-does :
@@ -84,13 +84,13 @@ module _ (ws : List ℕ) (identifier : Words) (reading : R.Line → R.LAnswer) w
     where
       by : (l : R.Line) (b : Bool) → P.held lineView identifier (records ws) ≡ lineRead identifier b l → Answers plan identifier b l (reading l)
       by R.none b h = answer b
-      by (R.holds t kind s) b h = not-one (sym (held-missed lineView (records ws) identifier e) ∙ h)
+      by (R.holds t own s) b h = not-one (sym (held-missed lineView (records ws) identifier e) ∙ h)
 
   pub found-does :
       (i : ℕ) (plan : Record → Plan) → meant identifier (records ws) ≡ At i →
       OwnChange (records ws) identifier (plan (getD (records ws) i blank) .change) →
-      ((b : Bool) (t : R.Terms) (kind : Kind) (s : R.LState) → getD (records ws) i blank ≡ lineRecord identifier b t kind s →
-      Answers (plan (lineRecord identifier b t kind s)) identifier b (R.holds t kind s) (reading (R.holds t kind s))) →
+      ((b : Bool) (t : R.Terms) (own : R.Own) (s : R.LState) → getD (records ws) i blank ≡ lineRecord identifier b t own s →
+      Answers (plan (lineRecord identifier b t own s)) identifier b (R.holds t own s) (reading (R.holds t own s))) →
       Does ws identifier (plan (getD (records ws) i blank)) reading
   unfolding meant
   found-does i plan e own answer = record { own = own; answer = by }
@@ -99,16 +99,17 @@ module _ (ws : List ℕ) (identifier : Words) (reading : R.Line → R.LAnswer) w
           (l : R.Line) (b : Bool) → P.held lineView identifier (records ws) ≡ lineRead identifier b l →
           Answers (plan (getD (records ws) i blank)) identifier b l (reading l)
       by R.none b h = not-one (sym h ∙ held-found lineView (records ws) identifier i e)
-      by (R.holds t kind s) b h =
-          let q = found-read ws identifier b t kind s i e h in
-          subst (λ (r : Record). Answers (plan r) identifier b (R.holds t kind s) (reading (R.holds t kind s))) (sym q) (answer b t kind s q)
+      by (R.holds t own s) b h =
+          let q = found-read ws identifier b t own s i e h in
+          subst (λ (r : Record). Answers (plan r) identifier b (R.holds t own s) (reading (R.holds t own s))) (sym q) (answer b t own s q)
 
 -- ---- a row taken for the record that is found
 pub own-row :
     (rs : List Record) (identifier : Words) (i : ℕ) (r : Record) → meant identifier rs ≡ At i → (row : Row) → OwnChange rs identifier (rowTaken i r row .change)
 unfolding rowTaken meant
-own-row rs identifier i r e row = by (effectOf row .next) _ _ _
+own-row rs identifier i r e row = by (effectOf row .next)
   where
-    by : (next : Next) (kind : Kind) (active suspended : Bool) → OwnChange rs identifier (changed next i kind active suspended)
-    by Gone kind active suspended = removes i e
-    by (To state) kind active suspended = turns-found lineView rs identifier i (leaves (changed (To state) i kind active suspended)) e refl
+    by : (next : Next) → OwnChange rs identifier (changed next (effectOf row) i r)
+    by Gone = removes i e
+    by Same = turns-found lineView rs identifier i (leaves (changed Same (effectOf row) i r)) e refl
+    by (To state) = turns-found lineView rs identifier i (leaves (changed (To state) (effectOf row) i r)) e refl

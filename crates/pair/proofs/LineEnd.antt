@@ -63,13 +63,13 @@ abbrev freeHeld : List ℕ → P.Held Record → Bool
 freeHeld ws P.none = true
 freeHeld ws (P.one r) = takesCall ws (r .terms .numberB)
 
-request-meant :
+pub request-meant :
     (kind : Kind) (service flags : ℕ) →
     messageFor (requestBody kind service flags) ≡ Meant.Request (record { kind = kind; service = service; flags = flags })
 request-meant Ccbs service flags = refl
 request-meant Ccnr service flags = refl
 
-request-carried : (kind : Kind) (service flags : ℕ) → carrierFits (requestBody kind service flags) Connection.Empty Carrier.Setup ≡ true
+pub request-carried : (kind : Kind) (service flags : ℕ) → carrierFits (requestBody kind service flags) Connection.Empty Carrier.Setup ≡ true
 unfolding carrierFits
 request-carried Ccbs service flags = refl
 request-carried Ccnr service flags = refl
@@ -134,13 +134,13 @@ module _ (ws : List ℕ) (identifier : Words) where
         let reading : R.Line → R.LAnswer = λ l. R.lineTakes (policyOf ws) l code (wordOf R.takes (freeHeld ws here)) in
         subst (λ (plan : Plan). Does ws identifier plan reading) (sym (row-at i))
         (found-does ws identifier reading i (λ r. rowPlan i r letter message (rowAt r)) e (own-at i e)
-        (λ b t kind s q.
+        (λ b t own s q.
         let f : takesCall ws (R.asked t .numberB) ≡ freeHeld ws here = sym (ap (freeHeld ws) (held-found lineView rs identifier i e ∙ ap P.one q)) in
         subst
         (λ (free : Bool).
-        Answers (rowPlan i (lineRecord identifier b t kind s) letter message (rowFor message (takesCall ws (R.asked t .numberB)) (keepRead (R.keep t)))) identifier b
-        (R.holds t kind s) (R.lineTakes (policyOf ws) (R.holds t kind s) code (wordOf R.takes free)))
-        f (record-found identifier b (policyOf ws) i message n′ (takesCall ws (R.asked t .numberB)) t kind s)))
+        Answers (rowPlan i (lineRecord identifier b t own s) letter message (rowFor message (takesCall ws (R.asked t .numberB)) (keepRead (R.keep t)))) identifier b
+        (R.holds t own s) (R.lineTakes (policyOf ws) (R.holds t own s) code (wordOf R.takes free)))
+        f (record-found identifier b (policyOf ws) i message n′ (takesCall ws (R.asked t .numberB)) t own s)))
 
     record-heard : Heard code (recordFound ws letter message (meant identifier rs))
     record-heard = (wordOf R.takes (freeHeld ws here), record-does (meant identifier rs) refl)
@@ -235,8 +235,8 @@ module _ (ws : List ℕ) (identifier : Words) where
 
     own-does :
         (x : R.LAct) →
-        ((i : ℕ) (b : Bool) (t : R.Terms) (kind : Kind) (s : R.LState) →
-        Answers (ownRow i row (lineRecord identifier b t kind s)) identifier b (R.holds t kind s) (R.lineActs (R.holds t kind s) x)) →
+        ((i : ℕ) (b : Bool) (t : R.Terms) (own : R.Own) (s : R.LState) →
+        Answers (ownRow i row (lineRecord identifier b t own s)) identifier b (R.holds t own s) (R.lineActs (R.holds t own s) x)) →
         (f : Found) → meant identifier rs ≡ f → Does ws identifier (acting f) (λ l. R.lineActs l x)
     unfolding planOf
     own-does x found Nothing e = missed-does ws identifier (λ l. R.lineActs l x) (acting Nothing) e stays (λ b. own-missed identifier b x)
@@ -246,7 +246,7 @@ module _ (ws : List ℕ) (identifier : Words) where
         (pick-elim (λ (plan : Plan). OwnChange rs identifier (plan .change)) (holdsFor row (getD rs i blank))
         (λ h. own-row rs identifier i (getD rs i blank) e row)
         (λ h. stays))
-        (λ b t kind s q. found i b t kind s))
+        (λ b t own s q. found i b t own s))
 
 -- ---- the desk's steps
 module _ (d : Desk) (reached : Reached d) where
@@ -263,8 +263,8 @@ module _ (d : Desk) (reached : Reached d) where
 
   own-step :
       (j : Words) (input : Input) (row : Row) (x : R.LAct) →
-      ((i : ℕ) (b : Bool) (t : R.Terms) (kind : Kind) (s : R.LState) →
-      Answers (ownRow i row (lineRecord j b t kind s)) j b (R.holds t kind s) (R.lineActs (R.holds t kind s) x)) →
+      ((i : ℕ) (b : Bool) (t : R.Terms) (own : R.Own) (s : R.LState) →
+      Answers (ownRow i row (lineRecord j b t own s)) j b (R.holds t own s) (R.lineActs (R.holds t own s) x)) →
       (l : R.Line) (b : Bool) → P.held lineView j (records (d .words)) ≡ lineRead j b l →
       LineStep (made d (planOf (d .words) input (ownFound (d .words) row (meant j (records (d .words)))))) j (R.lineActs l x)
   own-step j input row x found =
@@ -285,12 +285,12 @@ module _ (d : Desk) (reached : Reached d) where
 
 -- ---- the guard's report is taken where a request is held
 guard-taken :
-    (i : ℕ) (identifier : Words) (b : Bool) (t : R.Terms) (kind : Kind) (s : R.LState) →
-    done (ownRow i GuardRunsOut (lineRecord identifier b t kind s) .outcome) ≡ true
+    (i : ℕ) (identifier : Words) (b : Bool) (t : R.Terms) (own : R.Own) (s : R.LState) →
+    done (ownRow i GuardRunsOut (lineRecord identifier b t own s) .outcome) ≡ true
 unfolding rowTaken
-guard-taken i identifier b t kind R.idle = refl
-guard-taken i identifier b t kind (R.await m) = refl
-guard-taken i identifier b t kind R.alert = refl
+guard-taken i identifier b t own R.idle = refl
+guard-taken i identifier b t own (R.await m) = refl
+guard-taken i identifier b t own R.alert = refl
 
 guard-ends-found :
     (ws : List ℕ) (identifier : Words) (l : R.Line) (b : Bool) (f : Found) → meant identifier (records ws) ≡ f →
@@ -299,11 +299,11 @@ guard-ends-found :
 unfolding meant planOf
 guard-ends-found ws identifier R.none b Nothing e h = refl
 guard-ends-found ws identifier R.none b (At i) e h = not-one (sym h ∙ held-found lineView (records ws) identifier i e)
-guard-ends-found ws identifier (R.holds t kind s) b Nothing e h = not-one (sym (held-missed lineView (records ws) identifier e) ∙ h)
-guard-ends-found ws identifier (R.holds t kind s) b (At i) e h =
+guard-ends-found ws identifier (R.holds t own s) b Nothing e h = not-one (sym (held-missed lineView (records ws) identifier e) ∙ h)
+guard-ends-found ws identifier (R.holds t own s) b (At i) e h =
     ap (λ (plan : Plan). done (plan .outcome)) (acting-at ws identifier (Input.Guard identifier) GuardRunsOut i)
-    ∙ ap (λ (r : Record). done (ownRow i GuardRunsOut r .outcome)) (found-read ws identifier b t kind s i e h)
-    ∙ guard-taken i identifier b t kind s
+    ∙ ap (λ (r : Record). done (ownRow i GuardRunsOut r .outcome)) (found-read ws identifier b t own s i e h)
+    ∙ guard-taken i identifier b t own s
 
 pub guard-ends :
     (d : Desk) (identifier : Words) (l : R.Line) (b : Bool) → P.held lineView identifier (records (d .words)) ≡ lineRead identifier b l →

@@ -17,7 +17,8 @@ use Rattle.desk.specs.declared.sends.Sends.the-variants as Sends
 use Rattle.places.specs.Places as P
 use Rattle.places.proofs.Holding.{meant-own, held-put-other, held-change}
 use Rattle.line_table.specs.Line.{canTake}
-use Rattle.line_table.specs.Search.{inUse, invoked, marks, fitsKind, fits, passes}
+use Rattle.line_table.specs.Table.{inUse}
+use Rattle.line_table.specs.Search.{invoked, marks, fitsKind, fits, passes}
 use Rattle.line_table.specs.Step.{rowTaken}
 use Rattle.line_table.specs.declared.table.State.{State}
 use Rattle.line_table.specs.declared.table.State.the-variants.{Free, Invoked, Await, Alert}
@@ -114,7 +115,7 @@ module _ (d : Desk) (reached : Reached d) (number : Words) where
       let t = fits-invoked number r fit in
       let e = meant-own lineView rs i (line-placed reached) (invoked-used (r .state) t) in
       found-does (d .words) (r .terms .identifier) (λ l. R.lineActs l R.offers) i (λ r. rowTaken i r Offers) e (own-row rs (r .terms .identifier) i r e Offers)
-      (λ b a kind s q. offer-found i (r .terms .identifier) b a kind s (sym (ap (λ (x : Record). invoked (x .state)) q) ∙ t))
+      (λ b a own s q. offer-found i (r .terms .identifier) b a own s (sym (ap (λ (x : Record). invoked (x .state)) q) ∙ t))
 
   look-step : (decision : Decision) → decided (d .words) (Input.Look number) ≡ decision → Look rs number decision → Looked d number (step d (Input.Look number))
   unfolding step planFor planOf rowTaken

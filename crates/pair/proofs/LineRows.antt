@@ -80,37 +80,37 @@ rowPlan i r l message row =
 
 module _ (identifier : Words) (b : Bool) (p : R.Policy) where
   pub record-found :
-      (i : ℕ) (message : RecordMessage) (n′ : R.Conn) (free : Bool) (t : R.Terms) (kind : Kind) (s : R.LState) →
-      Answers (rowPlan i (lineRecord identifier b t kind s) (letterRead identifier (recordMessage message n′)) message (rowFor message free (keepRead (R.keep t))))
-      identifier b (R.holds t kind s) (R.lineTakes p (R.holds t kind s) (recordMessage message n′) (wordOf R.takes free))
+      (i : ℕ) (message : RecordMessage) (n′ : R.Conn) (free : Bool) (t : R.Terms) (own : R.Own) (s : R.LState) →
+      Answers (rowPlan i (lineRecord identifier b t own s) (letterRead identifier (recordMessage message n′)) message (rowFor message free (keepRead (R.keep t))))
+      identifier b (R.holds t own s) (R.lineTakes p (R.holds t own s) (recordMessage message n′) (wordOf R.takes free))
   unfolding carrierFits rowTaken R.lineTakes R.onRingout R.onSuspend R.onResume
-  record-found i Message.Ringout n′ true t kind R.idle = answers b refl refl
-  record-found i Message.Ringout n′ true t kind (R.await m) = answers b refl refl
-  record-found i Message.Ringout n′ true t kind R.alert = answers b refl refl
-  record-found i Message.Ringout n′ false (R.chosen d true n) kind R.idle = answers b refl refl
-  record-found i Message.Ringout n′ false (R.chosen d true n) kind (R.await m) = answers true refl refl
-  record-found i Message.Ringout n′ false (R.chosen d true n) kind R.alert = answers b refl refl
-  record-found i Message.Ringout n′ false (R.chosen d false n) kind R.idle = answers b refl refl
-  record-found i Message.Ringout n′ false (R.chosen d false n) kind (R.await m) = answers b refl refl
-  record-found i Message.Ringout n′ false (R.chosen d false n) kind R.alert = answers b refl refl
-  record-found i Message.Suspend n′ free t kind R.idle = answers b refl refl
-  record-found i Message.Suspend R.ret free (R.chosen d k R.ret) kind (R.await m) = answers b refl refl
-  record-found i Message.Suspend R.ret free (R.chosen d k R.rls) kind (R.await m) = answers b refl refl
-  record-found i Message.Suspend R.rls free (R.chosen d k R.ret) kind (R.await m) = answers b refl refl
-  record-found i Message.Suspend R.rls free (R.chosen d k R.rls) kind (R.await m) = answers b refl refl
-  record-found i Message.Suspend n′ free t kind R.alert = answers b refl refl
-  record-found i Message.Resume n′ free t kind R.idle = answers b refl refl
-  record-found i Message.Resume R.ret free (R.chosen d k R.ret) kind (R.await m) = answers b refl refl
-  record-found i Message.Resume R.ret free (R.chosen d k R.rls) kind (R.await m) = answers b refl refl
-  record-found i Message.Resume R.rls free (R.chosen d k R.ret) kind (R.await m) = answers b refl refl
-  record-found i Message.Resume R.rls free (R.chosen d k R.rls) kind (R.await m) = answers b refl refl
-  record-found i Message.Resume n′ free t kind R.alert = answers b refl refl
-  record-found i Message.Cancel R.ret free t kind R.idle = answers b refl refl
-  record-found i Message.Cancel R.ret free t kind (R.await m) = answers b refl refl
-  record-found i Message.Cancel R.ret free t kind R.alert = answers b refl refl
-  record-found i Message.Cancel R.rls free t kind R.idle = answers b refl refl
-  record-found i Message.Cancel R.rls free t kind (R.await m) = answers b refl refl
-  record-found i Message.Cancel R.rls free t kind R.alert = answers b refl refl
+  record-found i Message.Ringout n′ true t own R.idle = answers b refl refl
+  record-found i Message.Ringout n′ true t own (R.await m) = answers b refl refl
+  record-found i Message.Ringout n′ true t own R.alert = answers b refl refl
+  record-found i Message.Ringout n′ false (R.chosen d true n) own R.idle = answers b refl refl
+  record-found i Message.Ringout n′ false (R.chosen d true n) (R.has kind down) (R.await m) = answers true refl refl
+  record-found i Message.Ringout n′ false (R.chosen d true n) own R.alert = answers b refl refl
+  record-found i Message.Ringout n′ false (R.chosen d false n) own R.idle = answers b refl refl
+  record-found i Message.Ringout n′ false (R.chosen d false n) own (R.await m) = answers b refl refl
+  record-found i Message.Ringout n′ false (R.chosen d false n) own R.alert = answers b refl refl
+  record-found i Message.Suspend n′ free t own R.idle = answers b refl refl
+  record-found i Message.Suspend R.ret free (R.chosen d k R.ret) own (R.await m) = answers b refl refl
+  record-found i Message.Suspend R.ret free (R.chosen d k R.rls) own (R.await m) = answers b refl refl
+  record-found i Message.Suspend R.rls free (R.chosen d k R.ret) own (R.await m) = answers b refl refl
+  record-found i Message.Suspend R.rls free (R.chosen d k R.rls) own (R.await m) = answers b refl refl
+  record-found i Message.Suspend n′ free t own R.alert = answers b refl refl
+  record-found i Message.Resume n′ free t own R.idle = answers b refl refl
+  record-found i Message.Resume R.ret free (R.chosen d k R.ret) own (R.await m) = answers b refl refl
+  record-found i Message.Resume R.ret free (R.chosen d k R.rls) own (R.await m) = answers b refl refl
+  record-found i Message.Resume R.rls free (R.chosen d k R.ret) own (R.await m) = answers b refl refl
+  record-found i Message.Resume R.rls free (R.chosen d k R.rls) own (R.await m) = answers b refl refl
+  record-found i Message.Resume n′ free t own R.alert = answers b refl refl
+  record-found i Message.Cancel R.ret free t own R.idle = answers b refl refl
+  record-found i Message.Cancel R.ret free t own (R.await m) = answers b refl refl
+  record-found i Message.Cancel R.ret free t own R.alert = answers b refl refl
+  record-found i Message.Cancel R.rls free t own R.idle = answers b refl refl
+  record-found i Message.Cancel R.rls free t own (R.await m) = answers b refl refl
+  record-found i Message.Cancel R.rls free t own R.alert = answers b refl refl
 
   -- no record
   pub record-missed :
@@ -134,42 +134,55 @@ own-missed identifier b x = answers b refl refl
 
 module _ (i : ℕ) (identifier : Words) (b : Bool) where
   pub act-found :
-      (act : Act) (t : R.Terms) (kind : Kind) (s : R.LState) →
-      Answers (ownRow i (rowOfAct act) (lineRecord identifier b t kind s)) identifier b (R.holds t kind s) (R.lineActs (R.holds t kind s) (lineActRead act))
+      (act : Act) (t : R.Terms) (own : R.Own) (s : R.LState) →
+      Answers (ownRow i (rowOfAct act) (lineRecord identifier b t own s)) identifier b (R.holds t own s) (R.lineActs (R.holds t own s) (lineActRead act))
   unfolding rowTaken R.lineActs
-  act-found Act.Alerted t kind R.idle = answers b refl refl
-  act-found Act.Alerted t kind (R.await m) = answers b refl refl
-  act-found Act.Alerted t kind R.alert = answers b refl refl
-  act-found Act.CallFailed t kind R.idle = answers b refl refl
-  act-found Act.CallFailed t kind (R.await m) = answers b refl refl
-  act-found Act.CallFailed t kind R.alert = answers b refl refl
-  act-found Act.Cancel (R.chosen d k R.ret) kind R.idle = answers b refl refl
-  act-found Act.Cancel (R.chosen d k R.ret) kind (R.await m) = answers b refl refl
-  act-found Act.Cancel (R.chosen d k R.ret) kind R.alert = answers b refl refl
-  act-found Act.Cancel (R.chosen d k R.rls) kind R.idle = answers b refl refl
-  act-found Act.Cancel (R.chosen d k R.rls) kind (R.await m) = answers b refl refl
-  act-found Act.Cancel (R.chosen d k R.rls) kind R.alert = answers b refl refl
+  act-found Act.Alerted t own R.idle = answers b refl refl
+  act-found Act.Alerted t own (R.await m) = answers b refl refl
+  act-found Act.Alerted t own R.alert = answers b refl refl
+  act-found Act.CallFailed t own R.idle = answers b refl refl
+  act-found Act.CallFailed t own (R.await m) = answers b refl refl
+  act-found Act.CallFailed t own R.alert = answers b refl refl
+  act-found Act.Cancel (R.chosen d k R.ret) (R.has kind true) R.idle = answers b refl refl
+  act-found Act.Cancel (R.chosen d k R.ret) (R.has kind false) R.idle = answers b refl refl
+  act-found Act.Cancel (R.chosen d k R.ret) (R.has kind true) (R.await m) = answers b refl refl
+  act-found Act.Cancel (R.chosen d k R.ret) (R.has kind false) (R.await m) = answers b refl refl
+  act-found Act.Cancel (R.chosen d k R.ret) (R.has kind true) R.alert = answers b refl refl
+  act-found Act.Cancel (R.chosen d k R.ret) (R.has kind false) R.alert = answers b refl refl
+  act-found Act.Cancel (R.chosen d k R.rls) own R.idle = answers b refl refl
+  act-found Act.Cancel (R.chosen d k R.rls) own (R.await m) = answers b refl refl
+  act-found Act.Cancel (R.chosen d k R.rls) own R.alert = answers b refl refl
+  act-found Act.Fell (R.chosen d k R.ret) (R.has kind down) R.idle = answers b refl refl
+  act-found Act.Fell (R.chosen d k R.rls) own R.idle = answers b refl refl
+  act-found Act.Fell (R.chosen d k R.ret) (R.has kind down) (R.await m) = answers b refl refl
+  act-found Act.Fell (R.chosen d k R.rls) own (R.await m) = answers b refl refl
+  act-found Act.Fell (R.chosen d k R.ret) (R.has kind down) R.alert = answers b refl refl
+  act-found Act.Fell (R.chosen d k R.rls) own R.alert = answers b refl refl
 
   pub guard-found :
-      (t : R.Terms) (kind : Kind) (s : R.LState) →
-      Answers (ownRow i GuardRunsOut (lineRecord identifier b t kind s)) identifier b (R.holds t kind s) (R.lineActs (R.holds t kind s) R.guard)
+      (t : R.Terms) (own : R.Own) (s : R.LState) →
+      Answers (ownRow i GuardRunsOut (lineRecord identifier b t own s)) identifier b (R.holds t own s) (R.lineActs (R.holds t own s) R.guard)
   unfolding rowTaken R.lineActs
-  guard-found (R.chosen d k R.ret) kind R.idle = answers b refl refl
-  guard-found (R.chosen d k R.ret) kind (R.await m) = answers b refl refl
-  guard-found (R.chosen d k R.ret) kind R.alert = answers b refl refl
-  guard-found (R.chosen d k R.rls) kind R.idle = answers b refl refl
-  guard-found (R.chosen d k R.rls) kind (R.await m) = answers b refl refl
-  guard-found (R.chosen d k R.rls) kind R.alert = answers b refl refl
+  guard-found (R.chosen d k R.ret) (R.has kind true) R.idle = answers b refl refl
+  guard-found (R.chosen d k R.ret) (R.has kind false) R.idle = answers b refl refl
+  guard-found (R.chosen d k R.ret) (R.has kind true) (R.await m) = answers b refl refl
+  guard-found (R.chosen d k R.ret) (R.has kind false) (R.await m) = answers b refl refl
+  guard-found (R.chosen d k R.ret) (R.has kind true) R.alert = answers b refl refl
+  guard-found (R.chosen d k R.ret) (R.has kind false) R.alert = answers b refl refl
+  guard-found (R.chosen d k R.rls) own R.idle = answers b refl refl
+  guard-found (R.chosen d k R.rls) own (R.await m) = answers b refl refl
+  guard-found (R.chosen d k R.rls) own R.alert = answers b refl refl
 
   -- a record that fits is Invoked
   pub offer-found :
-      (t : R.Terms) (kind : Kind) (s : R.LState) → invoked (lineStateRead s) ≡ true →
-      Answers (rowTaken i (lineRecord identifier b t kind s) Offers) identifier b (R.holds t kind s) (R.lineActs (R.holds t kind s) R.offers)
+      (t : R.Terms) (own : R.Own) (s : R.LState) → invoked (lineStateRead s) ≡ true →
+      Answers (rowTaken i (lineRecord identifier b t own s) Offers) identifier b (R.holds t own s) (R.lineActs (R.holds t own s) R.offers)
   unfolding rowTaken R.lineActs
-  offer-found (R.chosen d k R.ret) kind R.idle e = answers b refl refl
-  offer-found (R.chosen d k R.rls) kind R.idle e = answers b refl refl
-  offer-found t kind (R.await m) e = absurd (no-true e)
-  offer-found t kind R.alert e = absurd (no-true e)
+  offer-found (R.chosen d k R.ret) (R.has kind true) R.idle e = answers b refl refl
+  offer-found (R.chosen d k R.ret) (R.has kind false) R.idle e = answers b refl refl
+  offer-found (R.chosen d k R.rls) own R.idle e = answers b refl refl
+  offer-found t own (R.await m) e = absurd (no-true e)
+  offer-found t own R.alert e = absurd (no-true e)
 
 -- ---- a request: flags are can-keep plus twice the preference
 can-keep-sent : (ck : Bool) (q : ℕ) → canKeepSent (askFlags ck q) ≡ ck
@@ -209,12 +222,12 @@ connection-read ck q ws =
 new-read :
     (ws : List ℕ) (identifier : Words) (busy : Bool) (d : R.Data) (kind : Kind) (q : ℕ) →
     newRecord ws (namesRead identifier d) (requestRead d kind q) busy
-    ≡ lineRecord identifier busy (R.termsOf (policyOf ws) d q) kind R.idle
+    ≡ lineRecord identifier busy (R.termsOf (policyOf ws) d q) (R.has kind false) R.idle
 new-read ws identifier busy d kind q = rw (keep-read (d .canKeep) q (keeps ws), connection-read (d .canKeep) q ws)
 
 stored-read :
     (i : ℕ) (identifier : Words) (b busy : Bool) (t : R.Terms) (kind : Kind) →
-    Answers (storedPlan i (lineRecord identifier busy t kind R.idle)) identifier b R.none (R.holds t kind R.idle, R.resultOf t ∷ [])
+    Answers (storedPlan i (lineRecord identifier busy t (R.has kind false) R.idle)) identifier b R.none (R.holds t (R.has kind false) R.idle, R.resultOf t ∷ [])
 stored-read i identifier b busy (R.chosen d true R.ret) kind = answers busy refl refl
 stored-read i identifier b busy (R.chosen d true R.rls) kind = answers busy refl refl
 stored-read i identifier b busy (R.chosen d false R.ret) kind = answers busy refl refl

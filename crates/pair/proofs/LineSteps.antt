@@ -49,13 +49,15 @@ act-no-guard : (l : R.Line) (act : Act) → R.guardEnds l (lineActRead act) ≡ 
 act-no-guard R.none Act.Alerted = refl
 act-no-guard R.none Act.CallFailed = refl
 act-no-guard R.none Act.Cancel = refl
-act-no-guard (R.holds t kind s) Act.Alerted = refl
-act-no-guard (R.holds t kind s) Act.CallFailed = refl
-act-no-guard (R.holds t kind s) Act.Cancel = refl
+act-no-guard R.none Act.Fell = refl
+act-no-guard (R.holds t own s) Act.Alerted = refl
+act-no-guard (R.holds t own s) Act.CallFailed = refl
+act-no-guard (R.holds t own s) Act.Cancel = refl
+act-no-guard (R.holds t own s) Act.Fell = refl
 
 look-no-guard : (l : R.Line) → R.guardEnds l R.offers ≡ false
 look-no-guard R.none = refl
-look-no-guard (R.holds t kind s) = refl
+look-no-guard (R.holds t own s) = refl
 
 -- a message that a desk sent has numbers of sixteen bytes
 sent-typed : (k : Words) (c : R.Msg) → Line.Typed (messageRead k c)
@@ -149,7 +151,7 @@ module _ {p : R.Policy} {w : World} (g : Good p w) (known : Known p w) where
   line-does (Input.Look number) allowed = line-look number (line-looks (w .line) (g .line) number)
 
   -- ---- a message delivered
-  hears-as :
+  pub hears-as :
       {m : Message} (k : Words) (c : R.Msg) → m ≡ messageRead k c → Clear k c → received (w .line) m ≡ step (w .line) (Input.Message (letterRead k c))
   unfolding messageEntry entered
   hears-as k c e clear = ap (received (w .line)) e ∙ rw (clear .ranged, clear .back)

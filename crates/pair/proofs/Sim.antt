@@ -216,8 +216,8 @@ unaltered-read :
     (j : Words) (l : R.Line) (b : Bool) → before ≡ lineRead j b l → (c : Bool) × (after ≡ lineRead j c l)
 unaltered-read same j l b e = (b, e)
 unaltered-read (marked r so) j R.none b e = not-one (sym e)
-unaltered-read (marked r so) j (R.holds t kind s) b e =
-    (true, ap (λ (x : LineRecord.Record). P.one (activated x)) (the-one r (lineRecord j b t kind s) e))
+unaltered-read (marked r so) j (R.holds t own s) b e =
+    (true, ap (λ (x : LineRecord.Record). P.one (activated x)) (the-one r (lineRecord j b t own s) e))
 
 pub left-sim : {w : World} {e : Event} {after : World} {j : Words} {n : R.Net} → Left w e after j → Sim j w n → Sim j after n
 left-sim {j = j} {n = n} left sim =

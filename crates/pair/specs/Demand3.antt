@@ -11,6 +11,7 @@ use Rattle.clerk_table.specs.Inputs.{namesOf}
 use Rattle.clerk_table.specs.declared.{inputs.Input.Input as ClerkInput, record.Record.Record as ClerkRecord, table.State.State as ClerkState}
 use Rattle.line_table.specs.{Record.activated, Search.marks, declared.inputs.Act.Act as LineAct, declared.inputs.Input.Input as LineInput}
 use Rattle.line_table.specs.declared.{record.Record.Record as LineRecord, table.State.State as LineState}
+use Rattle.clerk.specs.Steps as Clerk
 use Rattle.line.specs.Steps as Line
 use Rattle.pair_request.specs.Signal.{Signal}
 use Rattle.pair.specs.World.{World, Event, clerkDoes, lineDoes, clerkIsTold, clerkHears, lineHears, dropsUp, dropsDown, clerkHolds, lineHolds}
@@ -145,6 +146,13 @@ NoOtherMessage =
     (w : World) → Reached w → (e : Event) → Allowed w e → (identifier : Words) → (About w e identifier → ⊥) → (Drops w e identifier → ⊥) →
     (messagesOf identifier (next w e .up) ≡ messagesOf identifier (w .up)) × (messagesOf identifier (next w e .down) ≡ messagesOf identifier (w .down))
 
+-- ---- the carriers fit (document 02, Ask 11): in no run does an end refuse what the other sent with 8, whichever connection fell, and when
+abbrev pub CarriersFit : Type 0
+CarriersFit =
+    (w : World) → Reached w → (m : Message) (rest : List Message) →
+    ((busy : Bool) → w .down ≡ m ∷ rest → Clerk.received (w .clerk) m busy .outcome .refusal ≡ 8 → ⊥) ×
+    (w .up ≡ m ∷ rest → Line.received (w .line) m .outcome .refusal ≡ 8 → ⊥)
+
 -- ---- all of it
 pub record Demand3 : Type 0 where
   pub acknowledgedWasAccepted : AcknowledgedWasAccepted
@@ -155,3 +163,4 @@ pub record Demand3 : Type 0 where
   pub goneForGood : GoneForGood
   pub noOtherAltered : NoOtherAltered
   pub noOtherMessage : NoOtherMessage
+  pub carriersFit : CarriersFit

@@ -5,16 +5,16 @@ use mathlib.Core.Bool.{Bool, true, false, true≢false, false≢true}
 use mathlib.Core.Logic.{_⊎_, inl, inr}
 use mathlib.Core.List.{List, [], _∷_}
 use Rattle.message.specs.declared.Kind.{Kind}
-use Rattle.pair_request.specs.Reading.{Data, Terms, asked, Msg, request, CState, waiting, live, LState, idle, Line, none, holds, Policy, termsOf, Word, lineTakes, lineActs, Net, held, Event, asks, clerkDoes, lineDoes, clerkGets, lineGets, losesUp, losesDown, askStep, clerkGetStep, lineGetStep, next, Reach}
+use Rattle.pair_request.specs.Reading.{Data, Own, has, Terms, asked, Msg, request, CState, waiting, live, LState, idle, Line, none, holds, Policy, termsOf, Word, lineTakes, lineActs, Net, held, Event, asks, clerkDoes, lineDoes, clerkGets, lineGets, losesUp, losesDown, askStep, clerkGetStep, lineGetStep, next, Reach}
 use Rattle.pair_request.specs.Listed.{Listed}
-use Rattle.pair_request.proofs.Effects.{LineActEffect, line-stays, line-quits, line-offers, line-alerts, line-fails, line-act-effect, LineTakeEffect, line-take-stays, line-take-ends, line-take-moves, line-take-accepts, line-take-effect, or-elim, Move, still, ask, clerk-act, line-act, clerk-get, line-get, up-lost, down-lost, moves}
-use Rattle.pair_request.proofs.Agree.{agreed, live-accepted, held-accepted, accepted-plain, waiting-agrees, live-agrees}
+use Rattle.pair_request.proofs.Effects.{Carried, LineActEffect, line-stays, line-quits, line-offers, line-alerts, line-fails, line-marks, line-act-effect, LineTakeEffect, line-take-stays, line-take-ends, line-take-moves, line-take-accepts, line-take-effect, or-elim, Move, still, ask, clerk-act, line-act, clerk-get, line-get, up-lost, down-lost, moves}
+use Rattle.pair_request.proofs.Agree.{agreed, live-accepted, held-accepted, accepted-plain, waiting-agrees, live-agrees, live-carried, held-carried}
 use Rattle.pair_request.proofs.Quiet.{undropped, quiet-listed}
 use Rattle.pair_request.proofs.Over.{Over, over-move, ran}
 
 -- ---- accepted first
-pub acked-was-accepted : {p : Policy} {s : Net} (t : Terms) (kind : Kind) (x : CState) → Reach p s → s .clerk ≡ live t kind x → s .accepted ≡ true
-acked-was-accepted t kind x r e = live-accepted (rw e at (agreed r))
+pub acked-was-accepted : {p : Policy} {s : Net} (t : Terms) (own : Own) (x : CState) → Reach p s → s .clerk ≡ live t own x → s .accepted ≡ true
+acked-was-accepted t own x r e = live-accepted (rw e at (agreed r))
 
 newly : {p : Policy} {s s′ : Net} → Move p s s′ → s′ .accepted ≡ true → (s .accepted ≡ true) ⊎ (held (s′ .line) ≡ true)
 newly still h = inl h
@@ -38,19 +38,20 @@ pub record TakesUp (p : Policy) (s s′ : Net) : Type 0 where
   pub rest : List Msg
   pub under-way : s .up ≡ request asked-data asked-kind preference ∷ rest
   pub held-none : s .line ≡ none
-  pub holds-now : s′ .line ≡ holds (termsOf p asked-data preference) asked-kind idle
+  pub holds-now : s′ .line ≡ holds (termsOf p asked-data preference) (has asked-kind false) idle
 
 -- an act leaves nothing held where nothing was
 held-before : {l l′ : Line} {o : List Msg} → LineActEffect l l′ o → held l′ ≡ true → held l ≡ true
 held-before line-stays h = h
 held-before line-quits h = refl
-held-before line-offers h = refl
+held-before (line-offers f) h = refl
 held-before line-alerts h = refl
 held-before line-fails h = refl
+held-before line-marks h = refl
 
 not-held : (l : Line) → (held l ≡ true → ⊥) → l ≡ none
 not-held none h = refl
-not-held (holds t kind s) h = absurd (h refl)
+not-held (holds t own s) h = absurd (h refl)
 
 -- a message at a line that holds nothing, after which it holds something
 takes-up : {p : Policy} {m : Msg} {s s′ : Net} {u o : List Msg} {l l′ : Line} → LineTakeEffect p l m l′ o → s .up ≡ m ∷ u → s .line ≡ l → s′ .line ≡ l′ → l ≡ none → held l′ ≡ true → TakesUp p s s′
@@ -92,14 +93,21 @@ accepts-by-request (losesDown i) r f h = absurd (both-ways f h)
 
 -- ---- the data agree while both hold it
 pub both-hold-waiting :
-    {p : Policy} {s : Net} (d : Data) (t : Terms) (kind kind′ : Kind) (y : LState) → Reach p s → s .clerk ≡ waiting d kind → s .line ≡ holds t kind′ y →
+    {p : Policy} {s : Net} (d : Data) (t : Terms) (kind : Kind) (own′ : Own) (y : LState) → Reach p s → s .clerk ≡ waiting d kind → s .line ≡ holds t own′ y →
     d ≡ asked t
-both-hold-waiting d t kind kind′ y r e f = waiting-agrees (rw (e, f) at (agreed r))
+both-hold-waiting d t kind own′ y r e f = waiting-agrees (rw (e, f) at (agreed r))
 
 pub both-hold-live :
-    {p : Policy} {s : Net} (t t′ : Terms) (kind kind′ : Kind) (x : CState) (y : LState) → Reach p s → s .clerk ≡ live t kind x → s .line ≡ holds t′ kind′ y →
+    {p : Policy} {s : Net} (t t′ : Terms) (own own′ : Own) (x : CState) (y : LState) → Reach p s → s .clerk ≡ live t own x → s .line ≡ holds t′ own′ y →
     t ≡ t′
-both-hold-live t t′ kind kind′ x y r e f = live-agrees (rw (e, f) at (agreed r))
+both-hold-live t t′ own own′ x y r e f = live-agrees (rw (e, f) at (agreed r))
+
+-- ---- what arrives is carried so that it is taken, whatever was dropped
+pub clerk-carried : {p : Policy} {s : Net} (t : Terms) (own : Own) (x : CState) (m : Msg) (v : List Msg) → Reach p s → s .clerk ≡ live t own x → s .down ≡ m ∷ v → Carried t m
+clerk-carried t own x m v r e f = live-carried (rw (e, f) at (agreed r))
+
+pub line-carried : {p : Policy} {s : Net} (t : Terms) (own : Own) (x : LState) (m : Msg) (u : List Msg) → Reach p s → s .line ≡ holds t own x → s .up ≡ m ∷ u → Carried t m
+line-carried t own x m u r e f = held-carried (rw (e, f) at (agreed r))
 
 -- ---- nothing dropped and nothing under way: a listed pair
 pub quiet-pair : {p : Policy} {s : Net} → Reach p s → s .dropped ≡ false → s .up ≡ [] → s .down ≡ [] → Listed (s .clerk) (s .line)

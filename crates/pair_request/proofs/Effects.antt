@@ -6,7 +6,7 @@ use mathlib.Core.List.{List, [], _∷_, _++_}
 use Rattle.message.specs.declared.Kind.{Kind}
 use Rattle.clerk_table.specs.declared.inputs.Act.the-variants as Act
 use Rattle.clerk_table.specs.declared.table.Timer.the-variants.{T1, T2, T3}
-use Rattle.pair_request.specs.Reading.{Conn, ret, rls, Data, Terms, chosen, asked, keep, conn, Msg, request, result, denied, exec, ringout, busyAgain, noMatch, suspend, resume, cancel, alerts, failed, CState, invoked, waitAnswer, ringing, suspended, Clerk, absent, waiting, live, LState, idle, await, alert, Line, none, holds, and, not, sameConn, CAnswer, inRinging, onBusyAgain, unfit, onExec, clerkTakes, signalMsg, CAct, act, timer, signal, liveActs, waitingActs, clerkActs, Policy, termsOf, resultOf, Verdict, takes, denies, Word, onRequest, onRingout, resumeFits, onResume, onSuspend, lineTakes, LAct, offers, alerted, callFailed, cancels, guard, lineActs, Net, or, present, isT1orT2, guardEnds, held, Event, asks, clerkDoes, lineDoes, clerkGets, lineGets, losesUp, losesDown, afterClerk, afterLine, lost, afterAsk, askStep, clerkGetStep, lineGetStep, next, leftOut}
+use Rattle.pair_request.specs.Reading.{Conn, ret, rls, Data, Terms, chosen, asked, keep, conn, Msg, request, result, denied, exec, ringout, busyAgain, noMatch, suspend, resume, cancel, alerts, failed, CState, invoked, waitAnswer, ringing, suspended, Clerk, absent, waiting, live, LState, idle, await, alert, Line, none, holds, and, not, wayOf, wayFits, Own, has, downOf, CAnswer, inRinging, onBusyAgain, unfit, onExec, clerkTakes, signalMsg, CAct, act, timer, signal, liveActs, waitingActs, clerkActs, Policy, termsOf, resultOf, Verdict, takes, denies, Word, onRequest, onRingout, onResume, onSuspend, lineTakes, LAct, offers, alerted, callFailed, cancels, falls, guard, lineActs, Net, or, present, isT1orT2, guardEnds, held, Event, asks, clerkDoes, lineDoes, clerkGets, lineGets, losesUp, losesDown, afterClerk, afterLine, lost, afterAsk, askStep, clerkGetStep, lineGetStep, next, leftOut}
 use Rattle.pair_request.specs.Signal.{Signal, callDied, rejected}
 use Rattle.pair_request.specs.Listed.{NotReq, NoReq}
 
@@ -60,45 +60,85 @@ abbrev pub NoRes : List Msg → Type 0
 NoRes [] = Unit
 NoRes (m ∷ ms) = NotRes m × NoRes ms
 
+-- ---- carriers
+-- a message sent by the carrier of a choice is taken for these terms
+abbrev pub Fits : Terms → Conn → Type 0
+Fits t n = wayFits (conn t) n ≡ true
+
+pub way-fits : (n : Conn) (down : Bool) → wayFits n (wayOf n down) ≡ true
+way-fits ret down = refl
+way-fits rls down = refl
+
+abbrev pub Carried : Terms → Msg → Type 0
+Carried t (request d kind q) = Unit
+Carried t (result k n) = Unit
+Carried t (denied w) = Unit
+Carried t (exec n) = Fits t n
+Carried t ringout = Unit
+Carried t busyAgain = Unit
+Carried t noMatch = Unit
+Carried t (suspend n) = Fits t n
+Carried t (resume n) = Fits t n
+Carried t (cancel n) = Unit
+Carried t alerts = Unit
+Carried t failed = Unit
+
+abbrev pub AllCarried : Terms → List Msg → Type 0
+AllCarried t [] = Unit
+AllCarried t (m ∷ ms) = Carried t m × AllCarried t ms
+
+pub carried++ : (t : Terms) (u v : List Msg) → AllCarried t u → AllCarried t v → AllCarried t (u ++ v)
+carried++ t [] v h k = k
+carried++ t (m ∷ u) v h k = (h .0, carried++ t u v (h .1) k)
+
+pub carried-left : (t : Terms) (i : ℕ) (u : List Msg) → AllCarried t u → AllCarried t (leftOut i u)
+unfolding leftOut
+carried-left t i [] h = tt
+carried-left t zero (m ∷ u) h = h .1
+carried-left t (suc i) (m ∷ u) h = (h .0, carried-left t i u (h .1))
+
 -- ---- an act at the clerk's end
 pub data ClerkActEffect : Clerk → Clerk → List Msg → Type 0 where
   stays : {c : Clerk} → ClerkActEffect c c []
   quit-waiting : {d : Data} {kind : Kind} → ClerkActEffect (waiting d kind) absent (cancel ret ∷ [])
   drops-waiting : {d : Data} {kind : Kind} → ClerkActEffect (waiting d kind) absent []
-  quit-live : {t : Terms} {kind : Kind} {s : CState} → ClerkActEffect (live t kind s) absent (cancel (conn t) ∷ [])
-  accepts : {t : Terms} {kind : Kind} → ClerkActEffect (live t kind waitAnswer) (live t kind ringing) (ringout ∷ [])
-  resuming : {t : Terms} {kind : Kind} → ClerkActEffect (live t kind suspended) (live t kind invoked) (resume (conn t) ∷ [])
-  recalling : {t : Terms} {kind : Kind} → ClerkActEffect (live t kind suspended) (live t kind waitAnswer) []
+  quit-live : {t : Terms} {own : Own} {s : CState} {n : Conn} → ClerkActEffect (live t own s) absent (cancel n ∷ [])
+  accepts : {t : Terms} {own : Own} → ClerkActEffect (live t own waitAnswer) (live t own ringing) (ringout ∷ [])
+  resuming : {t : Terms} {own : Own} {n : Conn} → Fits t n → ClerkActEffect (live t own suspended) (live t own invoked) (resume n ∷ [])
+  recalling : {t : Terms} {own : Own} → ClerkActEffect (live t own suspended) (live t own waitAnswer) []
+  marking : {t : Terms} {kind : Kind} {a b : Bool} {s : CState} → ClerkActEffect (live t (has kind a) s) (live t (has kind b) s) []
 
-live-act-effect : (t : Terms) (kind : Kind) (s : CState) (x : CAct) → ClerkActEffect (live t kind s) (liveActs t kind s x .0) (liveActs t kind s x .1)
+live-act-effect : (t : Terms) (own : Own) (s : CState) (x : CAct) → ClerkActEffect (live t own s) (liveActs t own s x .0) (liveActs t own s x .1)
 unfolding liveActs clerkTakes inRinging
-live-act-effect t kind waitAnswer (act Act.Accept) = accepts
-live-act-effect t kind invoked (act Act.Accept) = stays
-live-act-effect t kind ringing (act Act.Accept) = stays
-live-act-effect t kind suspended (act Act.Accept) = stays
-live-act-effect t kind suspended (act Act.Resume) = resuming
-live-act-effect t kind invoked (act Act.Resume) = stays
-live-act-effect t kind waitAnswer (act Act.Resume) = stays
-live-act-effect t kind ringing (act Act.Resume) = stays
-live-act-effect t kind suspended (act Act.GoOn) = recalling
-live-act-effect t kind invoked (act Act.GoOn) = stays
-live-act-effect t kind waitAnswer (act Act.GoOn) = stays
-live-act-effect t kind ringing (act Act.GoOn) = stays
-live-act-effect t kind s (act Act.Cancel) = quit-live
-live-act-effect t kind s (timer T1) = stays
-live-act-effect t kind invoked (timer T2) = quit-live
-live-act-effect t kind waitAnswer (timer T2) = quit-live
-live-act-effect t kind ringing (timer T2) = stays
-live-act-effect t kind suspended (timer T2) = quit-live
-live-act-effect t kind invoked (timer T3) = stays
-live-act-effect t kind waitAnswer (timer T3) = quit-live
-live-act-effect t kind ringing (timer T3) = stays
-live-act-effect t kind suspended (timer T3) = stays
-live-act-effect t kind invoked (signal callDied) = stays
-live-act-effect t kind waitAnswer (signal callDied) = stays
-live-act-effect t kind ringing (signal callDied) = quit-live
-live-act-effect t kind suspended (signal callDied) = stays
-live-act-effect t kind s (signal rejected) = stays
+live-act-effect t own waitAnswer (act Act.Accept) = accepts
+live-act-effect t own invoked (act Act.Accept) = stays
+live-act-effect t own ringing (act Act.Accept) = stays
+live-act-effect t own suspended (act Act.Accept) = stays
+live-act-effect t own suspended (act Act.Resume) = resuming (way-fits (conn t) (downOf own))
+live-act-effect t own invoked (act Act.Resume) = stays
+live-act-effect t own waitAnswer (act Act.Resume) = stays
+live-act-effect t own ringing (act Act.Resume) = stays
+live-act-effect t own suspended (act Act.GoOn) = recalling
+live-act-effect t own invoked (act Act.GoOn) = stays
+live-act-effect t own waitAnswer (act Act.GoOn) = stays
+live-act-effect t own ringing (act Act.GoOn) = stays
+live-act-effect t own s (act Act.Cancel) = quit-live
+live-act-effect (chosen d k ret) (has kind down) s (act Act.Fell) = marking
+live-act-effect (chosen d k rls) own s (act Act.Fell) = stays
+live-act-effect t own s (timer T1) = stays
+live-act-effect t own invoked (timer T2) = quit-live
+live-act-effect t own waitAnswer (timer T2) = quit-live
+live-act-effect t own ringing (timer T2) = stays
+live-act-effect t own suspended (timer T2) = quit-live
+live-act-effect t own invoked (timer T3) = stays
+live-act-effect t own waitAnswer (timer T3) = quit-live
+live-act-effect t own ringing (timer T3) = stays
+live-act-effect t own suspended (timer T3) = stays
+live-act-effect t own invoked (signal callDied) = stays
+live-act-effect t own waitAnswer (signal callDied) = stays
+live-act-effect t own ringing (signal callDied) = quit-live
+live-act-effect t own suspended (signal callDied) = stays
+live-act-effect t own s (signal rejected) = stays
 
 waiting-act-effect : (d : Data) (kind : Kind) (x : CAct) → ClerkActEffect (waiting d kind) (waitingActs d kind x .0) (waitingActs d kind x .1)
 unfolding waitingActs clerkTakes inRinging
@@ -106,6 +146,7 @@ waiting-act-effect d kind (act Act.Accept) = stays
 waiting-act-effect d kind (act Act.Resume) = stays
 waiting-act-effect d kind (act Act.GoOn) = stays
 waiting-act-effect d kind (act Act.Cancel) = quit-waiting
+waiting-act-effect d kind (act Act.Fell) = stays
 waiting-act-effect d kind (timer T1) = quit-waiting
 waiting-act-effect d kind (timer T2) = stays
 waiting-act-effect d kind (timer T3) = stays
@@ -116,7 +157,7 @@ pub clerk-act-effect : (c : Clerk) (x : CAct) → ClerkActEffect c (clerkActs c 
 unfolding clerkActs
 clerk-act-effect absent x = stays
 clerk-act-effect (waiting d kind) x = waiting-act-effect d kind x
-clerk-act-effect (live t kind s) x = live-act-effect t kind s x
+clerk-act-effect (live t own s) x = live-act-effect t own s x
 
 -- a signal is taken as the message that it stands for, whatever User A does
 pub signal-takes : (c : Clerk) (x : Signal) (b : Bool) → clerkTakes c (signalMsg x) b ≡ clerkActs c (signal x)
@@ -125,8 +166,8 @@ signal-takes absent callDied b = refl
 signal-takes absent rejected b = refl
 signal-takes (waiting d kind) callDied b = refl
 signal-takes (waiting d kind) rejected b = refl
-signal-takes (live t kind s) callDied b = refl
-signal-takes (live t kind s) rejected b = refl
+signal-takes (live t own s) callDied b = refl
+signal-takes (live t own s) rejected b = refl
 
 -- what it sends holds no request
 pub act-plain : {c c′ : Clerk} {o : List Msg} → ClerkActEffect c c′ o → NoReq o
@@ -135,43 +176,44 @@ act-plain quit-waiting = (tt, tt)
 act-plain drops-waiting = tt
 act-plain quit-live = (tt, tt)
 act-plain accepts = (tt, tt)
-act-plain resuming = (tt, tt)
+act-plain (resuming f) = (tt, tt)
 act-plain recalling = tt
+act-plain marking = tt
 
 -- ---- a message at the clerk's end
 pub data ClerkTakeEffect : Clerk → Msg → Clerk → List Msg → Type 0 where
   take-stays : {m : Msg} {c : Clerk} → ClerkTakeEffect c m c []
   take-replies : {m : Msg} {c : Clerk} → ClerkTakeEffect c m c (cancel ret ∷ [])
   take-ends-waiting : {m : Msg} {d : Data} {kind : Kind} → ClerkTakeEffect (waiting d kind) m absent []
-  take-ends : {m : Msg} {t : Terms} {kind : Kind} {s : CState} → ClerkTakeEffect (live t kind s) m absent []
-  take-ends-cancel : {m : Msg} {t : Terms} {kind : Kind} {s : CState} → ClerkTakeEffect (live t kind s) m absent (cancel (conn t) ∷ [])
-  take-moves : {m : Msg} {t : Terms} {kind kind′ : Kind} {s s′ : CState} → ClerkTakeEffect (live t kind s) m (live t kind′ s′) []
-  take-suspends : {m : Msg} {t : Terms} {kind : Kind} {s : CState} → ClerkTakeEffect (live t kind s) m (live t kind suspended) (suspend (conn t) ∷ [])
-  take-acks : {d : Data} {kind : Kind} {k : Bool} {n : Conn} → ClerkTakeEffect (waiting d kind) (result k n) (live (chosen d (and (d .canKeep) k) n) kind invoked) []
+  take-ends : {m : Msg} {t : Terms} {own : Own} {s : CState} → ClerkTakeEffect (live t own s) m absent []
+  take-ends-cancel : {m : Msg} {t : Terms} {own : Own} {s : CState} {n : Conn} → ClerkTakeEffect (live t own s) m absent (cancel n ∷ [])
+  take-moves : {m : Msg} {t : Terms} {own own′ : Own} {s s′ : CState} → ClerkTakeEffect (live t own s) m (live t own′ s′) []
+  take-suspends : {m : Msg} {t : Terms} {own : Own} {s : CState} {n : Conn} → Fits t n → ClerkTakeEffect (live t own s) m (live t own suspended) (suspend n ∷ [])
+  take-acks : {d : Data} {kind : Kind} {k : Bool} {n : Conn} → ClerkTakeEffect (waiting d kind) (result k n) (live (chosen d (and (d .canKeep) k) n) (has kind false) invoked) []
 
-ringing-effect : (c : Clerk) (m : Msg) (f : Terms → Kind → CAnswer) → ((t : Terms) (kind : Kind) → ClerkTakeEffect (live t kind ringing) m (f t kind .0) (f t kind .1)) → ClerkTakeEffect c m (inRinging c f .0) (inRinging c f .1)
+ringing-effect : (c : Clerk) (m : Msg) (f : Terms → Own → CAnswer) → ((t : Terms) (own : Own) → ClerkTakeEffect (live t own ringing) m (f t own .0) (f t own .1)) → ClerkTakeEffect c m (inRinging c f .0) (inRinging c f .1)
 unfolding inRinging
 ringing-effect absent m f h = take-stays
 ringing-effect (waiting d kind) m f h = take-stays
-ringing-effect (live t kind invoked) m f h = take-stays
-ringing-effect (live t kind waitAnswer) m f h = take-stays
-ringing-effect (live t kind ringing) m f h = h t kind
-ringing-effect (live t kind suspended) m f h = take-stays
+ringing-effect (live t own invoked) m f h = take-stays
+ringing-effect (live t own waitAnswer) m f h = take-stays
+ringing-effect (live t own ringing) m f h = h t own
+ringing-effect (live t own suspended) m f h = take-stays
 
-busyAgain-effect : (t : Terms) (kind : Kind) → ClerkTakeEffect (live t kind ringing) busyAgain (onBusyAgain t kind .0) (onBusyAgain t kind .1)
+busyAgain-effect : (t : Terms) (own : Own) → ClerkTakeEffect (live t own ringing) busyAgain (onBusyAgain t own .0) (onBusyAgain t own .1)
 unfolding onBusyAgain
-busyAgain-effect (chosen d true n) kind = take-moves
-busyAgain-effect (chosen d false n) kind = take-ends
+busyAgain-effect (chosen d true n) own = take-moves
+busyAgain-effect (chosen d false n) own = take-ends
 
 unfit-effect : (c : Clerk) (m : Msg) (n : Conn) → ClerkTakeEffect c m c (unfit n)
 unfit-effect c m ret = take-stays
 unfit-effect c m rls = take-replies
 
-exec-effect : (t : Terms) (kind : Kind) (m : Conn) (e b : Bool) → ClerkTakeEffect (live t kind invoked) (exec m) (onExec t kind m e b .0) (onExec t kind m e b .1)
+exec-effect : (t : Terms) (own : Own) (m : Conn) (e b : Bool) → ClerkTakeEffect (live t own invoked) (exec m) (onExec t own m e b .0) (onExec t own m e b .1)
 unfolding onExec
-exec-effect t kind m false b = unfit-effect _ _ m
-exec-effect t kind m true false = take-moves
-exec-effect t kind m true true = take-suspends
+exec-effect t own m false b = unfit-effect _ _ m
+exec-effect t own m true false = take-moves
+exec-effect t own m true true = take-suspends (way-fits (conn t) (downOf own))
 
 pub clerk-take-effect : (c : Clerk) (m : Msg) (b : Bool) → ClerkTakeEffect c m (clerkTakes c m b .0) (clerkTakes c m b .1)
 unfolding clerkTakes
@@ -181,23 +223,23 @@ clerk-take-effect c (suspend n) b = take-stays
 clerk-take-effect c (resume n) b = take-stays
 clerk-take-effect absent (result k n) b = take-replies
 clerk-take-effect (waiting d kind) (result k n) b = take-acks
-clerk-take-effect (live t kind s) (result k′ n′) b = take-stays
+clerk-take-effect (live t own s) (result k′ n′) b = take-stays
 clerk-take-effect absent (denied w) b = take-stays
 clerk-take-effect (waiting d kind) (denied w) b = take-ends-waiting
-clerk-take-effect (live t kind s) (denied w) b = take-stays
+clerk-take-effect (live t own s) (denied w) b = take-stays
 clerk-take-effect absent (exec m) b = take-replies
 clerk-take-effect (waiting d kind) (exec m) b = unfit-effect _ _ m
-clerk-take-effect (live t kind invoked) (exec m) b = exec-effect t kind m (sameConn m (conn t)) b
-clerk-take-effect (live t kind waitAnswer) (exec m) b = unfit-effect _ _ m
-clerk-take-effect (live t kind ringing) (exec m) b = unfit-effect _ _ m
-clerk-take-effect (live t kind suspended) (exec m) b = unfit-effect _ _ m
+clerk-take-effect (live t own invoked) (exec m) b = exec-effect t own m (wayFits (conn t) m) b
+clerk-take-effect (live t own waitAnswer) (exec m) b = unfit-effect _ _ m
+clerk-take-effect (live t own ringing) (exec m) b = unfit-effect _ _ m
+clerk-take-effect (live t own suspended) (exec m) b = unfit-effect _ _ m
 clerk-take-effect absent (cancel m) b = take-stays
 clerk-take-effect (waiting d kind) (cancel m) b = take-ends-waiting
-clerk-take-effect (live t kind s) (cancel m) b = take-ends
+clerk-take-effect (live t own s) (cancel m) b = take-ends
 clerk-take-effect c busyAgain b = ringing-effect c busyAgain onBusyAgain busyAgain-effect
-clerk-take-effect c noMatch b = ringing-effect c noMatch _ (λ t kind. take-ends)
-clerk-take-effect c alerts b = ringing-effect c alerts _ (λ t kind. take-ends)
-clerk-take-effect c failed b = ringing-effect c failed _ (λ t kind. take-ends-cancel)
+clerk-take-effect c noMatch b = ringing-effect c noMatch _ (λ t own. take-ends)
+clerk-take-effect c alerts b = ringing-effect c alerts _ (λ t own. take-ends)
+clerk-take-effect c failed b = ringing-effect c failed _ (λ t own. take-ends-cancel)
 
 -- what it sends holds no request
 pub take-plain : {c c′ : Clerk} {m : Msg} {o : List Msg} → ClerkTakeEffect c m c′ o → NoReq o
@@ -207,47 +249,52 @@ take-plain take-ends-waiting = tt
 take-plain take-ends = tt
 take-plain take-ends-cancel = (tt, tt)
 take-plain take-moves = tt
-take-plain take-suspends = (tt, tt)
+take-plain (take-suspends f) = (tt, tt)
 take-plain take-acks = tt
 
 -- ---- an act at the line's end
 pub data LineActEffect : Line → Line → List Msg → Type 0 where
   line-stays : {l : Line} → LineActEffect l l []
-  line-quits : {t : Terms} {kind : Kind} {s : LState} → LineActEffect (holds t kind s) none (cancel (conn t) ∷ [])
-  line-offers : {t : Terms} {kind : Kind} → LineActEffect (holds t kind idle) (holds t kind (await false)) (exec (conn t) ∷ [])
-  line-alerts : {t : Terms} {kind : Kind} → LineActEffect (holds t kind alert) none (alerts ∷ [])
-  line-fails : {t : Terms} {kind : Kind} → LineActEffect (holds t kind alert) none (failed ∷ [])
+  line-quits : {t : Terms} {own : Own} {s : LState} {n : Conn} → LineActEffect (holds t own s) none (cancel n ∷ [])
+  line-offers : {t : Terms} {own : Own} {n : Conn} → Fits t n → LineActEffect (holds t own idle) (holds t own (await false)) (exec n ∷ [])
+  line-alerts : {t : Terms} {own : Own} → LineActEffect (holds t own alert) none (alerts ∷ [])
+  line-fails : {t : Terms} {own : Own} → LineActEffect (holds t own alert) none (failed ∷ [])
+  line-marks : {t : Terms} {kind : Kind} {a b : Bool} {s : LState} → LineActEffect (holds t (has kind a) s) (holds t (has kind b) s) []
 
 pub line-act-effect : (l : Line) (x : LAct) → LineActEffect l (lineActs l x .0) (lineActs l x .1)
 unfolding lineActs
 line-act-effect none x = line-stays
-line-act-effect (holds t kind idle) offers = line-offers
-line-act-effect (holds t kind (await m)) offers = line-stays
-line-act-effect (holds t kind alert) offers = line-stays
-line-act-effect (holds t kind idle) alerted = line-stays
-line-act-effect (holds t kind (await m)) alerted = line-stays
-line-act-effect (holds t kind alert) alerted = line-alerts
-line-act-effect (holds t kind idle) callFailed = line-stays
-line-act-effect (holds t kind (await m)) callFailed = line-stays
-line-act-effect (holds t kind alert) callFailed = line-fails
-line-act-effect (holds t kind s) cancels = line-quits
-line-act-effect (holds t kind s) guard = line-quits
+line-act-effect (holds t own idle) offers = line-offers (way-fits (conn t) (downOf own))
+line-act-effect (holds t own (await m)) offers = line-stays
+line-act-effect (holds t own alert) offers = line-stays
+line-act-effect (holds t own idle) alerted = line-stays
+line-act-effect (holds t own (await m)) alerted = line-stays
+line-act-effect (holds t own alert) alerted = line-alerts
+line-act-effect (holds t own idle) callFailed = line-stays
+line-act-effect (holds t own (await m)) callFailed = line-stays
+line-act-effect (holds t own alert) callFailed = line-fails
+line-act-effect (holds t own s) cancels = line-quits
+line-act-effect (holds (chosen d k ret) (has kind down) s) falls = line-marks
+line-act-effect (holds (chosen d k rls) own s) falls = line-stays
+line-act-effect (holds t own s) guard = line-quits
 
 -- it sends no result
 pub line-act-silent : {l l′ : Line} {o : List Msg} → LineActEffect l l′ o → NoRes o
 line-act-silent line-stays = tt
 line-act-silent line-quits = (tt, tt)
-line-act-silent line-offers = (tt, tt)
+line-act-silent (line-offers f) = (tt, tt)
 line-act-silent line-alerts = (tt, tt)
 line-act-silent line-fails = (tt, tt)
+line-act-silent line-marks = tt
 
 -- nor a request
 pub line-act-plain : {l l′ : Line} {o : List Msg} → LineActEffect l l′ o → NoReq o
 line-act-plain line-stays = tt
 line-act-plain line-quits = (tt, tt)
-line-act-plain line-offers = (tt, tt)
+line-act-plain (line-offers f) = (tt, tt)
 line-act-plain line-alerts = (tt, tt)
 line-act-plain line-fails = (tt, tt)
+line-act-plain line-marks = tt
 
 -- ---- a message at the line's end
 -- what the line's end sends in answer to a message, but a result
@@ -265,6 +312,13 @@ silent send-busy = (tt, tt)
 silent send-noMatch = (tt, tt)
 silent send-cancel = (tt, tt)
 
+pub silent-carried : {o : List Msg} (t : Terms) → Silent o → AllCarried t o
+silent-carried t send-nothing = tt
+silent-carried t send-denied = (tt, tt)
+silent-carried t send-busy = (tt, tt)
+silent-carried t send-noMatch = (tt, tt)
+silent-carried t send-cancel = (tt, tt)
+
 silent-plain : {o : List Msg} → Silent o → NoReq o
 silent-plain send-nothing = tt
 silent-plain send-denied = (tt, tt)
@@ -275,30 +329,30 @@ silent-plain send-cancel = (tt, tt)
 pub data LineTakeEffect (p : Policy) : Line → Msg → Line → List Msg → Type 0 where
   line-take-stays : {l : Line} {m : Msg} {o : List Msg} → Silent o → LineTakeEffect p l m l o
   line-take-ends : {l : Line} {m : Msg} {o : List Msg} → Silent o → LineTakeEffect p l m none o
-  line-take-moves : {m : Msg} {t : Terms} {kind kind′ : Kind} {s s′ : LState} {o : List Msg} → Silent o → LineTakeEffect p (holds t kind s) m (holds t kind′ s′) o
-  line-take-accepts : {d : Data} {kind : Kind} {q : ℕ} → LineTakeEffect p none (request d kind q) (holds (termsOf p d q) kind idle) (resultOf (termsOf p d q) ∷ [])
+  line-take-moves : {m : Msg} {t : Terms} {own own′ : Own} {s s′ : LState} {o : List Msg} → Silent o → LineTakeEffect p (holds t own s) m (holds t own′ s′) o
+  line-take-accepts : {d : Data} {kind : Kind} {q : ℕ} → LineTakeEffect p none (request d kind q) (holds (termsOf p d q) (has kind false) idle) (resultOf (termsOf p d q) ∷ [])
 
 request-effect : (p : Policy) (l : Line) (d : Data) (kind : Kind) (q : ℕ) (v : Verdict) → LineTakeEffect p l (request d kind q) (onRequest p l d kind q v .0) (onRequest p l d kind q v .1)
 unfolding onRequest
 request-effect p l d kind q (denies w) = line-take-stays send-denied
 request-effect p none d kind q takes = line-take-accepts
-request-effect p (holds t kind′ s) d kind q takes = line-take-stays send-denied
+request-effect p (holds t own s) d kind q takes = line-take-stays send-denied
 
-ringout-effect : (p : Policy) (t : Terms) (kind : Kind) (m b : Bool) → LineTakeEffect p (holds t kind (await m)) ringout (onRingout t kind b .0) (onRingout t kind b .1)
+ringout-effect : (p : Policy) (t : Terms) (own : Own) (m b : Bool) → LineTakeEffect p (holds t own (await m)) ringout (onRingout t own b .0) (onRingout t own b .1)
 unfolding onRingout
-ringout-effect p t kind m true = line-take-moves send-nothing
-ringout-effect p (chosen d true n) kind m false = line-take-moves send-busy
-ringout-effect p (chosen d false n) kind m false = line-take-ends send-busy
+ringout-effect p t own m true = line-take-moves send-nothing
+ringout-effect p (chosen d true n) own m false = line-take-moves send-busy
+ringout-effect p (chosen d false n) own m false = line-take-ends send-busy
 
-resume-effect : (p : Policy) (t : Terms) (kind : Kind) (n′ : Conn) (m b : Bool) → LineTakeEffect p (holds t kind (await m)) (resume n′) (onResume t kind m b .0) (onResume t kind m b .1)
+resume-effect : (p : Policy) (t : Terms) (own : Own) (n′ : Conn) (m b : Bool) → LineTakeEffect p (holds t own (await m)) (resume n′) (onResume t own m b .0) (onResume t own m b .1)
 unfolding onResume
-resume-effect p t kind n′ m true = line-take-moves send-nothing
-resume-effect p t kind n′ m false = line-take-stays send-nothing
+resume-effect p t own n′ m true = line-take-moves send-nothing
+resume-effect p t own n′ m false = line-take-stays send-nothing
 
-suspend-effect : (p : Policy) (t : Terms) (kind : Kind) (n′ : Conn) (m b : Bool) → LineTakeEffect p (holds t kind (await m)) (suspend n′) (onSuspend t kind m b .0) (onSuspend t kind m b .1)
+suspend-effect : (p : Policy) (t : Terms) (own : Own) (n′ : Conn) (m b : Bool) → LineTakeEffect p (holds t own (await m)) (suspend n′) (onSuspend t own m b .0) (onSuspend t own m b .1)
 unfolding onSuspend
-suspend-effect p t kind n′ m true = line-take-moves send-nothing
-suspend-effect p t kind n′ m false = line-take-stays send-nothing
+suspend-effect p t own n′ m true = line-take-moves send-nothing
+suspend-effect p t own n′ m false = line-take-stays send-nothing
 
 pub line-take-effect : (p : Policy) (l : Line) (m : Msg) (w : Word) → LineTakeEffect p l m (lineTakes p l m w .0) (lineTakes p l m w .1)
 unfolding lineTakes
@@ -312,17 +366,17 @@ line-take-effect p l alerts w = line-take-stays send-nothing
 line-take-effect p l failed w = line-take-stays send-nothing
 line-take-effect p l (cancel n) w = line-take-ends send-nothing
 line-take-effect p none ringout w = line-take-stays send-noMatch
-line-take-effect p (holds t kind idle) ringout w = line-take-stays send-noMatch
-line-take-effect p (holds t kind (await m)) ringout w = ringout-effect p t kind m (w .free)
-line-take-effect p (holds t kind alert) ringout w = line-take-stays send-noMatch
+line-take-effect p (holds t own idle) ringout w = line-take-stays send-noMatch
+line-take-effect p (holds t own (await m)) ringout w = ringout-effect p t own m (w .free)
+line-take-effect p (holds t own alert) ringout w = line-take-stays send-noMatch
 line-take-effect p none (suspend n′) w = line-take-stays send-nothing
-line-take-effect p (holds t kind idle) (suspend n′) w = line-take-stays send-nothing
-line-take-effect p (holds t kind (await m)) (suspend n′) w = suspend-effect p t kind n′ m (sameConn n′ (conn t))
-line-take-effect p (holds t kind alert) (suspend n′) w = line-take-stays send-nothing
+line-take-effect p (holds t own idle) (suspend n′) w = line-take-stays send-nothing
+line-take-effect p (holds t own (await m)) (suspend n′) w = suspend-effect p t own n′ m (wayFits (conn t) n′)
+line-take-effect p (holds t own alert) (suspend n′) w = line-take-stays send-nothing
 line-take-effect p none (resume n′) w = line-take-stays send-cancel
-line-take-effect p (holds t kind idle) (resume n′) w = line-take-stays send-cancel
-line-take-effect p (holds t kind (await m)) (resume n′) w = resume-effect p t kind n′ m (resumeFits (conn t) n′)
-line-take-effect p (holds t kind alert) (resume n′) w = line-take-stays send-cancel
+line-take-effect p (holds t own idle) (resume n′) w = line-take-stays send-cancel
+line-take-effect p (holds t own (await m)) (resume n′) w = resume-effect p t own n′ m (wayFits (conn t) n′)
+line-take-effect p (holds t own alert) (resume n′) w = line-take-stays send-cancel
 
 -- what it sends holds no request
 pub line-take-plain : {p : Policy} {l l′ : Line} {m : Msg} {o : List Msg} → LineTakeEffect p l m l′ o → NoReq o
@@ -348,14 +402,6 @@ none-stays p alerts w h = refl
 none-stays p failed w h = refl
 
 -- ---- choices
-pub same-fits : (n : Conn) → sameConn n n ≡ true
-same-fits ret = refl
-same-fits rls = refl
-
-pub resume-fits : (n : Conn) → resumeFits n n ≡ true
-resume-fits ret = refl
-resume-fits rls = refl
-
 and-again : (x y : Bool) → and x (and x y) ≡ and x y
 and-again true y = refl
 and-again false y = refl
@@ -389,11 +435,12 @@ pub data Move (p : Policy) : Net → Net → Type 0 where
 guard-ends : (l : Line) (x : LAct) → guardEnds l x ≡ true → (lineActs l x .0 ≡ none) × (held l ≡ true)
 unfolding lineActs
 guard-ends none x h = absurd (false≢true h)
-guard-ends (holds t kind s) offers h = absurd (false≢true h)
-guard-ends (holds t kind s) alerted h = absurd (false≢true h)
-guard-ends (holds t kind s) callFailed h = absurd (false≢true h)
-guard-ends (holds t kind s) cancels h = absurd (false≢true h)
-guard-ends (holds t kind s) guard h = (refl, refl)
+guard-ends (holds t own s) offers h = absurd (false≢true h)
+guard-ends (holds t own s) alerted h = absurd (false≢true h)
+guard-ends (holds t own s) callFailed h = absurd (false≢true h)
+guard-ends (holds t own s) cancels h = absurd (false≢true h)
+guard-ends (holds t own s) falls h = absurd (false≢true h)
+guard-ends (holds t own s) guard h = (refl, refl)
 
 clerk-ends : (c c′ : Clerk) (x : CAct) → and (isT1orT2 x) (and (present c) (not (present c′))) ≡ true → (c′ ≡ absent) × (present c ≡ true)
 clerk-ends c c′ x h = go c c′ (and-right (isT1orT2 x) _ h)
@@ -402,10 +449,10 @@ clerk-ends c c′ x h = go c c′ (and-right (isT1orT2 x) _ h)
     go absent c′ e = absurd (false≢true e)
     go (waiting d kind) absent e = (refl, refl)
     go (waiting d kind) (waiting d′ kind′) e = absurd (false≢true e)
-    go (waiting d kind) (live t kind′ s) e = absurd (false≢true e)
-    go (live t kind s) absent e = (refl, refl)
-    go (live t kind s) (waiting d′ kind′) e = absurd (false≢true e)
-    go (live t kind s) (live t′ kind′ s′) e = absurd (false≢true e)
+    go (waiting d kind) (live t own s) e = absurd (false≢true e)
+    go (live t own s) absent e = (refl, refl)
+    go (live t own s) (waiting d′ kind′) e = absurd (false≢true e)
+    go (live t own s) (live t′ own′ s′) e = absurd (false≢true e)
 
 ask-moves : (p : Policy) (s : Net) (d : Data) (kind : Kind) (q : ℕ) (b : Bool) → s .used ≡ b → Move p s (askStep s d kind q b)
 unfolding askStep

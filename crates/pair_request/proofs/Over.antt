@@ -4,7 +4,7 @@ use mathlib.Core.Bool.{Bool, true, false, true≢false, false≢true}
 use mathlib.Core.List.{List}
 use Rattle.pair_request.specs.Reading.{Msg, Clerk, absent, Line, none, Policy, lineTakes, Net, or, held, Reach, begin, more}
 use Rattle.pair_request.specs.Listed.{NotReq, NoReq}
-use Rattle.pair_request.proofs.Effects.{noReq++, noReq-left, ClerkActEffect, stays, quit-waiting, drops-waiting, quit-live, accepts, resuming, recalling, act-plain, ClerkTakeEffect, take-stays, take-replies, take-ends-waiting, take-ends, take-ends-cancel, take-moves, take-suspends, take-acks, clerk-take-effect, take-plain, LineActEffect, line-stays, line-quits, line-offers, line-alerts, line-fails, LineTakeEffect, line-take-stays, line-take-ends, line-take-moves, line-take-accepts, line-take-effect, or-elim, Move, still, ask, clerk-act, line-act, clerk-get, line-get, up-lost, down-lost, moves}
+use Rattle.pair_request.proofs.Effects.{noReq++, noReq-left, ClerkActEffect, stays, quit-waiting, drops-waiting, quit-live, accepts, resuming, recalling, marking, act-plain, ClerkTakeEffect, take-stays, take-replies, take-ends-waiting, take-ends, take-ends-cancel, take-moves, take-suspends, take-acks, clerk-take-effect, take-plain, LineActEffect, line-stays, line-quits, line-offers, line-alerts, line-fails, line-marks, LineTakeEffect, line-take-stays, line-take-ends, line-take-moves, line-take-accepts, line-take-effect, or-elim, Move, still, ask, clerk-act, line-act, clerk-get, line-get, up-lost, down-lost, moves}
 use Rattle.pair_request.proofs.Agree.{NetAgrees, agreed, held-accepted, accepted-plain, present-used}
 
 -- ---- over stays over
@@ -14,8 +14,9 @@ gone-acts quit-waiting h = refl
 gone-acts drops-waiting h = refl
 gone-acts quit-live h = refl
 gone-acts accepts h = cc
-gone-acts resuming h = cc
+gone-acts (resuming f) h = cc
 gone-acts recalling h = cc
+gone-acts marking h = cc
 
 gone-gets : {c c′ : Clerk} {m : Msg} {o : List Msg} → ClerkTakeEffect c m c′ o → c ≡ absent → c′ ≡ absent
 gone-gets take-stays h = h
@@ -24,15 +25,16 @@ gone-gets take-ends-waiting h = refl
 gone-gets take-ends h = refl
 gone-gets take-ends-cancel h = refl
 gone-gets take-moves h = cc
-gone-gets take-suspends h = cc
+gone-gets (take-suspends f) h = cc
 gone-gets take-acks h = cc
 
 none-acts : {l l′ : Line} {o : List Msg} → LineActEffect l l′ o → l ≡ none → l′ ≡ none
 none-acts line-stays h = h
 none-acts line-quits h = refl
-none-acts line-offers h = cc
+none-acts (line-offers f) h = cc
 none-acts line-alerts h = refl
 none-acts line-fails h = refl
+none-acts line-marks h = cc
 
 none-gets : {p : Policy} {l l′ : Line} {m : Msg} {o : List Msg} → LineTakeEffect p l m l′ o → NotReq m → l ≡ none → l′ ≡ none
 none-gets (line-take-stays i) n h = h

@@ -1,15 +1,15 @@
--- Document 01, "Pairs when the wires are quiet", on the reading of one request; and messages that are no request.
+-- Document 01, "Pairs when the wires are quiet", on the reading of one request, of one kind at both ends; and messages that are no request.
 use mathlib.Core.Bool.{Bool, true}
 use mathlib.Core.List.{List, [], _∷_}
 use Rattle.message.specs.declared.Kind.{Kind}
-use Rattle.pair_request.specs.Reading.{Terms, Msg, request, result, denied, exec, ringout, busyAgain, noMatch, suspend, resume, cancel, alerts, failed, Clerk, absent, live, invoked, waitAnswer, ringing, suspended, Line, none, holds, idle, await, alert}
+use Rattle.pair_request.specs.Reading.{Terms, has, Msg, request, result, denied, exec, ringout, busyAgain, noMatch, suspend, resume, cancel, alerts, failed, Clerk, absent, live, invoked, waitAnswer, ringing, suspended, Line, none, holds, idle, await, alert}
 
 pub data Listed : Clerk → Line → Type 0 where
   no-record : Listed absent none
-  invoked-invoked : {t : Terms} {kind : Kind} → Listed (live t kind invoked) (holds t kind idle)
-  answer-await : {t : Terms} {kind : Kind} {m : Bool} → Listed (live t kind waitAnswer) (holds t kind (await m))
-  suspended-await : {t : Terms} {kind : Kind} → Listed (live t kind suspended) (holds t kind (await true))
-  ringout-alert : {t : Terms} {kind : Kind} → Listed (live t kind ringing) (holds t kind alert)
+  invoked-invoked : {t : Terms} {kind : Kind} {a b : Bool} → Listed (live t (has kind a) invoked) (holds t (has kind b) idle)
+  answer-await : {t : Terms} {kind : Kind} {a b m : Bool} → Listed (live t (has kind a) waitAnswer) (holds t (has kind b) (await m))
+  suspended-await : {t : Terms} {kind : Kind} {a b : Bool} → Listed (live t (has kind a) suspended) (holds t (has kind b) (await true))
+  ringout-alert : {t : Terms} {kind : Kind} {a b : Bool} → Listed (live t (has kind a) ringing) (holds t (has kind b) alert)
 
 abbrev pub NotReq : Msg → Type 0
 NotReq (request d kind q) = ⊥

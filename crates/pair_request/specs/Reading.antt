@@ -38,7 +38,7 @@ keep (chosen d k n) = k
 abbrev pub conn : Terms → Conn
 conn (chosen d k n) = n
 
--- a request has its data, kind and preference; a ccCancel goes in Release Complete (ret) or in Setup (rls)
+-- a request has its data, kind and preference; a message with a connection choice goes in the carrier of that choice (a ccCancel in Release Complete for ret, in Setup for rls)
 pub data Msg : Type 0 where
   request : Data → Kind → ℕ → Msg
   result : Bool → Conn → Msg
@@ -53,11 +53,24 @@ pub data Msg : Type 0 where
 pub data CState : Type 0 where
   invoked waitAnswer ringing suspended : CState
 
--- what was asked, or the terms once acknowledged; and the phase, which a step may change: kind and state
+-- what an end has by itself of a request: the kind, which busy again changes, and the mark "connection down"
+pub data Own : Type 0 where
+  has : Kind → Bool → Own
+
+abbrev pub kindOf : Own → Kind
+kindOf (has kind down) = kind
+
+abbrev pub downOf : Own → Bool
+downOf (has kind down) = down
+
+abbrev pub asCcbs : Own → Own
+asCcbs (has kind down) = has Ccbs down
+
+-- what was asked, or the terms once acknowledged; and what a step may change: what the end has by itself, and the state
 pub data Clerk : Type 0 where
   absent : Clerk
   waiting : Data → Kind → Clerk
-  live : Terms → Kind → CState → Clerk
+  live : Terms → Own → CState → Clerk
 
 -- Await with the suspended mark or without it
 pub data LState : Type 0 where
@@ -67,7 +80,7 @@ pub data LState : Type 0 where
 
 pub data Line : Type 0 where
   none : Line
-  holds : Terms → Kind → LState → Line
+  holds : Terms → Own → LState → Line
 
 abbrev pub and : Bool → Bool → Bool
 and true b = b
@@ -77,11 +90,27 @@ abbrev pub not : Bool → Bool
 not true = false
 not false = true
 
-abbrev pub sameConn : Conn → Conn → Bool
-sameConn ret ret = true
-sameConn ret rls = false
-sameConn rls ret = false
-sameConn rls rls = true
+-- by whose carriers an end sends: those of RLS where its retained connection fell; and in which a message is taken: for RET in either, for RLS in its own
+abbrev pub wayOf : Conn → Bool → Conn
+wayOf ret true = rls
+wayOf ret false = ret
+wayOf rls down = rls
+
+abbrev pub way : Terms → Own → Conn
+way t own = wayOf (conn t) (downOf own)
+
+abbrev pub wayFits : Conn → Conn → Bool
+wayFits ret m = true
+wayFits rls ret = false
+wayFits rls rls = true
+
+-- a report that the connection fell marks what is RET
+abbrev pub fellOn : Conn → Own → Own
+fellOn ret (has kind down) = has kind true
+fellOn rls own = own
+
+abbrev pub fallen : Terms → Own → Own
+fallen t own = fellOn (conn t) own
 
 -- an end's answer to an input: its record afterwards, and what it sends; a refusal leaves the record
 abbrev pub CAnswer : Type 0
@@ -92,18 +121,18 @@ LAnswer = Line × List Msg
 
 -- ---- the clerk's end
 -- an input that has a row in Ringout alone
-unfoldable pub inRinging : Clerk → (Terms → Kind → CAnswer) → CAnswer
+unfoldable pub inRinging : Clerk → (Terms → Own → CAnswer) → CAnswer
 inRinging absent f = (absent, [])
 inRinging (waiting d kind) f = (waiting d kind, [])
-inRinging (live t kind invoked) f = (live t kind invoked, [])
-inRinging (live t kind waitAnswer) f = (live t kind waitAnswer, [])
-inRinging (live t kind ringing) f = f t kind
-inRinging (live t kind suspended) f = (live t kind suspended, [])
+inRinging (live t own invoked) f = (live t own invoked, [])
+inRinging (live t own waitAnswer) f = (live t own waitAnswer, [])
+inRinging (live t own ringing) f = f t own
+inRinging (live t own suspended) f = (live t own suspended, [])
 
 -- kept, it goes on as CCBS, whatever its kind was; so it does at the line's end
-unfoldable pub onBusyAgain : Terms → Kind → CAnswer
-onBusyAgain (chosen d true n) kind = (live (chosen d true n) Ccbs invoked, [])
-onBusyAgain (chosen d false n) kind = (absent, [])
+unfoldable pub onBusyAgain : Terms → Own → CAnswer
+onBusyAgain (chosen d true n) own = (live (chosen d true n) (asCcbs own) invoked, [])
+onBusyAgain (chosen d false n) own = (absent, [])
 
 -- the reply to a ccExecPossible in Setup that is refused with 7 or 8 (mend M3)
 abbrev pub unfit : Conn → List Msg
@@ -111,10 +140,10 @@ unfit ret = []
 unfit rls = cancel ret ∷ []
 
 -- ccExecPossible in Invoked: is the carrier right, is User A busy
-unfoldable pub onExec : Terms → Kind → Conn → Bool → Bool → CAnswer
-onExec t kind m false b = (live t kind invoked, unfit m)
-onExec t kind m true false = (live t kind waitAnswer, [])
-onExec t kind m true true = (live t kind suspended, suspend (conn t) ∷ [])
+unfoldable pub onExec : Terms → Own → Conn → Bool → Bool → CAnswer
+onExec t own m false b = (live t own invoked, unfit m)
+onExec t own m true false = (live t own waitAnswer, [])
+onExec t own m true true = (live t own suspended, suspend (way t own) ∷ [])
 
 -- a message at the clerk's end, with the host's word on User A (true: busy)
 unfoldable pub clerkTakes : Clerk → Msg → Bool → CAnswer
@@ -123,24 +152,24 @@ clerkTakes c ringout b = (c, [])
 clerkTakes c (suspend n) b = (c, [])
 clerkTakes c (resume n) b = (c, [])
 clerkTakes absent (result k n) b = (absent, cancel ret ∷ [])
-clerkTakes (waiting d kind) (result k n) b = (live (chosen d (and (d .canKeep) k) n) kind invoked, [])
-clerkTakes (live t kind s) (result k′ n′) b = (live t kind s, [])
+clerkTakes (waiting d kind) (result k n) b = (live (chosen d (and (d .canKeep) k) n) (has kind false) invoked, [])
+clerkTakes (live t own s) (result k′ n′) b = (live t own s, [])
 clerkTakes absent (denied w) b = (absent, [])
 clerkTakes (waiting d kind) (denied w) b = (absent, [])
-clerkTakes (live t kind s) (denied w) b = (live t kind s, [])
+clerkTakes (live t own s) (denied w) b = (live t own s, [])
 clerkTakes absent (exec m) b = (absent, cancel ret ∷ [])
 clerkTakes (waiting d kind) (exec m) b = (waiting d kind, unfit m)
-clerkTakes (live t kind invoked) (exec m) b = onExec t kind m (sameConn m (conn t)) b
-clerkTakes (live t kind waitAnswer) (exec m) b = (live t kind waitAnswer, unfit m)
-clerkTakes (live t kind ringing) (exec m) b = (live t kind ringing, unfit m)
-clerkTakes (live t kind suspended) (exec m) b = (live t kind suspended, unfit m)
+clerkTakes (live t own invoked) (exec m) b = onExec t own m (wayFits (conn t) m) b
+clerkTakes (live t own waitAnswer) (exec m) b = (live t own waitAnswer, unfit m)
+clerkTakes (live t own ringing) (exec m) b = (live t own ringing, unfit m)
+clerkTakes (live t own suspended) (exec m) b = (live t own suspended, unfit m)
 clerkTakes absent (cancel m) b = (absent, [])
 clerkTakes (waiting d kind) (cancel m) b = (absent, [])
-clerkTakes (live t kind s) (cancel m) b = (absent, [])
+clerkTakes (live t own s) (cancel m) b = (absent, [])
 clerkTakes c busyAgain b = inRinging c onBusyAgain
-clerkTakes c noMatch b = inRinging c (λ t kind. (absent, []))
-clerkTakes c alerts b = inRinging c (λ t kind. (absent, []))
-clerkTakes c failed b = inRinging c (λ t kind. (absent, cancel (conn t) ∷ []))
+clerkTakes c noMatch b = inRinging c (λ t own. (absent, []))
+clerkTakes c alerts b = inRinging c (λ t own. (absent, []))
+clerkTakes c failed b = inRinging c (λ t own. (absent, cancel (way t own) ∷ []))
 
 -- a signal is handed in as the message that it stands for
 abbrev pub signalMsg : Signal → Msg
@@ -154,36 +183,38 @@ pub data CAct : Type 0 where
   signal : Signal → CAct
 
 -- user's acts and timers at the clerk's end, by the state of an acknowledged record
-unfoldable pub liveActs : Terms → Kind → CState → CAct → CAnswer
-liveActs t kind waitAnswer (act Act.Accept) = (live t kind ringing, ringout ∷ [])
-liveActs t kind invoked (act Act.Accept) = (live t kind invoked, [])
-liveActs t kind ringing (act Act.Accept) = (live t kind ringing, [])
-liveActs t kind suspended (act Act.Accept) = (live t kind suspended, [])
-liveActs t kind suspended (act Act.Resume) = (live t kind invoked, resume (conn t) ∷ [])
-liveActs t kind invoked (act Act.Resume) = (live t kind invoked, [])
-liveActs t kind waitAnswer (act Act.Resume) = (live t kind waitAnswer, [])
-liveActs t kind ringing (act Act.Resume) = (live t kind ringing, [])
-liveActs t kind suspended (act Act.GoOn) = (live t kind waitAnswer, [])
-liveActs t kind invoked (act Act.GoOn) = (live t kind invoked, [])
-liveActs t kind waitAnswer (act Act.GoOn) = (live t kind waitAnswer, [])
-liveActs t kind ringing (act Act.GoOn) = (live t kind ringing, [])
-liveActs t kind s (act Act.Cancel) = (absent, cancel (conn t) ∷ [])
-liveActs t kind s (timer T1) = (live t kind s, [])
-liveActs t kind invoked (timer T2) = (absent, cancel (conn t) ∷ [])
-liveActs t kind waitAnswer (timer T2) = (absent, cancel (conn t) ∷ [])
-liveActs t kind ringing (timer T2) = (live t kind ringing, [])
-liveActs t kind suspended (timer T2) = (absent, cancel (conn t) ∷ [])
-liveActs t kind invoked (timer T3) = (live t kind invoked, [])
-liveActs t kind waitAnswer (timer T3) = (absent, cancel (conn t) ∷ [])
-liveActs t kind ringing (timer T3) = (live t kind ringing, [])
-liveActs t kind suspended (timer T3) = (live t kind suspended, [])
-liveActs t kind s (signal x) = clerkTakes (live t kind s) (signalMsg x) false
+unfoldable pub liveActs : Terms → Own → CState → CAct → CAnswer
+liveActs t own waitAnswer (act Act.Accept) = (live t own ringing, ringout ∷ [])
+liveActs t own invoked (act Act.Accept) = (live t own invoked, [])
+liveActs t own ringing (act Act.Accept) = (live t own ringing, [])
+liveActs t own suspended (act Act.Accept) = (live t own suspended, [])
+liveActs t own suspended (act Act.Resume) = (live t own invoked, resume (way t own) ∷ [])
+liveActs t own invoked (act Act.Resume) = (live t own invoked, [])
+liveActs t own waitAnswer (act Act.Resume) = (live t own waitAnswer, [])
+liveActs t own ringing (act Act.Resume) = (live t own ringing, [])
+liveActs t own suspended (act Act.GoOn) = (live t own waitAnswer, [])
+liveActs t own invoked (act Act.GoOn) = (live t own invoked, [])
+liveActs t own waitAnswer (act Act.GoOn) = (live t own waitAnswer, [])
+liveActs t own ringing (act Act.GoOn) = (live t own ringing, [])
+liveActs t own s (act Act.Cancel) = (absent, cancel (way t own) ∷ [])
+liveActs t own s (act Act.Fell) = (live t (fallen t own) s, [])
+liveActs t own s (timer T1) = (live t own s, [])
+liveActs t own invoked (timer T2) = (absent, cancel (way t own) ∷ [])
+liveActs t own waitAnswer (timer T2) = (absent, cancel (way t own) ∷ [])
+liveActs t own ringing (timer T2) = (live t own ringing, [])
+liveActs t own suspended (timer T2) = (absent, cancel (way t own) ∷ [])
+liveActs t own invoked (timer T3) = (live t own invoked, [])
+liveActs t own waitAnswer (timer T3) = (absent, cancel (way t own) ∷ [])
+liveActs t own ringing (timer T3) = (live t own ringing, [])
+liveActs t own suspended (timer T3) = (live t own suspended, [])
+liveActs t own s (signal x) = clerkTakes (live t own s) (signalMsg x) false
 
 unfoldable pub waitingActs : Data → Kind → CAct → CAnswer
 waitingActs d kind (act Act.Accept) = (waiting d kind, [])
 waitingActs d kind (act Act.Resume) = (waiting d kind, [])
 waitingActs d kind (act Act.GoOn) = (waiting d kind, [])
 waitingActs d kind (act Act.Cancel) = (absent, cancel ret ∷ [])
+waitingActs d kind (act Act.Fell) = (waiting d kind, [])
 waitingActs d kind (timer T1) = (absent, cancel ret ∷ [])
 waitingActs d kind (timer T2) = (waiting d kind, [])
 waitingActs d kind (timer T3) = (waiting d kind, [])
@@ -192,7 +223,7 @@ waitingActs d kind (signal x) = clerkTakes (waiting d kind) (signalMsg x) false
 unfoldable pub clerkActs : Clerk → CAct → CAnswer
 clerkActs absent x = (absent, [])
 clerkActs (waiting d kind) x = waitingActs d kind x
-clerkActs (live t kind s) x = liveActs t kind s x
+clerkActs (live t own s) x = liveActs t own s x
 
 -- ---- the line's end
 -- the desk's settings: whether it keeps, and the connection it chooses by default
@@ -222,29 +253,23 @@ pub record Word : Type 0 where
 
 unfoldable pub onRequest : Policy → Line → Data → Kind → ℕ → Verdict → LAnswer
 onRequest p l d kind q (denies w) = (l, denied w ∷ [])
-onRequest p none d kind q takes = (holds (termsOf p d q) kind idle, resultOf (termsOf p d q) ∷ [])
-onRequest p (holds t kind′ s) d kind q takes = (holds t kind′ s, denied true ∷ [])
+onRequest p none d kind q takes = (holds (termsOf p d q) (has kind false) idle, resultOf (termsOf p d q) ∷ [])
+onRequest p (holds t own s) d kind q takes = (holds t own s, denied true ∷ [])
 
 -- ccRingout in Await, by whether the line can take a call and keep is chosen
-unfoldable pub onRingout : Terms → Kind → Bool → LAnswer
-onRingout t kind true = (holds t kind alert, [])
-onRingout (chosen d true n) kind false = (holds (chosen d true n) Ccbs idle, busyAgain ∷ [])
-onRingout (chosen d false n) kind false = (none, busyAgain ∷ [])
-
--- a ccResume is taken in Facility or Setup for RET, in Setup for RLS (mend M5)
-abbrev pub resumeFits : Conn → Conn → Bool
-resumeFits ret m = true
-resumeFits rls ret = false
-resumeFits rls rls = true
+unfoldable pub onRingout : Terms → Own → Bool → LAnswer
+onRingout t own true = (holds t own alert, [])
+onRingout (chosen d true n) own false = (holds (chosen d true n) (asCcbs own) idle, busyAgain ∷ [])
+onRingout (chosen d false n) own false = (none, busyAgain ∷ [])
 
 -- is the carrier right
-unfoldable pub onResume : Terms → Kind → Bool → Bool → LAnswer
-onResume t kind m true = (holds t kind idle, [])
-onResume t kind m false = (holds t kind (await m), [])
+unfoldable pub onResume : Terms → Own → Bool → Bool → LAnswer
+onResume t own m true = (holds t own idle, [])
+onResume t own m false = (holds t own (await m), [])
 
-unfoldable pub onSuspend : Terms → Kind → Bool → Bool → LAnswer
-onSuspend t kind m true = (holds t kind (await true), [])
-onSuspend t kind m false = (holds t kind (await m), [])
+unfoldable pub onSuspend : Terms → Own → Bool → Bool → LAnswer
+onSuspend t own m true = (holds t own (await true), [])
+onSuspend t own m false = (holds t own (await m), [])
 
 unfoldable pub lineTakes : Policy → Line → Msg → Word → LAnswer
 lineTakes p l (request d kind q) w = onRequest p l d kind q (w .verdict)
@@ -257,34 +282,35 @@ lineTakes p l alerts w = (l, [])
 lineTakes p l failed w = (l, [])
 lineTakes p l (cancel n) w = (none, [])
 lineTakes p none ringout w = (none, noMatch ∷ [])
-lineTakes p (holds t kind idle) ringout w = (holds t kind idle, noMatch ∷ [])
-lineTakes p (holds t kind (await m)) ringout w = onRingout t kind (w .free)
-lineTakes p (holds t kind alert) ringout w = (holds t kind alert, noMatch ∷ [])
+lineTakes p (holds t own idle) ringout w = (holds t own idle, noMatch ∷ [])
+lineTakes p (holds t own (await m)) ringout w = onRingout t own (w .free)
+lineTakes p (holds t own alert) ringout w = (holds t own alert, noMatch ∷ [])
 lineTakes p none (suspend n′) w = (none, [])
-lineTakes p (holds t kind idle) (suspend n′) w = (holds t kind idle, [])
-lineTakes p (holds t kind (await m)) (suspend n′) w = onSuspend t kind m (sameConn n′ (conn t))
-lineTakes p (holds t kind alert) (suspend n′) w = (holds t kind alert, [])
+lineTakes p (holds t own idle) (suspend n′) w = (holds t own idle, [])
+lineTakes p (holds t own (await m)) (suspend n′) w = onSuspend t own m (wayFits (conn t) n′)
+lineTakes p (holds t own alert) (suspend n′) w = (holds t own alert, [])
 lineTakes p none (resume n′) w = (none, cancel ret ∷ [])
-lineTakes p (holds t kind idle) (resume n′) w = (holds t kind idle, cancel ret ∷ [])
-lineTakes p (holds t kind (await m)) (resume n′) w = onResume t kind m (resumeFits (conn t) n′)
-lineTakes p (holds t kind alert) (resume n′) w = (holds t kind alert, cancel ret ∷ [])
+lineTakes p (holds t own idle) (resume n′) w = (holds t own idle, cancel ret ∷ [])
+lineTakes p (holds t own (await m)) (resume n′) w = onResume t own m (wayFits (conn t) n′)
+lineTakes p (holds t own alert) (resume n′) w = (holds t own alert, cancel ret ∷ [])
 
 pub data LAct : Type 0 where
-  offers alerted callFailed cancels guard : LAct
+  offers alerted callFailed cancels falls guard : LAct
 
 unfoldable pub lineActs : Line → LAct → LAnswer
 lineActs none x = (none, [])
-lineActs (holds t kind idle) offers = (holds t kind (await false), exec (conn t) ∷ [])
-lineActs (holds t kind (await m)) offers = (holds t kind (await m), [])
-lineActs (holds t kind alert) offers = (holds t kind alert, [])
-lineActs (holds t kind idle) alerted = (holds t kind idle, [])
-lineActs (holds t kind (await m)) alerted = (holds t kind (await m), [])
-lineActs (holds t kind alert) alerted = (none, alerts ∷ [])
-lineActs (holds t kind idle) callFailed = (holds t kind idle, [])
-lineActs (holds t kind (await m)) callFailed = (holds t kind (await m), [])
-lineActs (holds t kind alert) callFailed = (none, failed ∷ [])
-lineActs (holds t kind s) cancels = (none, cancel (conn t) ∷ [])
-lineActs (holds t kind s) guard = (none, cancel (conn t) ∷ [])
+lineActs (holds t own idle) offers = (holds t own (await false), exec (way t own) ∷ [])
+lineActs (holds t own (await m)) offers = (holds t own (await m), [])
+lineActs (holds t own alert) offers = (holds t own alert, [])
+lineActs (holds t own idle) alerted = (holds t own idle, [])
+lineActs (holds t own (await m)) alerted = (holds t own (await m), [])
+lineActs (holds t own alert) alerted = (none, alerts ∷ [])
+lineActs (holds t own idle) callFailed = (holds t own idle, [])
+lineActs (holds t own (await m)) callFailed = (holds t own (await m), [])
+lineActs (holds t own alert) callFailed = (none, failed ∷ [])
+lineActs (holds t own s) cancels = (none, cancel (way t own) ∷ [])
+lineActs (holds t own s) falls = (holds t (fallen t own) s, [])
+lineActs (holds t own s) guard = (none, cancel (way t own) ∷ [])
 
 -- ---- the net
 -- the two ends, the two wires (`up`: to the line's end), and the history: was it taken up, was it accepted, was a T1 or T2 report taken at the
@@ -316,7 +342,7 @@ or false b = b
 abbrev pub present : Clerk → Bool
 present absent = false
 present (waiting d kind) = true
-present (live t kind s) = true
+present (live t own s) = true
 
 abbrev pub isT1orT2 : CAct → Bool
 isT1orT2 (act x) = false
@@ -331,15 +357,16 @@ runsOut c x = and (isT1orT2 x) (and (present c) (not (present (clerkActs c x .0)
 
 abbrev pub guardEnds : Line → LAct → Bool
 guardEnds none x = false
-guardEnds (holds t kind s) offers = false
-guardEnds (holds t kind s) alerted = false
-guardEnds (holds t kind s) callFailed = false
-guardEnds (holds t kind s) cancels = false
-guardEnds (holds t kind s) guard = true
+guardEnds (holds t own s) offers = false
+guardEnds (holds t own s) alerted = false
+guardEnds (holds t own s) callFailed = false
+guardEnds (holds t own s) cancels = false
+guardEnds (holds t own s) falls = false
+guardEnds (holds t own s) guard = true
 
 abbrev pub held : Line → Bool
 held none = false
-held (holds t kind s) = true
+held (holds t own s) = true
 
 pub data Event : Type 0 where
   asks : Data → Kind → ℕ → Event

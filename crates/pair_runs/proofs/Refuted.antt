@@ -26,7 +26,7 @@ use Rattle.line_records.specs.Records as LineRecords
 use Rattle.pair.specs.World.{dropped, World, Event, clerkDoes, lineDoes, clerkIsTold, clerkHears, lineHears, dropsUp, dropsDown, clerkHolds, lineHolds, next, Run, stop, then}
 use Rattle.pair.specs.Demand3.{Accepted, Stores, by-act, by-guard, by-look, About, by-clerk, by-signal, to-clerk, to-line, Unaltered, same, marked}
 use Rattle.pair_runs.specs.Refuted as Wrong
-use Rattle.pair_runs.specs.Runs.{play, first, numberB, oneLine, start, asks, lineReports, stored, acknowledged, wentOn, noReply, noReplyBusy, noReplyLost, runOut, deserted, rejection}
+use Rattle.pair_runs.specs.Runs.{play, first, numberB, oneLine, start, asks, lineReports, stored, acknowledged, wentOn, noReply, noReplyBusy, noReplyLost, lineFell, runOut, deserted, rejection}
 use Rattle.pair_runs.proofs.Allowed.{bytes-told, has-not, allowed-told, runs}
 use Rattle.pair_runs.proofs.Runs.{all, reach, heldOr, someone, held-one, not-listed}
 
@@ -125,6 +125,16 @@ kind-though-dropped wrong =
     false≢true
     (ap waitsForFree
     (wrong (at noReplyLost) (reach false noReplyLost refl) (wordsOf first) (clerkAt noReplyLost) (lineAt noReplyLost) (clerk-holds noReplyLost refl) (line-holds noReplyLost refl) refl refl))
+
+-- the line's end alone saw the connection fall, at a desk that retains
+pub marks-agree : Wrong.MarksAgree → ⊥
+unfolding play runs all
+marks-agree wrong =
+    let w = play (start true) lineFell in
+    let c = heldOr ClerkRecords.blank (clerkHolds w (wordsOf first)) in
+    let l = heldOr LineRecords.blank (lineHolds w (wordsOf first)) in
+    false≢true
+    (wrong w (reach true lineFell refl) (wordsOf first) (record { undropped = has-not (dropped (wordsOf first)) (w .history) refl; up = refl; down = refl }) c l (held-one ClerkRecords.blank (clerkHolds w (wordsOf first)) refl) (held-one LineRecords.blank (lineHolds w (wordsOf first)) refl))
 
 -- ---- 4. T2 alone; a T2 report in Ringout; an ask after the start; a request heard after it was rejected
 not-none : {A : Type 0} (h : Held A) → someone h ≡ true → h ≡ none → ⊥
@@ -226,6 +236,7 @@ refuted =
       answerUnmarked = answer-unmarked;
       kindThoughUnderWay = kind-though-under-way;
       kindThoughDropped = kind-though-dropped;
+      marksAgree = marks-agree;
       overUnguarded = over-unguarded;
       overByRefusedT2 = over-by-refused-t2;
       goneBeforeTakenUp = gone-before-taken-up;

@@ -35,7 +35,7 @@ use Rattle.line.specs.Entry as LineEntry
 use Rattle.line.specs.Steps as Line
 use Rattle.pair.specs.World.{Note, World, Event, clerkHolds, lineHolds, Reached, reached, stop, messagesOf, clerkHeard, lineHeard, next}
 use Rattle.pair.specs.Demand3.{Listed, no-record, invoked, wait-answer, suspended, ringout}
-use Rattle.pair_runs.specs.Runs.{has, RowsShown, KindsShown, Shown, TableReached, Premises, Unlisted, LeftOut, play, seen, kindsSeen, kinds, pairs, answers, losses, signals, table, first, oneLine, start, stored, acknowledged, ringing, over}
+use Rattle.pair_runs.specs.Runs.{has, RowsShown, KindsShown, FallsShown, Shown, TableReached, Premises, Unlisted, LeftOut, play, seen, kindsSeen, kinds, marksSeen, falls, pairs, answers, losses, signals, table, first, oneLine, start, stored, acknowledged, ringing, over}
 use Rattle.pair_runs.proofs.Allowed.{bytes-told, has-not, runs, run-told, allRun, each-reached}
 
 -- all that a run computes with: who names this unfolds every definition on its line
@@ -68,8 +68,13 @@ unfolding kinds play kindsSeen all
 kinds-shown true = refl
 kinds-shown false = refl
 
+pub falls-shown : FallsShown
+unfolding falls play marksSeen all
+falls-shown true = refl
+falls-shown false = refl
+
 pub shown : Shown
-shown = record { pairs = pairs-shown; answers = answers-shown; losses = losses-shown; signals = signals-shown; kinds = kinds-shown }
+shown = record { pairs = pairs-shown; answers = answers-shown; losses = losses-shown; signals = signals-shown; kinds = kinds-shown; falls = falls-shown }
 
 pub table-reached : TableReached
 unfolding pairs answers losses signals runs allRun all

@@ -13,7 +13,7 @@ use Rattle.clerk_table.specs.declared.table.Timer.the-variants.{T2}
 use Rattle.line_table.specs.declared.inputs.Input.the-variants as AtLine
 use Rattle.line_table.specs.declared.record.Record as LineRecord
 use Rattle.pair.specs.World.{takenUp, dropped, runOut, guarded, World, Event, clerkDoes, lineDoes, clerkHolds, lineHolds, messagesOf, next, Allowed, Run, startWorld, Reached}
-use Rattle.pair.specs.Demand3.{Accepted, Listed, NoRequest, About, Unaltered}
+use Rattle.pair.specs.Demand3.{Accepted, Listed, Quiet, NoRequest, About, Unaltered}
 
 -- ---- 1. without "acknowledged"
 abbrev pub AcceptedThoughWaiting : Type 0
@@ -56,6 +56,12 @@ abbrev pub KindThoughDropped : Type 0
 KindThoughDropped =
     (w : World) → Reached w → (identifier : Words) (c : ClerkRecord.Record) (l : LineRecord.Record) → clerkHolds w identifier ≡ one c → lineHolds w identifier ≡ one l →
     messagesOf identifier (w .up) ≡ [] → messagesOf identifier (w .down) ≡ [] → c .terms .kind ≡ l .terms .kind
+
+-- the marks "connection down" agree as the kinds do: each end sets its own
+abbrev pub MarksAgree : Type 0
+MarksAgree =
+    (w : World) → Reached w → (identifier : Words) → Quiet w identifier → (c : ClerkRecord.Record) (l : LineRecord.Record) →
+    clerkHolds w identifier ≡ one c → lineHolds w identifier ≡ one l → c .down ≡ l .down
 
 -- ---- 4. without the guard's report
 abbrev pub OverUnguarded : Type 0
@@ -109,6 +115,7 @@ pub record Refuted : Type 0 where
   pub answerUnmarked : AnswerUnmarked → ⊥
   pub kindThoughUnderWay : KindThoughUnderWay → ⊥
   pub kindThoughDropped : KindThoughDropped → ⊥
+  pub marksAgree : MarksAgree → ⊥
   pub overUnguarded : OverUnguarded → ⊥
   pub overByRefusedT2 : OverByRefusedT2 → ⊥
   pub goneBeforeTakenUp : GoneBeforeTakenUp → ⊥

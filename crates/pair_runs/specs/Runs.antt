@@ -236,6 +236,13 @@ noReplyKept = noReplyBusy ++ (clerkHears false ∷ [])
 abbrev pub noReplyLost : List Event
 noReplyLost = noReplyBusy ++ (dropsDown 0 ∷ [])
 
+-- the retained connection falls (where it was released there is none, and the act is refused): the line's end sees it, and then the clerk's
+abbrev pub lineFell : List Event
+lineFell = acknowledged ++ (lineActs first Far.Fell ∷ [])
+
+abbrev bothFell : List Event
+bothFell = lineFell ++ (clerkActs first User.Fell ∷ [])
+
 -- T2 is reported, and its ccCancel is dropped
 abbrev pub runOut : List Event
 runOut = acknowledged ++ (clerkReports first T2 ∷ dropsUp 0 ∷ [])
@@ -326,6 +333,13 @@ answers =
     row (noReply ++ (lineReports true ∷ [])) first (sees 2 1 1 0 2 2 0 0 0 0 0) ∷
     -- only then a Look at the free line offers it
     row (noReply ++ (lineReports true ∷ lineReports false ∷ lineLooks ∷ [])) first (sees 2 2 1 0 2 2 0 1 0 0 0) ∷
+    -- the connection fell at the line's end: the offer, which goes in Setup now, is taken all the same; and the call rings when it fell at the clerk's too
+    row (lineFell ++ recalled) first (sees 3 2 0 0 2 2 0 0 0 0 0) ∷
+    row (bothFell ++ (recalled ++ ringsOut)) first (sees 4 3 0 0 2 2 0 0 0 0 0) ∷
+    -- it falls at the clerk's end while an offer is under way: what is sent in Facility is taken, and ccSuspend goes in Release Complete
+    row (acknowledged ++ (lineLooks ∷ clerkActs first User.Fell ∷ clerkHears true ∷ lineHears ∷ [])) first (sees 5 2 0 1 2 2 0 0 0 0 0) ∷
+    -- and a ccResume in Setup, sent by an end that saw it, is taken by one that did not
+    row (acknowledged ++ (suspends ++ (clerkActs first User.Fell ∷ clerkActs first User.Resume ∷ lineHears ∷ []))) first (sees 2 1 0 0 2 2 0 0 0 0 0) ∷
     -- busy again: kept, and offered once more when the line is free
     row noReplyKept first (sees 2 1 1 0 2 2 0 0 0 0 0) ∷
     row (noReplyKept ++ (lineReports false ∷ lineLooks ∷ [])) first (sees 2 2 1 0 2 2 0 1 0 0 0) ∷
@@ -405,6 +419,44 @@ abbrev pub KindsShown : Type 0
 KindsShown =
     (retain : Bool) → map (λ (r : KindRow). kindsSeen (play (start retain) (r .events)) (wordsOf first)) kinds ≡ map (λ (r : KindRow). r .said) kinds
 
+-- ---- the mark "connection down" (document 02, Ask 11), where connections are retained or released: a run, and 1 where the clerk's end, and the line's, has set it
+pub record Marks : Type 0 where
+  pub clerk : ℕ
+  pub line : ℕ
+
+pub record MarkRow : Type 0 where
+  pub events : List Event
+  pub said : Marks
+
+abbrev markRow : List Event → ℕ → ℕ → MarkRow
+markRow events clerk line = record { events = events; said = record { clerk = clerk; line = line } }
+
+unfoldable pub falls : Bool → List MarkRow
+falls retain =
+    markRow acknowledged 0 0 ∷
+    -- each end sets its own
+    markRow lineFell 0 (flagCode retain) ∷
+    markRow bothFell (flagCode retain) (flagCode retain) ∷
+    -- before the acknowledgment it is refused at the clerk's end
+    markRow (stored ++ (clerkActs first User.Fell ∷ [])) 0 0 ∷
+    -- nothing clears it: a ringout, a resume, busy again
+    markRow (bothFell ++ (recalled ++ ringsOut)) (flagCode retain) (flagCode retain) ∷
+    markRow (bothFell ++ (suspends ++ (clerkActs first User.Resume ∷ lineHears ∷ []))) (flagCode retain) (flagCode retain) ∷
+    markRow (bothFell ++ (meetsBusy ++ (clerkHears false ∷ []))) (flagCode retain) (flagCode retain) ∷
+    []
+
+unfoldable pub marksSeen : World → Words → Marks
+marksSeen w identifier =
+    record {
+      clerk = told (λ (c : ClerkRecord.Record). flagCode (c .down)) (clerkHolds w identifier);
+      line = told (λ (l : LineRecord.Record). flagCode (l .down)) (lineHolds w identifier);
+    }
+
+abbrev pub FallsShown : Type 0
+FallsShown =
+    (retain : Bool) →
+    map (λ (r : MarkRow). marksSeen (play (start retain) (r .events)) (wordsOf first)) (falls retain) ≡ map (λ (r : MarkRow). r .said) (falls retain)
+
 abbrev pub table : List Row
 table = pairs ++ (answers ++ (losses ++ signals))
 
@@ -418,6 +470,7 @@ pub record Shown : Type 0 where
   pub losses : RowsShown losses
   pub signals : RowsShown signals
   pub kinds : KindsShown
+  pub falls : FallsShown
 
 -- every row ends in a world of a run: each ask is one that the entry makes, and no identifier is taken up twice
 abbrev pub EachReached : Bool → List Row → Type 0

@@ -131,7 +131,7 @@ fn play_bytes(script: &[u8], at: usize, number: usize, words: &mut [u64; WORDS])
     }
 }
 
-// User A's act by its number for hosts: accept, resume, go on, cancel. User A free is two of them, by the entry's last byte; 0 is none.
+// An act at this end by its number for hosts: accept, resume, go on, cancel, and the connection fell. User A free is two of them, by the entry's last byte; 0 is none.
 fn act_number(code: u8, choice: u8) -> u64 {
     match code {
         18 => 1,
@@ -140,11 +140,12 @@ fn act_number(code: u8, choice: u8) -> u64 {
             1 => 3,
             _ => 0,
         },
-        _ => 4,
+        20 => 4,
+        _ => 5,
     }
 }
 
-// An act of User A, or a timer that ran out, on the request of an identifier; refused where the choice isn't listed.
+// An act at this end, or a timer that ran out, on the request of an identifier; refused where the choice isn't listed.
 fn named_entry(code: u8, choice: u8, identifier: [u8; 16]) -> Entry {
     match code {
         21 => timer_given(identifier, choice as u64),
@@ -161,7 +162,7 @@ fn named_size(code: u8) -> usize {
     }
 }
 
-// Codes 18 to 21.
+// Codes 18 to 22.
 fn play_named(code: u8, script: &[u8], at: usize, number: usize, words: &mut [u64; WORDS]) -> Next {
     match behind(script, at, named_size(code)) {
         Next::Stop => Next::Stop,
@@ -196,7 +197,7 @@ pub fn play_clerk(
         2 => play_start(at, number, words),
         16 => play_ask(script, at, number, words),
         17 => play_bytes(script, at, number, words),
-        18..=21 => play_named(code, script, at, number, words),
+        18..=22 => play_named(code, script, at, number, words),
         64 => {
             print_clerk(number, words);
             Next::At(at)

@@ -27,6 +27,7 @@ fn put_phase(page: Page, r: Record) -> Page {
         keep_number(keep),
         connection_number(connection),
         state_code(state),
+        flag_code(r.down),
     ];
     put_numbers(page, &numbers)
 }

@@ -72,25 +72,46 @@ fn play_look(script: &[u8], at: usize, number: usize, words: &mut [u64; WORDS]) 
     }
 }
 
-// Code 35: the entry's last byte is the act's number for hosts; one that isn't listed is refused.
-fn play_act(script: &[u8], at: usize, number: usize, words: &mut [u64; WORDS]) -> Next {
-    match behind(script, at, 17) {
+// An act at this end by its number for hosts: alerted, call failed and cancel by the entry's last byte, and the connection fell; 0 is none.
+fn act_number(code: u8, choice: u8) -> u64 {
+    match code {
+        35 => match choice {
+            1 => 1,
+            2 => 2,
+            3 => 3,
+            _ => 0,
+        },
+        _ => 4,
+    }
+}
+
+// An act at this end, or the guard that ran out, on the request of an identifier; refused where the choice isn't listed.
+fn named_entry(code: u8, choice: u8, identifier: [u8; 16]) -> Entry {
+    match code {
+        36 => guard_entry(identifier),
+        _ => line_act_given(identifier, act_number(code, choice)),
+    }
+}
+
+// An identifier, and the choice of a code that has one.
+fn named_size(code: u8) -> usize {
+    match code {
+        35 => 17,
+        _ => 16,
+    }
+}
+
+// Codes 35 to 37.
+fn play_named(code: u8, script: &[u8], at: usize, number: usize, words: &mut [u64; WORDS]) -> Next {
+    match behind(script, at, named_size(code)) {
         Next::Stop => Next::Stop,
         Next::At(next) => {
-            let entry = line_act_given(identifier_at(script, at), byte_before(script, next) as u64);
+            let entry = named_entry(code, byte_before(script, next), identifier_at(script, at));
             match entry {
                 Entry::Refused(_) => Next::Stop,
                 Entry::Given(_) => play_given(entry, next, number, words),
             }
         }
-    }
-}
-
-// Code 36.
-fn play_guard(script: &[u8], at: usize, number: usize, words: &mut [u64; WORDS]) -> Next {
-    match behind(script, at, 16) {
-        Next::Stop => Next::Stop,
-        Next::At(next) => play_given(guard_entry(identifier_at(script, at)), next, number, words),
     }
 }
 
@@ -150,8 +171,7 @@ pub fn play_line(
         32 => play_bytes(script, at, number, words),
         33 => play_report(script, at, number, words),
         34 => play_look(script, at, number, words),
-        35 => play_act(script, at, number, words),
-        36 => play_guard(script, at, number, words),
+        35..=37 => play_named(code, script, at, number, words),
         65 => {
             print_line_desk(number, words);
             Next::At(at)

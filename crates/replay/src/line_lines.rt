@@ -35,6 +35,7 @@ fn put_phase(page: Page, r: Record) -> Page {
         state_code(state),
         flag_code(r.active),
         flag_code(r.suspended),
+        flag_code(r.down),
     ];
     put_numbers(page, &numbers)
 }

@@ -36,7 +36,7 @@ fn play_entry(
     lineWords: &mut [u64; line_records::WORDS],
 ) -> Next {
     match code {
-        1 | 32..=36 | 65 => play_line(code, script, at, number, lineWords),
+        1 | 32..=37 | 65 => play_line(code, script, at, number, lineWords),
         48 => play_write(script, at, number),
         _ => play_clerk(code, script, at, number, clerkWords),
     }

@@ -21,6 +21,7 @@ use clerk_table::table::Timer;
 use ladder::events::ACCEPT;
 use ladder::events::ASK;
 use ladder::events::CANCEL;
+use ladder::events::CLERK_FELL;
 use ladder::events::CLERK_HEARS;
 use ladder::events::Event;
 use ladder::events::T2;
@@ -79,13 +80,14 @@ fn stepped(w: World, event: Event, entry: Entry, heard: &[u8]) -> World {
     after
 }
 
-// User A's ask or act, T2 that ran out, or what is heard. User A is never busy in a scene.
+// User A's ask or act, T2 that ran out, a connection that fell, or what is heard. User A is never busy in a scene.
 fn entry_of(event: Event, preference: u8, heard: &[u8]) -> Entry {
     let code = event.code;
     match code {
         ASK => ask_entry(asking(event.about, preference)),
         ACCEPT => act_entry(identifier_of(event.about), Act::Accept),
         CANCEL => act_entry(identifier_of(event.about), Act::Cancel),
+        CLERK_FELL => act_entry(identifier_of(event.about), Act::Fell),
         T2 => timer_entry(identifier_of(event.about), Timer::T2),
         _ => {
             let read = bytes_entry(heard, false);

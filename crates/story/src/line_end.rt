@@ -12,6 +12,7 @@ use ladder::events::ALERTED;
 use ladder::events::BUSY;
 use ladder::events::Event;
 use ladder::events::FREE;
+use ladder::events::LINE_FELL;
 use ladder::events::LINE_HEARS;
 use ladder::events::LOOK;
 use ladder::events::WITHDRAW;
@@ -89,6 +90,7 @@ fn entry_of(event: Event, heard: &[u8]) -> Entry {
     match code {
         ALERTED => act_entry(identifier_of(event.about), Act::Alerted),
         WITHDRAW => act_entry(identifier_of(event.about), Act::Cancel),
+        LINE_FELL => act_entry(identifier_of(event.about), Act::Fell),
         BUSY => report_entry(digits_of(event.about), true),
         FREE => report_entry(digits_of(event.about), false),
         LOOK => look_entry(digits_of(event.about)),

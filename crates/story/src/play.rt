@@ -45,7 +45,7 @@ fn play_event(w: World, event: Event) -> World {
 pub fn play_scene(scene: u8) {
     open_scene(scene);
     let mut w = start_world(scene);
-    for step in 0..100 {
+    for step in 0..120 {
         w = play_event(w, event_at(scene, step));
     }
     close_scene(scene);

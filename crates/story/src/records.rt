@@ -6,10 +6,11 @@ use ladder::records::Shown;
 use ladder::records::show_place;
 use lists::words::bytes_of;
 use terms::Terms;
+use terms::codes::flag_code;
 use terms::codes::keep_code;
 
-// A record by its terms and the entry of its state.
-fn shown(agreed: Terms, state: usize) -> Shown {
+// A record by its terms, the entry of its state and its mark.
+fn shown(agreed: Terms, state: usize, down: bool) -> Shown {
     let identifier = agreed.identifier;
     let keep = agreed.keep;
     let bytes = bytes_of(identifier);
@@ -17,6 +18,7 @@ fn shown(agreed: Terms, state: usize) -> Shown {
         tag: bytes[0],
         state,
         keep: keep_code(keep) as usize,
+        down: flag_code(down) as usize,
     }
 }
 
@@ -24,14 +26,14 @@ fn at_clerk(words: &[u64; clerk_records::WORDS], i: usize) -> Shown {
     let r = clerk_records::places::load(words, i);
     let agreed = r.terms;
     let state = r.state;
-    shown(agreed, clerk_end::state_entry(state))
+    shown(agreed, clerk_end::state_entry(state), r.down)
 }
 
 fn at_line(words: &[u64; line_records::WORDS], i: usize) -> Shown {
     let r = line_records::places::load(words, i);
     let agreed = r.terms;
     let state = r.state;
-    shown(agreed, line_end::state_entry(state, r.suspended))
+    shown(agreed, line_end::state_entry(state, r.suspended), r.down)
 }
 
 pub fn show_records(w: World) {

@@ -5,9 +5,11 @@ use ladder::events::ALERTED;
 use ladder::events::ASK;
 use ladder::events::BUSY;
 use ladder::events::CANCEL;
+use ladder::events::CLERK_FELL;
 use ladder::events::CLERK_HEARS;
 use ladder::events::Event;
 use ladder::events::FREE;
+use ladder::events::LINE_FELL;
 use ladder::events::LINE_HEARS;
 use ladder::events::LOOK;
 use ladder::events::NOTHING;
@@ -20,7 +22,7 @@ use printing::Page;
 use printing::blank_page;
 use printing::put_entry;
 
-// An event by the first two letters of its name.
+// An event by the first two letters of its name. A capital: the connection fell, at that end.
 fn code_of(first: u8, second: u8) -> u8 {
     match first {
         b'a' => match second {
@@ -43,6 +45,8 @@ fn code_of(first: u8, second: u8) -> u8 {
             b'a' => SAY,
             _ => STRAY,
         },
+        b'C' => CLERK_FELL,
+        b'L' => LINE_FELL,
         b'T' => T2,
         b'w' => WITHDRAW,
         _ => NOTHING,
@@ -85,7 +89,12 @@ fn line_at(step: usize) -> Page {
           4  11 say\n4  -- clerk hears\n4  -- records\n\
           4  12 say\n4  20 stray\n4  -- clerk hears\n4  -- line hears\n4  34 stray\n\
           4  -- clerk hears\n4  -- records\n\
-          4  13 say\n4  34 alerted\n4  -- clerk hears\n4  -- records\n",
+          4  13 say\n4  34 alerted\n4  -- clerk hears\n4  -- records\n\
+          5. 41 busy\n5. 34 ask\n5. -- line hears\n5. -- clerk hears\n\
+          5  -- records\n5  14 say\n5  34 Line fell\n5  -- records\n\
+          5  15 say\n5  41 free\n5  41 look\n5  -- clerk hears\n\
+          5  16 say\n5  34 Clerk fell\n5  34 accept\n5  -- line hears\n5  -- records\n\
+          5  34 alerted\n5  -- clerk hears\n5  -- records\n",
         step,
     )
 }

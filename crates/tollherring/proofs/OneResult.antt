@@ -15,7 +15,7 @@ one-face words words′ out out′ told told′ answer answer′ p q =
     let same = p ∙ sym q in
     ((ap (λ (f : Face). f .words) same, ap (λ (f : Face). f .out) same), (ap (λ (f : Face). f .told) same, ap (λ (f : Face). f .answer) same))
 
--- a record that is shown: identifier, the two numbers, the eight numbers, the answer
+-- a record that is shown: identifier, the two numbers, the nine numbers, the answer
 pub one-shown :
     (i i′ a a′ b b′ n n′ : List ℕ) (answer answer′ : ℕ) {definition : Shown} → shown i a b n answer ≡ definition → shown i′ a′ b′ n′ answer′ ≡ definition →
     ((i ≡ i′) × (a ≡ a′)) × ((b ≡ b′) × ((n ≡ n′) × (answer ≡ answer′)))

@@ -17,7 +17,7 @@ use Rattle.line_records.specs.Lines.{lines, noLine}
 use Rattle.desk.specs.Sends.{noNumber}
 use Rattle.host_numbers.specs.Shown.{clerkNumbers, lineNumbers, kindsNumber}
 
--- identifier, numberA, numberB, the eight numbers, and the answer
+-- identifier, numberA, numberB, the nine numbers, and the answer
 pub record Shown : Type 0 where
   pub identifier : List ℕ
   pub numberA : List ℕ

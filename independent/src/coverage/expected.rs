@@ -13,35 +13,55 @@ fn done(state: &str, input: &str, outcome: &str) -> Done {
     Done { state: state.to_string(), input: input.to_string(), outcome: outcome.to_string() }
 }
 
-/// The carriers that hang on the connection choice.
+/// The carriers that hang on the connection choice and, request 11, on the mark
+/// "connection down": what is sent and what is taken.
 struct Choice {
     name: &'static str,
-    offer: &'static str,
-    suspend: &'static [&'static str],
+    offer_sent: &'static str,
+    offer_taken: &'static [&'static str],
+    suspend_sent: &'static str,
+    suspend_taken: &'static [&'static str],
     resume_sent: &'static str,
     resume_taken: &'static [&'static str],
     cancel: &'static str,
+    /// The choice's name when the connection has fallen; none for RLS.
+    fallen: Option<&'static str>,
 }
 
-/// ccSuspend's first carrier is the one that is sent.
-const CHOICES: [Choice; 2] = [
-    Choice {
-        name: "RET",
-        offer: "Facility",
-        suspend: &["Facility"],
-        resume_sent: "Facility",
-        resume_taken: &["Facility", "Setup"],
-        cancel: "Release Complete",
-    },
-    Choice {
-        name: "RLS",
-        offer: "Setup",
-        suspend: &["Release Complete", "Connect"],
-        resume_sent: "Setup",
-        resume_taken: &["Setup"],
-        cancel: "Setup",
-    },
-];
+const RET: Choice = Choice {
+    name: "RET",
+    offer_sent: "Facility",
+    offer_taken: &["Facility", "Setup"],
+    suspend_sent: "Facility",
+    suspend_taken: &["Facility", "Release Complete", "Connect"],
+    resume_sent: "Facility",
+    resume_taken: &["Facility", "Setup"],
+    cancel: "Release Complete",
+    fallen: Some("RET down"),
+};
+
+const RET_DOWN: Choice = Choice {
+    name: "RET down",
+    offer_sent: "Setup",
+    suspend_sent: "Release Complete",
+    resume_sent: "Setup",
+    cancel: "Setup",
+    ..RET
+};
+
+const RLS: Choice = Choice {
+    name: "RLS",
+    offer_sent: "Setup",
+    offer_taken: &["Setup"],
+    suspend_sent: "Release Complete",
+    suspend_taken: &["Release Complete", "Connect"],
+    resume_sent: "Setup",
+    resume_taken: &["Setup"],
+    cancel: "Setup",
+    fallen: None,
+};
+
+const CHOICES: [Choice; 3] = [RET, RET_DOWN, RLS];
 
 const CARRIERS: [&str; 5] = ["Setup", "Connect", "Facility", "Release Complete", "Alerting"];
 
@@ -96,10 +116,12 @@ fn invoked_and_suspended_rows(rows: &mut Vec<Done>, choice: &Choice) {
     let name = choice.name;
     let state = format!("Invoked {name}");
     let recall = format!("Wait-Answer {name}, \"recall\", starts T3");
-    let suspend = format!("Suspended {name}, sends ccSuspend in {}", choice.suspend[0]);
-    let exec = format!("ccExecPossible in {}", choice.offer);
-    rows.push(done(&state, &format!("{exec}, User A not busy"), &recall));
-    rows.push(done(&state, &format!("{exec}, User A busy"), &suspend));
+    let suspend = format!("Suspended {name}, sends ccSuspend in {}", choice.suspend_sent);
+    for carrier in choice.offer_taken {
+        let exec = format!("ccExecPossible in {carrier}");
+        rows.push(done(&state, &format!("{exec}, User A not busy"), &recall));
+        rows.push(done(&state, &format!("{exec}, User A busy"), &suspend));
+    }
     cancel_rows(rows, &state, choice, "T2", &["T2"], "");
     let state = format!("Suspended {name}");
     let resume = format!("Invoked {name}, sends ccResume in {}", choice.resume_sent);
@@ -136,8 +158,21 @@ fn clerk_done() -> Vec<Done> {
     for choice in CHOICES.iter() {
         invoked_and_suspended_rows(&mut rows, choice);
         answer_and_ringout_rows(&mut rows, choice);
+        for state in ["Invoked", "Wait-Answer", "Ringout", "Suspended"] {
+            fallen_row(&mut rows, state, choice, "");
+        }
     }
     rows
+}
+
+/// Request 11: "Taken in every other state; the state stays .. on a marked
+/// record taken, and nothing changes." What is behind the choice in a state's
+/// name stays too.
+fn fallen_row(rows: &mut Vec<Done>, state: &str, choice: &Choice, mark: &str) {
+    if let Some(fallen) = choice.fallen {
+        let before = format!("{state} {}{mark}", choice.name);
+        rows.push(done(&before, "the connection fell", &format!("{state} {fallen}{mark}")));
+    }
 }
 
 fn clerk_states() -> Vec<String> {
@@ -210,6 +245,7 @@ fn clerk_act_rows(names: &mut Vec<String>, rows: &[Done]) {
         ("User A free, resume", "refusal 7"),
         ("User A free, recall", "refusal 7"),
         ("user's cancel", "refusal 7"),
+        ("the connection fell", "refusal 7"),
         ("T1 runs out", "refusal 9"),
         ("T2 runs out", "refusal 9"),
         ("T3 runs out", "refusal 9"),
@@ -302,6 +338,8 @@ fn refusal_rows(names: &mut Vec<String>, desk: &str, numbers: &[u32]) {
 fn line_invoked_and_alert_rows(rows: &mut Vec<Done>, choice: &Choice) {
     let name = choice.name;
     line_cancel_rows(rows, &format!("Invoked {name}"), choice);
+    fallen_row(rows, "Invoked", choice, "");
+    fallen_row(rows, "Alert", choice, "");
     let state = format!("Alert {name}");
     line_cancel_rows(rows, &state, choice);
     rows.push(done(&state, "act alerted", "deleted, sends call alerts in Alerting, stops guard"));
@@ -321,7 +359,8 @@ fn line_await_rows(rows: &mut Vec<Done>, choice: &Choice, mark: &str) {
     let name = choice.name;
     let state = format!("Await {name}{mark}");
     line_cancel_rows(rows, &state, choice);
-    for carrier in choice.suspend {
+    fallen_row(rows, "Await", choice, mark);
+    for carrier in choice.suspend_taken {
         rows.push(done(&state, &format!("ccSuspend in {carrier}"), &format!("Await {name} suspended")));
     }
     for carrier in choice.resume_taken {
@@ -426,7 +465,7 @@ fn line_message_rows(names: &mut Vec<String>, rows: &[Done]) {
 
 fn line_act_rows(names: &mut Vec<String>, rows: &[Done]) {
     for state in line_states() {
-        for input in ["act alerted", "act call failed", "act cancel", "guard runs out"].iter() {
+        for input in ["act alerted", "act call failed", "act cancel", "guard runs out", "the connection fell"].iter() {
             let refusal = if state == "no record" { "refusal 6" } else { "refusal 7" };
             let outcome = find(rows, &state, input).unwrap_or(refusal);
             names.push(format!("line: {state}: {input}: {outcome}"));
@@ -481,7 +520,7 @@ fn request_rows(names: &mut Vec<String>) {
 }
 
 /// "Line report: 10", "Look: 10, 11".
-const REPORTS_AND_LOOKS: [&str; 35] = [
+const REPORTS_AND_LOOKS: [&str; 31] = [
     "report busy: line was free: stored",
     "report busy: line was busy: stored",
     "report free: line was free: stored",
@@ -509,15 +548,20 @@ const REPORTS_AND_LOOKS: [&str; 35] = [
     "Look: CCNR never active: refusal 11",
     "Look: only suspended records: refusal 11",
     "Look: no records: refusal 11",
-    "Look: CCBS RET fits: Await, sends ccExecPossible in Facility",
-    "Look: CCBS RLS fits: Await, sends ccExecPossible in Setup",
-    "Look: CCNR RET fits: Await, sends ccExecPossible in Facility",
-    "Look: CCNR RLS fits: Await, sends ccExecPossible in Setup",
     "Look: offered past an older suspended record",
     "Look: offered before a younger suspended record",
     "Look: offered past an older CCNR record never active",
     "Look: the oldest of several that fit",
 ];
+
+fn offer_rows(names: &mut Vec<String>) {
+    for kind in ["CCBS", "CCNR"] {
+        for choice in CHOICES.iter() {
+            let sent = format!("sends ccExecPossible in {}", choice.offer_sent);
+            names.push(format!("line: Look: {kind} {} fits: Await, {sent}", choice.name));
+        }
+    }
+}
 
 fn start_rows(names: &mut Vec<String>) {
     let starts = [
@@ -554,6 +598,7 @@ pub fn rows() -> Vec<String> {
     line_message_rows(&mut names, &rows);
     line_act_rows(&mut names, &rows);
     names.extend(REPORTS_AND_LOOKS.iter().map(|name| format!("line: {name}")));
+    offer_rows(&mut names);
     names.extend(LINE_EDGES.iter().map(|name| format!("line: {name}")));
     names.extend(CONVERTED.iter().map(|name| format!("line: {name}")));
     deletion_rows(&mut names, "line");

@@ -44,6 +44,7 @@ fn is_at_clerk(entry: &Entry) -> bool {
             | Entry::UserAFree(_, _)
             | Entry::UserCancels(_)
             | Entry::TimerRunsOut(_, _)
+            | Entry::FellAtClerk(_)
     )
 }
 
@@ -148,8 +149,17 @@ fn clerk_state(desk: &ClerkDesk, identifier: &Identifier) -> String {
         return "no record".to_string();
     };
     match record.connection {
-        Some(choice) => format!("{} {}", record.state.name(), choice.name()),
+        Some(choice) => format!("{} {}{}", record.state.name(), choice.name(), down_mark(record.down)),
         None => record.state.name().to_string(),
+    }
+}
+
+/// Request 11: what the mark adds to the choice's name.
+fn down_mark(down: bool) -> &'static str {
+    if down {
+        " down"
+    } else {
+        ""
     }
 }
 
@@ -214,6 +224,7 @@ fn clerk_names(before: &ClerkDesk, entry: &Entry, outcome: &Outcome, after: &Cle
         Entry::UserAFree(identifier, FreeChoice::Recall) => act(identifier, "User A free, recall".to_string()),
         Entry::UserCancels(identifier) => act(identifier, "user's cancel".to_string()),
         Entry::TimerRunsOut(identifier, timer) => act(identifier, format!("{} runs out", timer.name())),
+        Entry::FellAtClerk(identifier) => act(identifier, "the connection fell".to_string()),
         _ => Vec::new(),
     }
 }
@@ -298,7 +309,7 @@ fn line_state(desk: &LineDesk, identifier: &Identifier) -> String {
         return "no record".to_string();
     };
     let suspended = if record.suspended { " suspended" } else { "" };
-    format!("{} {}{}", record.state.name(), record.connection.name(), suspended)
+    format!("{} {}{}{}", record.state.name(), record.connection.name(), down_mark(record.down), suspended)
 }
 
 fn line_state_after(desk: &LineDesk, identifier: &Identifier) -> String {
@@ -354,6 +365,7 @@ fn line_names(before: &LineDesk, entry: &Entry, outcome: &Outcome, after: &LineD
         }
         Entry::Act(identifier, which) => act(identifier, format!("act {}", which.name())),
         Entry::GuardRunsOut(identifier) => act(identifier, "guard runs out".to_string()),
+        Entry::FellAtLine(identifier) => act(identifier, "the connection fell".to_string()),
         _ => Vec::new(),
     }
 }
@@ -584,7 +596,7 @@ fn offer_names(records: &[&line::Record], place: usize, outcome: &Outcome) -> Ve
         return Vec::new();
     };
     let kind = record.kind.name();
-    let choice = record.connection.name();
+    let choice = format!("{}{}", record.connection.name(), down_mark(record.down));
     let mut names = vec![format!("Look: {kind} {choice} fits: {}", outcome_text(outcome, "Await"))];
     let fits = |r: &&line::Record| r.state == line::State::Invoked && (r.kind == Kind::Ccbs || r.active);
     if older.iter().any(|r| r.suspended) {

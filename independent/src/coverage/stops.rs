@@ -4,7 +4,7 @@
 use crate::script::take_entry;
 
 /// The codes of entries that have fields.
-const WITH_FIELDS: [u8; 13] = [1, 16, 17, 18, 19, 20, 21, 32, 33, 34, 35, 36, 48];
+const WITH_FIELDS: [u8; 15] = [1, 16, 17, 18, 19, 20, 21, 22, 32, 33, 34, 35, 36, 37, 48];
 
 pub fn rows() -> Vec<String> {
     let mut rows = vec!["stop: code not listed".to_string()];

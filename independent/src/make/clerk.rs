@@ -2,7 +2,8 @@
 
 use super::{
     bad_input, bytes_of, contents_without_requests, damaged, request_content, requests_on_edges, spread_identifier,
-    to_clerk, with_choice, with_identifier, AskEntry, Case, Scripts, ACCEPT, TIMER, USER_A_FREE, USER_CANCELS,
+    to_clerk, with_choice, with_identifier, AskEntry, Case, Scripts, ACCEPT, FELL_AT_CLERK, TIMER, USER_A_FREE,
+    USER_CANCELS,
 };
 use crate::codec::{Carrier, Content, Identifier};
 use crate::outcome::{Connection, Kind};
@@ -34,13 +35,14 @@ const ACKNOWLEDGED_ROADS: [Road; 8] = [
 ];
 
 /// What is chosen for a record: can-keep as sent, keep as answered, the
-/// connection as answered.
+/// connection as answered; whether the connection falls behind the answer.
 #[derive(Clone, Copy)]
 struct Choices {
     kind: Kind,
     can_keep: bool,
     keep: u32,
     connection: Connection,
+    down: bool,
 }
 
 fn all_choices() -> Vec<Choices> {
@@ -48,7 +50,7 @@ fn all_choices() -> Vec<Choices> {
     for connection in [Connection::Ret, Connection::Rls].iter() {
         for (can_keep, keep) in [(false, 0), (false, 1), (true, 0), (true, 1)].iter() {
             let kind = if *can_keep == (*keep == 1) { Kind::Ccbs } else { Kind::Ccnr };
-            choices.push(Choices { kind, can_keep: *can_keep, keep: *keep, connection: *connection });
+            choices.push(Choices { kind, can_keep: *can_keep, keep: *keep, connection: *connection, down: false });
         }
     }
     choices
@@ -83,8 +85,9 @@ fn result(identifier: Identifier, choices: Choices) -> Vec<u8> {
     hand_in(carrier, identifier, Content::RequestResult { keep: choices.keep })
 }
 
+/// In the carrier that the other end sends by, which has seen the fall too.
 fn offer(identifier: Identifier, choices: Choices, user_a_busy: bool) -> Vec<u8> {
-    let carrier = choices.connection.facility_or_setup();
+    let carrier = choices.connection.for_sending(choices.down).facility_or_setup();
     to_clerk(user_a_busy, &bytes_of(carrier, identifier, Content::CcExecPossible))
 }
 
@@ -117,6 +120,9 @@ fn drive(case: &mut Case, road: Road, identifier: Identifier, choices: Choices) 
         return;
     }
     case.step(&result(identifier, choices));
+    if choices.down {
+        case.step(&with_identifier(FELL_AT_CLERK, identifier));
+    }
     for entry in road_behind_acknowledgment(road, identifier, choices) {
         case.step(&entry);
     }
@@ -138,8 +144,8 @@ fn message_inputs(identifier: Identifier) -> Vec<Vec<u8>> {
     inputs
 }
 
-/// Every act, every timer, asks with the same and with another identifier, and
-/// no bytes at all.
+/// Every act, every timer, the fallen connection, asks with the same and with
+/// another identifier, and no bytes at all.
 fn other_inputs(identifier: Identifier, choices: Choices) -> Vec<Vec<u8>> {
     vec![
         with_identifier(ACCEPT, identifier),
@@ -149,6 +155,7 @@ fn other_inputs(identifier: Identifier, choices: Choices) -> Vec<Vec<u8>> {
         with_choice(TIMER, identifier, 1),
         with_choice(TIMER, identifier, 2),
         with_choice(TIMER, identifier, 3),
+        with_identifier(FELL_AT_CLERK, identifier),
         ask(identifier, choices),
         ask(spread_identifier(90), choices),
         to_clerk(false, &[]),
@@ -195,6 +202,71 @@ fn every_state(scripts: &mut Scripts) {
             every_input(scripts, Road::NoRecord, choices, true);
             every_input(scripts, Road::NoRecord, choices, false);
             every_input(scripts, Road::WaitAck, choices, false);
+        }
+    }
+}
+
+/// The choices of records whose connection has fallen: both kinds, keep and not.
+fn fallen_choices() -> Vec<Choices> {
+    let kinds = [Kind::Ccbs, Kind::Ccnr].into_iter();
+    let with_keep =
+        |kind: Kind| [0, 1].map(|keep| Choices { kind, can_keep: true, keep, connection: Connection::Ret, down: true });
+    kinds.flat_map(with_keep).collect()
+}
+
+/// "we want that in all states at both ends": every input to a marked record in
+/// every state; without keep from Ringout alone, where keep decides.
+fn every_state_fallen(scripts: &mut Scripts) {
+    for choices in fallen_choices() {
+        for road in ACKNOWLEDGED_ROADS {
+            let in_ringout = matches!(road, Road::Ringout | Road::RingoutFromSuspended);
+            if choices.keep == 1 || in_ringout {
+                every_input(scripts, road, choices, false);
+            }
+        }
+    }
+}
+
+/// The connection falls at each step of a life and is reported twice; the
+/// record's life goes on, with messages in the carriers of either kind.
+fn falls_on_the_way(scripts: &mut Scripts) {
+    let identifier = spread_identifier(6);
+    for choices in all_choices() {
+        for road in [Road::WaitAck].into_iter().chain(ACKNOWLEDGED_ROADS) {
+            let mut case = Case::at_clerk();
+            drive(&mut case, road, identifier, choices);
+            case.step(&with_identifier(FELL_AT_CLERK, identifier));
+            case.step(&with_identifier(FELL_AT_CLERK, identifier));
+            case.step(&result(identifier, choices));
+            for carrier in [Carrier::Setup, Carrier::Facility] {
+                case.step(&to_clerk(true, &bytes_of(carrier, identifier, Content::CcExecPossible)));
+                case.step(&with_choice(USER_A_FREE, identifier, 0));
+            }
+            case.step(&offer(identifier, choices, false));
+            case.step(&with_identifier(ACCEPT, identifier));
+            case.step(&hand_in(Carrier::ReleaseComplete, identifier, Content::RingoutError { error: 1 }));
+            case.step(&with_identifier(FELL_AT_CLERK, identifier));
+            case.step(&with_identifier(USER_CANCELS, identifier));
+            case.step(&with_identifier(FELL_AT_CLERK, identifier));
+            scripts.add(&case.bytes);
+        }
+    }
+}
+
+/// All that is refused in a state, one input behind the other: they change
+/// nothing.
+fn refused_in_a_row(scripts: &mut Scripts) {
+    let identifier = spread_identifier(40);
+    let mut every = all_choices();
+    every.extend(fallen_choices());
+    for choices in every.into_iter().filter(|c| c.can_keep) {
+        for road in [Road::NoRecord, Road::WaitAck].into_iter().chain(ACKNOWLEDGED_ROADS) {
+            let mut case = Case::at_clerk();
+            drive(&mut case, road, identifier, choices);
+            let mut inputs = message_inputs(identifier);
+            inputs.extend(other_inputs(identifier, choices));
+            case.step_refused(&inputs);
+            scripts.add(&case.bytes);
         }
     }
 }
@@ -354,7 +426,7 @@ fn road_and_carrier(content: &Content) -> (Road, Carrier) {
 /// they speak of is live, so that a fault that isn't seen would change the desk.
 fn bad_bytes(scripts: &mut Scripts) {
     let identifier = spread_identifier(9);
-    let choices = Choices { kind: Kind::Ccbs, can_keep: true, keep: 1, connection: Connection::Ret };
+    let choices = Choices { kind: Kind::Ccbs, can_keep: true, keep: 1, connection: Connection::Ret, down: false };
     let mut contents = contents_without_requests();
     contents.push(request_content(Kind::Ccbs, &NUMBER_A, &NUMBER_B, 300, 5));
     contents.push(request_content(Kind::Ccnr, &[], &NUMBER_B, 0, 4));
@@ -437,5 +509,8 @@ pub fn scripts() -> Scripts {
     bad_bytes(&mut scripts);
     bad_input::at_clerk(&mut scripts);
     every_state(&mut scripts);
+    every_state_fallen(&mut scripts);
+    falls_on_the_way(&mut scripts);
+    refused_in_a_row(&mut scripts);
     scripts
 }

@@ -2,7 +2,8 @@
 
 use super::{
     bad_input, bytes_of, contents_without_requests, damaged, look, report, request_content, requests_on_edges,
-    spread_identifier, start_line, to_line, with_choice, with_identifier, Case, Scripts, ACT, GUARD_RUNS_OUT,
+    spread_identifier, start_line, to_line, with_choice, with_identifier, Case, Scripts, ACT, FELL_AT_LINE,
+    GUARD_RUNS_OUT,
 };
 use crate::codec::{Carrier, Content, Identifier};
 use crate::outcome::{Connection, Kind};
@@ -50,11 +51,13 @@ const ROADS: [Road; 9] = [
     Road::AlertFromSuspended,
 ];
 
+/// What is chosen for a record; whether the connection falls behind the answer.
 #[derive(Clone, Copy)]
 struct Choices {
     kind: Kind,
     keep: bool,
     connection: Connection,
+    down: bool,
 }
 
 fn all_choices() -> Vec<Choices> {
@@ -62,7 +65,7 @@ fn all_choices() -> Vec<Choices> {
     for kind in [Kind::Ccbs, Kind::Ccnr].iter() {
         for keep in [false, true].iter() {
             for connection in [Connection::Ret, Connection::Rls].iter() {
-                choices.push(Choices { kind: *kind, keep: *keep, connection: *connection });
+                choices.push(Choices { kind: *kind, keep: *keep, connection: *connection, down: false });
             }
         }
     }
@@ -111,6 +114,9 @@ fn drive(case: &mut Case, road: Road, identifier: Identifier, choices: Choices) 
         return;
     }
     case.step(&request(identifier, choices.kind, &NUMBER_A, &ONE, flags(choices)));
+    if choices.down {
+        case.step(&with_identifier(FELL_AT_LINE, identifier));
+    }
     if road == Road::Invoked {
         return;
     }
@@ -124,8 +130,10 @@ fn drive(case: &mut Case, road: Road, identifier: Identifier, choices: Choices) 
     behind_the_offer(case, road, identifier, choices);
 }
 
+/// The messages come in the carriers of the other end, which has seen the fall
+/// too.
 fn behind_the_offer(case: &mut Case, road: Road, identifier: Identifier, choices: Choices) {
-    let connection = choices.connection;
+    let connection = choices.connection.for_sending(choices.down);
     match road {
         Road::InvokedAfterResume => {
             case.step(&suspend(identifier, connection));
@@ -160,8 +168,8 @@ fn message_inputs(identifier: Identifier) -> Vec<Vec<u8>> {
     inputs
 }
 
-/// Every act, the guard, Looks, reports, requests near to the record, starts
-/// taken and refused, and no bytes at all.
+/// Every act, the guard, the fallen connection, Looks, reports, requests near to
+/// the record, starts taken and refused, and no bytes at all.
 fn other_inputs(identifier: Identifier) -> Vec<Vec<u8>> {
     let other = spread_identifier(90);
     vec![
@@ -169,6 +177,7 @@ fn other_inputs(identifier: Identifier) -> Vec<Vec<u8>> {
         with_choice(ACT, identifier, 2),
         with_choice(ACT, identifier, 3),
         with_identifier(GUARD_RUNS_OUT, identifier),
+        with_identifier(FELL_AT_LINE, identifier),
         look(&ONE),
         look(&TWO),
         report(&ONE, true),
@@ -224,6 +233,78 @@ fn every_state(scripts: &mut Scripts) {
                 if choices.keep && choices.kind == Kind::Ccbs {
                     every_input(scripts, *road, choices, *busy, false);
                 }
+            }
+        }
+    }
+}
+
+/// Both kinds, keep and not, of records whose connection has fallen.
+fn fallen_choices() -> Vec<Choices> {
+    let retained = all_choices().into_iter().filter(|c| c.connection == Connection::Ret);
+    retained.map(|choices| Choices { down: true, ..choices }).collect()
+}
+
+/// "we want that in all states at both ends": every input to a marked record in
+/// every state; without keep, and CCNR, from Await alone, where they decide.
+fn every_state_fallen(scripts: &mut Scripts) {
+    for choices in fallen_choices() {
+        for road in ROADS {
+            let in_await = matches!(road, Road::Await | Road::AwaitSuspended);
+            let full = choices.keep && choices.kind == Kind::Ccbs && road != Road::NoRecord;
+            for busy in [false, true] {
+                if full || in_await {
+                    every_input(scripts, road, choices, busy, false);
+                }
+            }
+        }
+    }
+}
+
+/// The connection falls in each state and is reported twice; the record's life
+/// goes on, with messages in the carriers of either kind.
+fn falls_on_the_way(scripts: &mut Scripts) {
+    let identifier = spread_identifier(6);
+    for choices in all_choices() {
+        for road in ROADS {
+            let mut case = Case::at_line(&two_lines(), settings(choices));
+            drive(&mut case, road, identifier, choices);
+            case.step(&with_identifier(FELL_AT_LINE, identifier));
+            case.step(&with_identifier(FELL_AT_LINE, identifier));
+            activity(&mut case, &ONE);
+            for carrier in [Carrier::Facility, Carrier::Setup] {
+                case.step(&look(&ONE));
+                case.step(&hand_in(carrier, identifier, Content::CcResume));
+            }
+            for carrier in [Carrier::Facility, Carrier::ReleaseComplete, Carrier::Connect] {
+                case.step(&look(&ONE));
+                case.step(&hand_in(carrier, identifier, Content::CcSuspend));
+                case.step(&hand_in(Carrier::Setup, identifier, Content::CcResume));
+            }
+            busy_again_once(&mut case, identifier, choices.connection, false);
+            case.step(&with_identifier(FELL_AT_LINE, identifier));
+            case.step(&with_choice(ACT, identifier, 3));
+            case.step(&with_identifier(FELL_AT_LINE, identifier));
+            scripts.add(&case.bytes);
+        }
+    }
+}
+
+/// All that is refused in a state, one input behind the other: they change
+/// nothing.
+fn refused_in_a_row(scripts: &mut Scripts) {
+    let identifier = spread_identifier(40);
+    let mut every = all_choices();
+    every.extend(fallen_choices());
+    for choices in every {
+        for road in ROADS {
+            for busy in [false, true] {
+                let mut case = Case::at_line(&two_lines(), settings(choices));
+                drive(&mut case, road, identifier, choices);
+                case.step(&report(&ONE, busy));
+                let mut inputs = message_inputs(identifier);
+                inputs.extend(other_inputs(identifier));
+                case.step_refused(&inputs);
+                scripts.add(&case.bytes);
             }
         }
     }
@@ -327,7 +408,7 @@ fn duplicates(scripts: &mut Scripts) {
     let numbers_a: [&[u8]; 6] = [&[], &NUMBER_A, &[4, 0], &[4, 0, 4, 0], &[4, 0, 5], &[0]];
     for road in ROADS.iter() {
         for kind in [Kind::Ccbs, Kind::Ccnr].iter() {
-            let choices = Choices { kind: *kind, keep: true, connection: Connection::Ret };
+            let choices = Choices { kind: *kind, keep: true, connection: Connection::Ret, down: false };
             for number_a in numbers_a.iter() {
                 let mut case = Case::at_line(&two_lines(), settings(choices));
                 drive(&mut case, *road, spread_identifier(40), choices);
@@ -599,7 +680,7 @@ fn usual_carrier(content: &Content) -> Carrier {
 /// the requests the record that they speak of is live and in Await.
 fn bad_bytes(scripts: &mut Scripts) {
     let identifier = spread_identifier(9);
-    let choices = Choices { kind: Kind::Ccbs, keep: true, connection: Connection::Ret };
+    let choices = Choices { kind: Kind::Ccbs, keep: true, connection: Connection::Ret, down: false };
     let mut contents = contents_without_requests();
     contents.push(request_content(Kind::Ccbs, &[], &ONE, 0, 3));
     contents.push(request_content(Kind::Ccnr, &[8, 8], &TWO, 300, 5));
@@ -640,5 +721,8 @@ pub fn scripts() -> Scripts {
     bad_bytes(&mut scripts);
     bad_input::at_line(&mut scripts);
     every_state(&mut scripts);
+    every_state_fallen(&mut scripts);
+    falls_on_the_way(&mut scripts);
+    refused_in_a_row(&mut scripts);
     scripts
 }

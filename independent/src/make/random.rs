@@ -4,8 +4,8 @@
 use super::codec::FORMS;
 use super::{
     bytes_of, contents_without_requests, look, report, request_content, start_line, to_clerk, to_line, with_choice,
-    with_identifier, write_entry, AskEntry, Scripts, ACCEPT, ACT, GUARD_RUNS_OUT, PRINT_CLERK, PRINT_LINE, START_CLERK,
-    TIMER, USER_A_FREE, USER_CANCELS,
+    with_identifier, write_entry, AskEntry, Scripts, ACCEPT, ACT, FELL_AT_CLERK, FELL_AT_LINE, GUARD_RUNS_OUT,
+    PRINT_CLERK, PRINT_LINE, START_CLERK, TIMER, USER_A_FREE, USER_CANCELS,
 };
 use crate::clerk;
 use crate::codec::{message_bytes, Carrier, Content, Identifier};
@@ -69,6 +69,7 @@ enum Move {
     SensibleLineAct,
     Look,
     Report,
+    ConnectionFalls,
     AnyClerkAct,
     AnyLineAct,
     StrayToClerk,
@@ -82,7 +83,7 @@ enum Move {
     Print,
 }
 
-const MOVES: [(Move, [usize; 3]); 18] = [
+const MOVES: [(Move, [usize; 3]); 19] = [
     (Move::Ask, [16, 40, 14]),
     (Move::DeliverToLine, [80, 60, 50]),
     (Move::DeliverToClerk, [80, 60, 50]),
@@ -90,6 +91,7 @@ const MOVES: [(Move, [usize; 3]); 18] = [
     (Move::SensibleLineAct, [40, 6, 25]),
     (Move::Look, [30, 15, 25]),
     (Move::Report, [14, 10, 14]),
+    (Move::ConnectionFalls, [5, 4, 8]),
     (Move::AnyClerkAct, [1, 2, 8]),
     (Move::AnyLineAct, [1, 2, 6]),
     (Move::StrayToClerk, [2, 2, 18]),
@@ -467,12 +469,26 @@ impl Player {
         self.put(&entry);
     }
 
+    /// The connection of a record falls, retained or not: mostly both ends see
+    /// it, with other steps between the two or not, and sometimes only one does.
+    fn connection_falls(&mut self) {
+        let id = self.some_identifier();
+        let (clerk_sees, line_sees) = (!self.dice.once_in(4), !self.dice.once_in(4));
+        if clerk_sees {
+            self.put(&with_identifier(FELL_AT_CLERK, id));
+        }
+        if line_sees {
+            self.put(&with_identifier(FELL_AT_LINE, id));
+        }
+    }
+
     fn any_clerk_act(&mut self) {
         let id = self.identifier_at(false);
-        let entry = match self.dice.below(7) {
+        let entry = match self.dice.below(8) {
             0 => with_identifier(ACCEPT, id),
             1 | 2 => with_choice(USER_A_FREE, id, self.dice.below(2) as u8),
             3 => with_identifier(USER_CANCELS, id),
+            4 => with_identifier(FELL_AT_CLERK, id),
             _ => with_choice(TIMER, id, 1 + self.dice.below(3) as u8),
         };
         self.put(&entry);
@@ -480,8 +496,9 @@ impl Player {
 
     fn any_line_act(&mut self) {
         let id = self.identifier_at(true);
-        let entry = match self.dice.below(4) {
+        let entry = match self.dice.below(5) {
             0 => with_identifier(GUARD_RUNS_OUT, id),
+            1 => with_identifier(FELL_AT_LINE, id),
             _ => with_choice(ACT, id, 1 + self.dice.below(3) as u8),
         };
         self.put(&entry);
@@ -687,6 +704,7 @@ impl Player {
             Move::SensibleLineAct => self.sensible_line_act(),
             Move::Look => self.look(),
             Move::Report => self.report(),
+            Move::ConnectionFalls => self.connection_falls(),
             Move::AnyClerkAct => self.any_clerk_act(),
             Move::AnyLineAct => self.any_line_act(),
             Move::StrayToClerk => self.stray(false),

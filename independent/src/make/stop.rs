@@ -4,8 +4,8 @@
 
 use super::{
     bytes_of, look, report, spread_identifier, start_line, to_clerk, to_line, with_choice, with_identifier,
-    write_entry, AskEntry, Scripts, ACCEPT, ACT, GUARD_RUNS_OUT, PRINT_CLERK, PRINT_LINE, START_CLERK, TIMER,
-    USER_A_FREE, USER_CANCELS,
+    write_entry, AskEntry, Scripts, ACCEPT, ACT, FELL_AT_CLERK, FELL_AT_LINE, GUARD_RUNS_OUT, PRINT_CLERK, PRINT_LINE,
+    START_CLERK, TIMER, USER_A_FREE, USER_CANCELS,
 };
 use crate::codec::{Carrier, Content};
 use crate::outcome::Kind;
@@ -35,11 +35,13 @@ fn samples() -> Vec<Vec<u8>> {
         with_choice(USER_A_FREE, identifier, 0),
         with_identifier(USER_CANCELS, identifier),
         with_choice(TIMER, identifier, 1),
+        with_identifier(FELL_AT_CLERK, identifier),
         to_line(&message),
         report(&[1, 2], true),
         look(&[1, 2]),
         with_choice(ACT, identifier, 1),
         with_identifier(GUARD_RUNS_OUT, identifier),
+        with_identifier(FELL_AT_LINE, identifier),
         write_entry(&message, 1, 20),
     ]
 }
@@ -109,7 +111,7 @@ pub fn scripts() -> Scripts {
     for entry in bad_choices() {
         add(&mut scripts, &entry, &[PRINT_CLERK, PRINT_LINE]);
     }
-    let unlisted = [0, 3, 4, 15, 22, 23, 31, 37, 38, 47, 49, 50, 63, 66, 80, 127, 128, 129, 144, 160, 176, 192, 255];
+    let unlisted = [0, 3, 4, 15, 23, 31, 38, 40, 41, 47, 49, 50, 63, 66, 80, 127, 128, 129, 144, 160, 176, 192, 255];
     for code in unlisted.iter() {
         add(&mut scripts, &[*code], &[PRINT_CLERK, PRINT_LINE]);
     }

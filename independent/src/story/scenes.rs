@@ -16,12 +16,14 @@ pub enum Event {
     Accept(Tag),
     Cancel(Tag),
     T2(Tag),
+    ClerkFell(Tag),
     ClerkHears,
     Busy(Digits),
     Free(Digits),
     Look(Digits),
     Alerted(Tag),
     Withdraw(Tag),
+    LineFell(Tag),
     LineHears,
     Stray(Tag),
     Records,
@@ -29,11 +31,11 @@ pub enum Event {
 }
 
 impl Event {
-    /// "The event's end is the clerk's for `ask`, `accept`, `cancel`, `T2` and
-    /// `clerk hears`, the line's for the others (`stray` too)."
+    /// "The event's end is the clerk's for `ask`, `accept`, `cancel`, `T2`,
+    /// `clerk fell` and `clerk hears`, the line's for the others (`stray` too)."
     pub fn end(self) -> End {
         match self {
-            Ask(_) | Accept(_) | Cancel(_) | T2(_) | ClerkHears => End::Clerk,
+            Ask(_) | Accept(_) | Cancel(_) | T2(_) | ClerkFell(_) | ClerkHears => End::Clerk,
             _ => End::Line,
         }
     }
@@ -41,7 +43,8 @@ impl Event {
     /// The tag of an input that has one; `stray` is no input.
     pub fn tag(self) -> Option<Tag> {
         match self {
-            Ask(tag) | Accept(tag) | Cancel(tag) | T2(tag) | Alerted(tag) | Withdraw(tag) => Some(tag),
+            Ask(tag) | Accept(tag) | Cancel(tag) | T2(tag) | ClerkFell(tag) => Some(tag),
+            Alerted(tag) | Withdraw(tag) | LineFell(tag) => Some(tag),
             _ => None,
         }
     }
@@ -95,14 +98,14 @@ impl Scene {
 
 /// "Before the first scene, four lines and an empty line".
 pub const BEFORE: [&str; 5] = [
-    "TOLLHERRING: THREE LESSONS IN FOUR SCENES",
+    "TOLLHERRING: THREE LESSONS IN FIVE SCENES",
     "A clerk finds a house's line busy and asks to be rung back. #34 is the request for a group of 34.",
     "A message is sent: o---...   It arrives: ...--->   No desk sent it: ...---?   Its carrier is in [ ].",
     "States, timers, notices and refusals are the desks' own. A scene says which messages it forges.",
     "",
 ];
 
-const NARRATION: [&str; 13] = [
+const NARRATION: [&str; 16] = [
     "* The house's line is busy. The clerk asks to be rung back, and says that it can keep the request.",
     "* The line clears, and the house rings back. But another caller is faster than the clerk.",
     "* Busy again. What has each end kept?",
@@ -116,6 +119,9 @@ const NARRATION: [&str; 13] = [
     "* A late reply for #12. Request #34 stands in Ringout, the very state that such a reply is for.",
     "* Two forged replies: one for a request that nobody made, and a second result for #34.",
     "* Nothing has touched #34: its call goes through.",
+    "* The connection falls while the request waits. The house's end sees it, the clerk's not yet.",
+    "* The line clears. The house rings back all the same, over a new connection.",
+    "* Now the clerk's end sees it too. User A accepts, and the call gets through.",
 ];
 
 /// Line N of the narration, from 1.
@@ -249,4 +255,24 @@ const STRAY_REPLY: Scene = Scene {
     ],
 };
 
-pub const SCENES: [Scene; 4] = [WENT_WRONG, GOES_NOW, CANCEL_MEETS_RING_BACK, STRAY_REPLY];
+/// The events of scene 5 up to the ring-back.
+const FALL_UP_TO_RING_BACK: &[Event] =
+    &[Records, Say(14), LineFell(34), Records, Say(15), Free("41180"), Look("41180"), ClerkHears];
+
+const FALL_TO_THE_END: &[Event] =
+    &[Say(16), ClerkFell(34), Accept(34), LineHears, Records, Alerted(34), ClerkHears, Records];
+
+const CONNECTION_FALLS: Scene = Scene {
+    title: "The connection falls",
+    preference: RETAIN,
+    house: House::Keeps,
+    opening: "Both ends keep a connection for the request, and it falls. Nobody cancels anything.",
+    prelude: &[Busy("41180"), Ask(34), LineHears, ClerkHears],
+    events: [FALL_UP_TO_RING_BACK, FALL_TO_THE_END],
+    lesson: [
+        "LESSON 1, ONCE MORE. A connection is not the request. What both ends have stored outlives it, and",
+        "whichever end sees the fall first, the other takes its messages.",
+    ],
+};
+
+pub const SCENES: [Scene; 5] = [WENT_WRONG, GOES_NOW, CANCEL_MEETS_RING_BACK, STRAY_REPLY, CONNECTION_FALLS];

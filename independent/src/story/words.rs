@@ -21,6 +21,7 @@ pub fn cause(event: Event) -> Option<String> {
         Event::Accept(_) => format!("{tag} User A accepts"),
         Event::Cancel(_) => format!("{tag} User A cancels"),
         Event::T2(_) => format!("{tag} T2 runs out"),
+        Event::ClerkFell(_) | Event::LineFell(_) => format!("{tag} the connection fell"),
         Event::Busy(line) => format!("line {line} is busy"),
         Event::Free(line) => format!("line {line} is free"),
         Event::Look(line) => format!("Look at line {line}"),
@@ -107,22 +108,24 @@ pub fn state(desks: &Session, end: End, identifier: &Identifier) -> &'static str
 }
 
 /// "A record is its tag, a blank, its state as above, and `, keep 1`,
-/// `, keep 0`, or `, keep -` where the choice is empty".
-fn record_text(identifier: &Identifier, state: &str, keep: Option<bool>) -> String {
+/// `, keep 0`, or `, keep -` where the choice is empty"; "A record that is
+/// marked "connection down" ends with `, down`".
+fn record_text(identifier: &Identifier, state: &str, keep: Option<bool>, down: bool) -> String {
     let keep = match keep {
         Some(true) => "1",
         Some(false) => "0",
         None => "-",
     };
-    format!("{} {state}, keep {keep}", tag_text(identifier))
+    let down = if down { ", down" } else { "" };
+    format!("{} {state}, keep {keep}{down}", tag_text(identifier))
 }
 
 pub fn clerk_record(record: &clerk::Record) -> String {
-    record_text(&record.identifier, record.state.name(), record.keep)
+    record_text(&record.identifier, record.state.name(), record.keep, record.down)
 }
 
 pub fn line_record(record: &line::Record) -> String {
-    record_text(&record.identifier, line_state(record), Some(record.keep))
+    record_text(&record.identifier, line_state(record), Some(record.keep), record.down)
 }
 
 #[cfg(test)]
@@ -146,6 +149,32 @@ mod tests {
         ];
         assert_eq!(of_step(Event::T2(7), &outcome, Some(("Ringout", "no record"))), expected);
         assert!(expected.iter().all(|word| word.len() <= 29));
+    }
+
+    #[test]
+    fn the_fall_is_told_alike_at_both_ends() {
+        let expected = ["#34 the connection fell", "  still Invoked"];
+        for (event, end) in [(Event::ClerkFell(34), End::Clerk), (Event::LineFell(34), End::Line)] {
+            assert_eq!(event.end(), end);
+            assert_eq!(of_step(event, &Outcome::done(), Some(("Invoked", "Invoked"))), expected);
+        }
+    }
+
+    #[test]
+    fn a_marked_record_ends_with_down() {
+        let text = |keep, down| record_text(&[34; 16], "Invoked", keep, down);
+        assert_eq!(text(Some(true), true), "#34 Invoked, keep 1, down");
+        assert_eq!(text(Some(true), false), "#34 Invoked, keep 1");
+        assert_eq!(text(Some(false), true), "#34 Invoked, keep 0, down");
+        assert_eq!(text(None, false), "#34 Invoked, keep -");
+    }
+
+    /// "W being document 01's words", and the tenth notice's.
+    #[test]
+    fn the_words_of_the_notices() {
+        let words = |notice| outcome_words(&Outcome::done().telling(notice));
+        assert_eq!(words(Notice::BusyAgainKept), ["notice \"busy again, kept\""]);
+        assert_eq!(words(Notice::NowWaitingForFree), ["notice \"busy again, now waiting for free\""]);
     }
 
     #[test]

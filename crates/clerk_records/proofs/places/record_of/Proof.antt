@@ -19,9 +19,12 @@ state-of-requires c κs = search needs
 shared-slice-read-t5 : tie.Need-shared-slice-read-t5
 shared-slice-read-t5 c = search needs
 
+shared-slice-read-t9 : tie.Need-shared-slice-read-t9
+shared-slice-read-t9 c = search needs
+
 returns : tie.Need-returns
 unfolding recordOf
-returns c = rw (c .before .before .before .terms-of .ensures, terms-at (now (c .before .before .before .before .before .args .row)) (omega arith), c .before .state-of .ensures)
+returns c = rw (c .before .before .before .before .terms-of .ensures, terms-at (now (c .before .before .before .before .before .before .args .row)) (omega arith), c .before .before .state-of .ensures)
 
 pub record-of-spec : {M : Type 1} → statement M
 record-of-spec =
@@ -31,4 +34,5 @@ record-of-spec =
     shared-slice-read-state-of
     state-of-requires
     shared-slice-read-t5
+    shared-slice-read-t9
     returns)

@@ -55,7 +55,7 @@ returns-7 : tie.Need-returns-7
 returns-7 c = rw (c .before .before .before .meant .given .1, c .enum-told6 .given .1)
 
 returns-8 : tie.Need-returns-8
-returns-8 c = search needs
+returns-8 c = rw (c .enum-told7 .given .1)
 
 pub settle-spec : {M : Type 1} → statement M
 settle-spec =

@@ -52,18 +52,23 @@ returns-16 : tie.Need-returns-16
 returns-16 c = rw (c .before .enum-told16 .given .1, c .cancels2 .ensures)
 
 returns-17 : tie.Need-returns-17
-returns-17 c = rw (c .before .enum-told17 .given .1, c .cancels3 .ensures)
+returns-17 c = rw (c .before .enum-told17 .given .1, c .falls .ensures)
 
 returns-18 : tie.Need-returns-18
-returns-18 c = rw (c .before .enum-told18 .given .1, c .cancels4 .ensures)
+returns-18 c = rw (c .before .enum-told18 .given .1, c .cancels3 .ensures)
 
 returns-19 : tie.Need-returns-19
-returns-19 c = rw (c .before .enum-told19 .given .1, c .cancels5 .ensures)
+returns-19 c = rw (c .before .enum-told19 .given .1, c .cancels4 .ensures)
+
+returns-20 : tie.Need-returns-20
+returns-20 c = rw (c .before .enum-told20 .given .1, c .cancels5 .ensures)
 
 pub rule-of-spec : {M : Type 1} → statement M
 rule-of-spec =
     tie.close
     (tie.spec
+    (λ c. search needs)
+    (λ c κs. search needs)
     (λ c. search needs)
     (λ c κs. search needs)
     (λ c. search needs)
@@ -120,4 +125,5 @@ rule-of-spec =
     returns-16
     returns-17
     returns-18
-    returns-19)
+    returns-19
+    returns-20)

@@ -1,4 +1,4 @@
--- A clerk's record, its marks 0.
+-- A clerk's record, its first two marks 0.
 use mathlib.Core.Path.{_∙_}
 use borrow.Author.Needs.{needs}
 use Rattle.host_numbers.proofs.shown.clerk_numbers.Statement.{statement}

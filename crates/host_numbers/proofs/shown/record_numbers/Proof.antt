@@ -21,8 +21,11 @@ flag-code-requires-2 c κs = search needs
 flag-code-requires-3 : tie.Need-flag-code-requires-3
 flag-code-requires-3 c κs = search needs
 
+flag-code-requires-4 : tie.Need-flag-code-requires-4
+flag-code-requires-4 c κs = search needs
+
 returns : tie.Need-returns
-returns c = rw (c .before .before .before .before .before .kind-code .ensures, c .before .before .before .before .flag-code .ensures, c .before .before .before .keep-code .ensures, c .before .before .connection-code .ensures, c .before .flag-code2 .ensures, c .flag-code3 .ensures)
+returns c = rw (c .before .before .before .before .before .before .kind-code .ensures, c .before .before .before .before .before .flag-code .ensures, c .before .before .before .before .keep-code .ensures, c .before .before .before .connection-code .ensures, c .before .before .flag-code2 .ensures, c .before .flag-code3 .ensures, c .flag-code4 .ensures)
 
 pub record-numbers-spec : {M : Type 1} → statement M
 record-numbers-spec =
@@ -34,4 +37,5 @@ record-numbers-spec =
     connection-code-requires
     flag-code-requires-2
     flag-code-requires-3
+    flag-code-requires-4
     returns)

@@ -10,7 +10,7 @@ holds-in-requires : tie.Need-holds-in-requires
 holds-in-requires c κs = search needs
 
 returns : tie.Need-returns
-returns c = rw (c .holds-in .ensures, c .before .home-of .ensures)
+returns c = rw (c .holds-in .ensures, c .before .before .home-of .ensures)
 
 pub holds-for-spec : {M : Type 1} → statement M
 holds-for-spec = tie.close (tie.spec home-of-requires holds-in-requires returns)

@@ -42,9 +42,9 @@ returns c =
     let r = start .r in
     let whole = over (termsWords (r .terms)) row in
     let front : put .put-terms .last .0 ≡ whole = put .put-terms .ensures ∙ terms-put (r .terms) row (omega arith) in
-    let more = turnedWords (record { kind = r .terms .kind; state = r .state; active = r .active; suspended = r .suspended }) in
+    let more = turnedWords (record { kind = r .terms .kind; state = r .state; active = r .active; suspended = r .suspended; down = r .down }) in
     over-next whole (put .put-terms .last .0) (turn .turn-words .last .0) (take kindAt (termsWords (r .terms))) more kindAt front (turn .turn-words .ensures) refl
-    ∙ ap (λ (rest : List ℕ). recordWords r ++ rest) (drop-drop 3 width row)
+    ∙ ap (λ (rest : List ℕ). recordWords r ++ rest) (drop-drop 4 width row)
 
 pub put-words-spec : {M : Type 1} → statement M
 put-words-spec =

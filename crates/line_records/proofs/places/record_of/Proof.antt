@@ -22,9 +22,12 @@ shared-slice-read-t5 c = search needs
 shared-slice-read-t9 : tie.Need-shared-slice-read-t9
 shared-slice-read-t9 c = search needs
 
+shared-slice-read-t12 : tie.Need-shared-slice-read-t12
+shared-slice-read-t12 c = search needs
+
 returns : tie.Need-returns
 unfolding recordOf
-returns c = rw (c .before .before .before .before .terms-of .ensures, terms-at (now (c .before .before .before .before .before .before .args .row)) (omega arith), c .before .before .state-of .ensures)
+returns c = rw (c .before .before .before .before .before .terms-of .ensures, terms-at (now (c .before .before .before .before .before .before .before .args .row)) (omega arith), c .before .before .before .state-of .ensures)
 
 pub record-of-spec : {M : Type 1} → statement M
 record-of-spec =
@@ -35,4 +38,5 @@ record-of-spec =
     state-of-requires
     shared-slice-read-t5
     shared-slice-read-t9
+    shared-slice-read-t12
     returns)

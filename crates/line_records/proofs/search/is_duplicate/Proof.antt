@@ -1,6 +1,7 @@
 -- The identifier or the numbers, then the state.
 use mathlib.Core.Path.{sym, ap, _∙_}
-use Rattle.line_table.specs.Search.{inUse, used}
+use Rattle.line_table.specs.Table.{inUse}
+use Rattle.line_table.specs.Search.{used}
 use Rattle.line_records.proofs.SearchLaws.{second-holds, second-fails}
 use denote.Ref.{now}
 use Rattle.line_records.specs.Records.{recordOf}

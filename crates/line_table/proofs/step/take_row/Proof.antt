@@ -7,14 +7,8 @@ use Rattle.line_table.proofs.step.take_row.Tie as tie
 effect-of-requires : tie.Need-effect-of-requires
 effect-of-requires c κs = search needs
 
-kind-after-requires : tie.Need-kind-after-requires
-kind-after-requires c κs = search needs
-
-marked-by-requires : tie.Need-marked-by-requires
-marked-by-requires c κs = search needs
-
-marked-by-requires-2 : tie.Need-marked-by-requires-2
-marked-by-requires-2 c κs = search needs
+sends-as-requires : tie.Need-sends-as-requires
+sends-as-requires c κs = search needs
 
 changed-to-requires : tie.Need-changed-to-requires
 changed-to-requires c κs = search needs
@@ -33,16 +27,14 @@ done-requires c κs = search needs
 
 returns : tie.Need-returns
 unfolding rowTaken
-returns c = rw (c .done .ensures, c .before .before .before .before .changed-to .ensures, c .before .before .before .sent-for .ensures, c .before .before .timers-stopped .ensures, c .before .no-timers .ensures, c .before .before .before .before .before .before .marked-by .ensures, c .before .before .before .before .before .marked-by2 .ensures, c .before .before .before .before .before .before .before .kind-after .ensures, c .before .before .before .before .before .before .before .before .before .before .effect-of .ensures)
+returns c = rw (c .done .ensures, c .before .before .before .before .changed-to .ensures, c .before .before .before .sent-for .ensures, c .before .before .timers-stopped .ensures, c .before .no-timers .ensures, c .before .before .before .before .before .sends-as .ensures, c .before .before .before .before .before .before .before .before .effect-of .ensures)
 
 pub take-row-spec : {M : Type 1} → statement M
 take-row-spec =
     tie.close
     (tie.spec
     effect-of-requires
-    kind-after-requires
-    marked-by-requires
-    marked-by-requires-2
+    sends-as-requires
     changed-to-requires
     sent-for-requires
     timers-stopped-requires

@@ -34,12 +34,17 @@ returns-10 : tie.Need-returns-10
 returns-10 c = rw (c .before .enum-told10 .given .1, c .ends5 .ensures)
 
 returns-11 : tie.Need-returns-11
-returns-11 c = rw (c .before .enum-told11 .given .1, c .ends6 .ensures)
+returns-11 c = rw (c .before .enum-told11 .given .1, c .falls .ensures)
+
+returns-12 : tie.Need-returns-12
+returns-12 c = rw (c .before .enum-told12 .given .1, c .ends6 .ensures)
 
 pub rule-of-spec : {M : Type 1} → statement M
 rule-of-spec =
     tie.close
     (tie.spec
+    (λ c. search needs)
+    (λ c κs. search needs)
     (λ c. search needs)
     (λ c κs. search needs)
     (λ c. search needs)
@@ -72,4 +77,5 @@ rule-of-spec =
     returns-8
     returns-9
     returns-10
-    returns-11)
+    returns-11
+    returns-12)

@@ -5,10 +5,10 @@ use Rattle.story.proofs.play.play_scene.Statement.{statement}
 use Rattle.story.proofs.play.play_scene.Tie as tie
 
 abbrev Inv-loop : tie.InvT-loop
-Inv-loop scene w₀ step₀ w step = step ≤ 100
+Inv-loop scene w₀ step₀ w step = step ≤ 120
 
 abbrev μ-loop : tie.MeasureT-loop
-μ-loop scene w₀ step₀ w step = 100 - step
+μ-loop scene w₀ step₀ w step = 120 - step
 
 open-scene-requires : tie.Need-open-scene-requires Inv-loop μ-loop
 open-scene-requires c κs = search needs
