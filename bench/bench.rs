@@ -22,6 +22,9 @@ mod library;
 #[path = "../independent/src/line.rs"]
 #[allow(dead_code)]
 mod line;
+#[path = "../independent/src/meant.rs"]
+#[allow(dead_code)]
+mod meant;
 #[path = "../independent/src/outcome.rs"]
 #[allow(dead_code)]
 mod outcome;
@@ -33,11 +36,11 @@ mod reference;
 #[path = "side.rs"]
 mod side;
 
-use cases::{identifier, line_number, Case};
+use cases::{at_place, line_number, name, Case};
 use side::{ClerkInput, Desk, LineInput, Number, Told, UNTOLD};
 use std::time::{Duration, Instant};
 
-/// The caller's buffer for what a step sends: more than the 53 bytes that any message takes.
+/// The caller's buffer for what a step sends: more than the 54 bytes that any message takes.
 const ROOM: usize = 64;
 /// Copies of the prepared desk that a pass goes through, each stepped once; they are made anew outside the clock.
 const COPIES: usize = 16;
@@ -150,10 +153,12 @@ fn run<A: Desk, B: Desk<Input = A::Input>>(mode: &str, what: &str, a: A, b: B, c
 fn main() {
     let mode = std::env::args().nth(1).unwrap_or_default();
     let lines: Vec<Number> = (0..16).map(line_number).collect();
-    // afterwards every record is cancelled: both desks must hold the same ones, in the same state
-    let cancels: Vec<ClerkInput> = (0..17).map(|n| ClerkInput::Act(identifier(n), 4)).collect();
+    // afterwards every record is cancelled, by its identifier, and those that have none by their place: both desks must hold the same ones, in the same state
+    let cancels: Vec<ClerkInput> =
+        (0..17).map(name).chain((0..17).map(|_| at_place(0))).map(|name| ClerkInput::Act(name, 4)).collect();
     let looks = (0..16).map(|n| LineInput::Look(line_number(n)));
-    let line_cancels: Vec<LineInput> = looks.chain((0..48).map(|n| LineInput::Act(identifier(n), 3))).collect();
+    let line_names = (0..48).map(name).chain((0..33).map(|_| at_place(0)));
+    let line_cancels: Vec<LineInput> = looks.chain(line_names.map(|name| LineInput::Act(name, 3))).collect();
     run(&mode, "codec", library::Held::default(), reference::Held::None, &cases::codec_cases(), &[]);
     run(&mode, "clerk", library::Clerk::start(), clerk::ClerkDesk::default(), &cases::clerk_cases(), &cancels);
     let desks = (library::Line::start(&lines, true, true), reference::line_desk(&lines, true, true));

@@ -1,29 +1,30 @@
 //! The library's side: the exports of include/tollherring.h, and desks that are the host's own words.
 
-use crate::side::{Ask, ClerkInput, CodecInput, Desk, Identifier, LineInput, Number, Told};
+use crate::side::{Ask, ClerkInput, CodecInput, Desk, Given, LineInput, Number, Told};
 
-const CLERK_WORDS: usize = 208;
-const LINE_WORDS: usize = 530;
+const CLERK_WORDS: usize = 224;
+const LINE_WORDS: usize = 562;
 type ClerkWords = [u64; CLERK_WORDS];
 type LineWords = [u64; LINE_WORDS];
 
 #[rustfmt::skip]
 extern "C" {
     fn tollherring_clerk_start(desk: &mut ClerkWords);
-    fn tollherring_clerk_ask(desk: &mut ClerkWords, identifier: &Identifier, kind: u64, number_a: &[u8; 16], number_b: &[u8; 16],
+    fn tollherring_clerk_ask(desk: &mut ClerkWords, identifier: &Given, kind: u64, number_a: &[u8; 16], number_b: &[u8; 16],
         service: u64, can_keep: u64, preference: u64, out: *mut u8, room: usize, told: &mut Told) -> u64;
-    fn tollherring_clerk_receive(desk: &mut ClerkWords, bytes: *const u8, length: usize, busy: u64, out: *mut u8, room: usize, told: &mut Told) -> u64;
-    fn tollherring_clerk_act(desk: &mut ClerkWords, identifier: &Identifier, act: u64, out: *mut u8, room: usize, told: &mut Told) -> u64;
-    fn tollherring_clerk_report(desk: &mut ClerkWords, identifier: &Identifier, timer: u64, out: *mut u8, room: usize, told: &mut Told) -> u64;
+    fn tollherring_clerk_receive(desk: &mut ClerkWords, place: u64, bytes: *const u8, length: usize, busy: u64, out: *mut u8, room: usize,
+        told: &mut Told) -> u64;
+    fn tollherring_clerk_act(desk: &mut ClerkWords, place: u64, identifier: &Given, act: u64, out: *mut u8, room: usize, told: &mut Told) -> u64;
+    fn tollherring_clerk_report(desk: &mut ClerkWords, place: u64, identifier: &Given, timer: u64, out: *mut u8, room: usize, told: &mut Told) -> u64;
     fn tollherring_line_start(desk: &mut LineWords, lines: *const u8, bytes: usize, keep: u64, retain: u64) -> u64;
-    fn tollherring_line_receive(desk: &mut LineWords, bytes: *const u8, length: usize, out: *mut u8, room: usize, told: &mut Told) -> u64;
+    fn tollherring_line_receive(desk: &mut LineWords, place: u64, bytes: *const u8, length: usize, out: *mut u8, room: usize, told: &mut Told) -> u64;
     fn tollherring_line_report(desk: &mut LineWords, number: &[u8; 16], busy: u64, out: *mut u8, room: usize, told: &mut Told) -> u64;
     fn tollherring_line_look(desk: &mut LineWords, number: &[u8; 16], out: *mut u8, room: usize, told: &mut Told) -> u64;
-    fn tollherring_line_act(desk: &mut LineWords, identifier: &Identifier, act: u64, out: *mut u8, room: usize, told: &mut Told) -> u64;
-    fn tollherring_line_guard(desk: &mut LineWords, identifier: &Identifier, out: *mut u8, room: usize, told: &mut Told) -> u64;
-    fn tollherring_message_read(bytes: *const u8, length: usize, identifier: &mut Identifier, number_a: &mut [u8; 16], number_b: &mut [u8; 16],
-        message: &mut [u64; 4], taken: &mut u64, place: &mut u64) -> u64;
-    fn tollherring_message_write(identifier: &Identifier, number_a: &[u8; 16], number_b: &[u8; 16], message: &[u64; 4],
+    fn tollherring_line_act(desk: &mut LineWords, place: u64, identifier: &Given, act: u64, out: *mut u8, room: usize, told: &mut Told) -> u64;
+    fn tollherring_line_guard(desk: &mut LineWords, place: u64, identifier: &Given, out: *mut u8, room: usize, told: &mut Told) -> u64;
+    fn tollherring_message_read(bytes: *const u8, length: usize, identifier: &mut Given, number_a: &mut [u8; 16], number_b: &mut [u8; 16],
+        message: &mut [u64; 4], taken: &mut u64, fault_at: &mut u64) -> u64;
+    fn tollherring_message_write(identifier: &Given, number_a: &[u8; 16], number_b: &[u8; 16], message: &[u64; 4],
         out: *mut u8, room: usize, place: usize, written: &mut u64) -> u64;
 }
 
@@ -36,7 +37,7 @@ pub struct Line(LineWords);
 /// A message in the header's form.
 #[derive(Clone, Default)]
 pub struct Held {
-    identifier: Identifier,
+    identifier: Given,
     number_a: [u8; 16],
     number_b: [u8; 16],
     message: [u64; 4],
@@ -80,9 +81,13 @@ impl Desk for Clerk {
         unsafe {
             match input {
                 ClerkInput::Ask(a) => ask(desk, a, out, told),
-                ClerkInput::Bytes(b, busy) => tollherring_clerk_receive(desk, b.as_ptr(), b.len(), *busy, to, room, told),
-                ClerkInput::Act(id, act) => tollherring_clerk_act(desk, id, *act, to, room, told),
-                ClerkInput::Timer(id, timer) => tollherring_clerk_report(desk, id, *timer, to, room, told),
+                ClerkInput::Bytes(b, place, busy) => {
+                    tollherring_clerk_receive(desk, *place as u64, b.as_ptr(), b.len(), *busy, to, room, told)
+                }
+                ClerkInput::Act(name, act) => tollherring_clerk_act(desk, name.own.place as u64, &name.given, *act, to, room, told),
+                ClerkInput::Timer(name, timer) => {
+                    tollherring_clerk_report(desk, name.own.place as u64, &name.given, *timer, to, room, told)
+                }
             }
         }
     }
@@ -96,11 +101,11 @@ impl Desk for Line {
         let (desk, to, room) = (&mut self.0, out.as_mut_ptr(), out.len());
         unsafe {
             match input {
-                LineInput::Bytes(b) => tollherring_line_receive(desk, b.as_ptr(), b.len(), to, room, told),
+                LineInput::Bytes(b, place) => tollherring_line_receive(desk, *place as u64, b.as_ptr(), b.len(), to, room, told),
                 LineInput::Report(n, busy) => tollherring_line_report(desk, &n.sixteen, *busy, to, room, told),
                 LineInput::Look(n) => tollherring_line_look(desk, &n.sixteen, to, room, told),
-                LineInput::Act(id, act) => tollherring_line_act(desk, id, *act, to, room, told),
-                LineInput::Guard(id) => tollherring_line_guard(desk, id, to, room, told),
+                LineInput::Act(name, act) => tollherring_line_act(desk, name.own.place as u64, &name.given, *act, to, room, told),
+                LineInput::Guard(name) => tollherring_line_guard(desk, name.own.place as u64, &name.given, to, room, told),
             }
         }
     }
@@ -112,7 +117,7 @@ impl Desk for Held {
     #[inline(always)]
     fn step(&mut self, input: &CodecInput, out: &mut [u8], told: &mut Told) -> u64 {
         let Held { identifier, number_a, number_b, message } = self;
-        let [_, written, taken, .., fault] = told;
+        let [_, written, taken, .., fault, _, _] = told;
         unsafe {
             match input {
                 CodecInput::Read(b) => tollherring_message_read(b.as_ptr(), b.len(), identifier, number_a, number_b, message, taken, fault),

@@ -1,12 +1,13 @@
 //! The independent program's side: its own reader, desks and writer, unchanged. Around each step stands only what makes the two comparable: a
-//! message is read from bytes, the message sent is written into the caller's buffer, and the outcome is told as the same nine numbers.
+//! message is read from bytes, the message sent is written into the caller's buffer, and the outcome is told as the same eleven numbers.
 //! Each is a function of its own that is not inlined, as the library's exports are, with a name that callgrind can be given.
 
 use crate::clerk::{ClerkDesk, FreeChoice, Timer};
 use crate::codec::{read_message, write_message, Fault, Message, Refusal};
 use crate::line::{Act, Line, LineDesk};
+use crate::meant::Name;
 use crate::outcome::{Notice, Outcome};
-use crate::side::{Ask, ClerkInput, CodecInput, Desk, Identifier, LineInput, Number, Told};
+use crate::side::{Ask, ClerkInput, CodecInput, Desk, LineInput, Number, Told};
 
 fn tell(outcome: &Outcome, next: usize, out: &mut [u8], told: &mut Told) -> u64 {
     let length = match &outcome.message {
@@ -19,18 +20,19 @@ fn tell(outcome: &Outcome, next: usize, out: &mut [u8], told: &mut Told) -> u64 
     let refusal = outcome.refusal.map_or(0, |r| u64::from(r.number()));
     let notice = outcome.notice.map_or(0, |n: Notice| u64::from(n.number()));
     let (starts, stops) = (u64::from(outcome.starts), u64::from(outcome.stops));
-    *told = [refusal, length as u64, next as u64, starts, stops, notice, u64::from(outcome.clear), 0, 0];
+    let (clear, placed, at) = (u64::from(outcome.clear), u64::from(outcome.at.is_some()), outcome.at.unwrap_or(0) as u64);
+    *told = [refusal, length as u64, next as u64, starts, stops, notice, clear, 0, 0, placed, at];
     refusal
 }
 
 fn refuse(refusal: Refusal, told: &mut Told) -> u64 {
-    *told = [u64::from(refusal.number()), 0, 0, 0, 0, 0, 0, 0, 0];
+    *told = [u64::from(refusal.number()), 0, 0, 0, 0, 0, 0, 0, 0, 0, 0];
     told[0]
 }
 
 /// Bytes that cannot be read, and the place of the fault.
 fn refuse_bytes(fault: Fault, told: &mut Told) -> u64 {
-    *told = [u64::from(fault.refusal.number()), 0, 0, 0, 0, 0, 0, 1, fault.place as u64];
+    *told = [u64::from(fault.refusal.number()), 0, 0, 0, 0, 0, 0, 1, fault.place as u64, 0, 0];
     told[0]
 }
 
@@ -42,16 +44,17 @@ pub fn independent_clerk_ask(desk: &mut ClerkDesk, ask: &Ask, out: &mut [u8], to
 
 #[inline(never)]
 #[no_mangle]
-pub fn independent_clerk_receive(desk: &mut ClerkDesk, bytes: &[u8], busy: u64, out: &mut [u8], told: &mut Told) -> u64 {
+#[rustfmt::skip]
+pub fn independent_clerk_receive(desk: &mut ClerkDesk, place: usize, bytes: &[u8], busy: u64, out: &mut [u8], told: &mut Told) -> u64 {
     match read_message(bytes) {
-        Ok((message, rest)) => tell(&desk.take(&message, busy == 1), bytes.len() - rest.len(), out, told),
+        Ok((message, rest)) => tell(&desk.take(&message, place, busy == 1), bytes.len() - rest.len(), out, told),
         Err(fault) => refuse_bytes(fault, told),
     }
 }
 
 #[inline(never)]
 #[no_mangle]
-pub fn independent_clerk_act(desk: &mut ClerkDesk, id: &Identifier, act: u64, out: &mut [u8], told: &mut Told) -> u64 {
+pub fn independent_clerk_act(desk: &mut ClerkDesk, id: &Name, act: u64, out: &mut [u8], told: &mut Told) -> u64 {
     let outcome = match act {
         1 => desk.accept(id),
         2 => desk.user_a_free(id, FreeChoice::Resume),
@@ -64,7 +67,7 @@ pub fn independent_clerk_act(desk: &mut ClerkDesk, id: &Identifier, act: u64, ou
 
 #[inline(never)]
 #[no_mangle]
-pub fn independent_clerk_report(desk: &mut ClerkDesk, id: &Identifier, timer: u64, out: &mut [u8], told: &mut Told) -> u64 {
+pub fn independent_clerk_report(desk: &mut ClerkDesk, id: &Name, timer: u64, out: &mut [u8], told: &mut Told) -> u64 {
     let which = match timer {
         1 => Timer::T1,
         2 => Timer::T2,
@@ -76,9 +79,9 @@ pub fn independent_clerk_report(desk: &mut ClerkDesk, id: &Identifier, timer: u6
 
 #[inline(never)]
 #[no_mangle]
-pub fn independent_line_receive(desk: &mut LineDesk, bytes: &[u8], out: &mut [u8], told: &mut Told) -> u64 {
+pub fn independent_line_receive(desk: &mut LineDesk, place: usize, bytes: &[u8], out: &mut [u8], told: &mut Told) -> u64 {
     match read_message(bytes) {
-        Ok((message, rest)) => tell(&desk.take(&message), bytes.len() - rest.len(), out, told),
+        Ok((message, rest)) => tell(&desk.take(&message, place), bytes.len() - rest.len(), out, told),
         Err(fault) => refuse_bytes(fault, told),
     }
 }
@@ -100,7 +103,7 @@ pub fn independent_line_look(desk: &mut LineDesk, digits: &[u8], out: &mut [u8],
 
 #[inline(never)]
 #[no_mangle]
-pub fn independent_line_act(desk: &mut LineDesk, id: &Identifier, act: u64, out: &mut [u8], told: &mut Told) -> u64 {
+pub fn independent_line_act(desk: &mut LineDesk, id: &Name, act: u64, out: &mut [u8], told: &mut Told) -> u64 {
     let what = match act {
         1 => Act::Alerted,
         2 => Act::CallFailed,
@@ -112,7 +115,7 @@ pub fn independent_line_act(desk: &mut LineDesk, id: &Identifier, act: u64, out:
 
 #[inline(never)]
 #[no_mangle]
-pub fn independent_line_guard(desk: &mut LineDesk, id: &Identifier, out: &mut [u8], told: &mut Told) -> u64 {
+pub fn independent_line_guard(desk: &mut LineDesk, id: &Name, out: &mut [u8], told: &mut Told) -> u64 {
     tell(&desk.guard_runs_out(id), 0, out, told)
 }
 
@@ -158,9 +161,9 @@ impl Desk for ClerkDesk {
     fn step(&mut self, input: &ClerkInput, out: &mut [u8], told: &mut Told) -> u64 {
         match input {
             ClerkInput::Ask(a) => independent_clerk_ask(self, a, out, told),
-            ClerkInput::Bytes(b, busy) => independent_clerk_receive(self, b, *busy, out, told),
-            ClerkInput::Act(id, act) => independent_clerk_act(self, id, *act, out, told),
-            ClerkInput::Timer(id, timer) => independent_clerk_report(self, id, *timer, out, told),
+            ClerkInput::Bytes(b, place, busy) => independent_clerk_receive(self, *place, b, *busy, out, told),
+            ClerkInput::Act(name, act) => independent_clerk_act(self, &name.own, *act, out, told),
+            ClerkInput::Timer(name, timer) => independent_clerk_report(self, &name.own, *timer, out, told),
         }
     }
 }
@@ -171,11 +174,11 @@ impl Desk for LineDesk {
     #[inline(always)]
     fn step(&mut self, input: &LineInput, out: &mut [u8], told: &mut Told) -> u64 {
         match input {
-            LineInput::Bytes(b) => independent_line_receive(self, b, out, told),
+            LineInput::Bytes(b, place) => independent_line_receive(self, *place, b, out, told),
             LineInput::Report(n, busy) => independent_line_report(self, &n.digits, *busy, out, told),
             LineInput::Look(n) => independent_line_look(self, &n.digits, out, told),
-            LineInput::Act(id, act) => independent_line_act(self, id, *act, out, told),
-            LineInput::Guard(id) => independent_line_guard(self, id, out, told),
+            LineInput::Act(name, act) => independent_line_act(self, &name.own, *act, out, told),
+            LineInput::Guard(name) => independent_line_guard(self, &name.own, out, told),
         }
     }
 }
@@ -188,7 +191,7 @@ impl Desk for Held {
 
     #[inline(always)]
     fn step(&mut self, input: &CodecInput, out: &mut [u8], told: &mut Told) -> u64 {
-        let [_, written, taken, .., fault] = told;
+        let [_, written, taken, .., fault, _, _] = told;
         match (input, self) {
             (CodecInput::Read(b), held) => independent_message_read(b, held, taken, fault),
             (CodecInput::Write(place), Some(message)) => independent_message_write(message, out, *place, written),

@@ -1,14 +1,42 @@
-//! What both sides are given and answer: the same bytes and numbers in, the same bytes and nine numbers out.
+//! What both sides are given and answer: the same bytes and numbers in, the same bytes and eleven numbers out.
 
 use crate::clerk;
+use crate::meant;
 
 pub type Identifier = [u8; 16];
 
-/// Refusal, bytes written, bytes read, timers started, timers stopped, notice, clear, whether bytes could not be read, and where: the library's outcome, in
-/// its order.
-pub type Told = [u64; 9];
+/// Refusal, bytes written, bytes read, timers started, timers stopped, notice, clear, whether bytes could not be read, and where, whether the step was about a
+/// record, and at which place: the library's outcome, in its order.
+pub type Told = [u64; 11];
 
-pub const UNTOLD: Told = [0; 9];
+pub const UNTOLD: Told = [0; 11];
+
+/// A place that no record has.
+pub const NO_PLACE: usize = usize::MAX;
+
+/// An identifier in the library's form: its length, 16 or 0, and sixteen bytes.
+pub type Given = [u8; 17];
+
+pub fn given(identifier: Option<Identifier>) -> Given {
+    let mut given = [0; 17];
+    if let Some(bytes) = identifier {
+        given[0] = 16;
+        given[1..].copy_from_slice(&bytes);
+    }
+    given
+}
+
+/// How a request is named, in the library's form and in the independent program's (`own`).
+pub struct Name {
+    pub given: Given,
+    pub own: meant::Name,
+}
+
+impl Name {
+    pub fn new(identifier: Option<Identifier>, place: usize) -> Name {
+        Name { given: given(identifier), own: meant::Name { identifier, place } }
+    }
+}
 
 /// A number of digits in both forms: sixteen bytes for the library, the digits alone for the independent program.
 pub struct Number {
@@ -27,7 +55,7 @@ impl Number {
 
 /// An ask in the library's form, and in the independent program's (`own`): each side is given its own form, made outside the measure.
 pub struct Ask {
-    pub identifier: Identifier,
+    pub identifier: Given,
     pub kind: u64,
     pub number_a: [u8; 16],
     pub number_b: [u8; 16],
@@ -37,19 +65,20 @@ pub struct Ask {
     pub own: clerk::Ask,
 }
 
+/// A message comes with the place that the host names.
 pub enum ClerkInput {
     Ask(Ask),
-    Bytes(Vec<u8>, u64),
-    Act(Identifier, u64),
-    Timer(Identifier, u64),
+    Bytes(Vec<u8>, usize, u64),
+    Act(Name, u64),
+    Timer(Name, u64),
 }
 
 pub enum LineInput {
-    Bytes(Vec<u8>),
+    Bytes(Vec<u8>, usize),
     Report(Number, u64),
     Look(Number),
-    Act(Identifier, u64),
-    Guard(Identifier),
+    Act(Name, u64),
+    Guard(Name),
 }
 
 /// The reader and the writer alone: bytes read into a message that is held, and that message written at a place.

@@ -8,7 +8,7 @@
  * A step has the same tail everywhere: `out`, `room` and `outcome`. What the step sends, the reply that goes with a refusal too, is written at the front
  * of `out` (TOLLHERRING_MESSAGE_MOST bytes are always enough); the bytes behind it stay as they were. `outcome` is written whole. The call answers the
  * refusal's number, or 0. After a refusal the desk is as it was, and the outcome has no timer, no notice and no word to clear a call: beside the number there
- * is perhaps a reply to be sent, and after receive `next`, or the place where the bytes went wrong. Two refusals are the call's own and leave `out` as it was
+ * is perhaps a reply to be sent, and after receive `next`, or where the bytes went wrong. Two refusals are the call's own and leave `out` as it was
  * too, and `outcome` then has the number and zeros: 2 for a number out of range, before anything else is looked at; and 12 where the message has no room, in
  * place of what would have been answered, so that the same input can be handed in again.
  *
@@ -28,11 +28,42 @@
 extern "C" {
 #endif
 
+/* ---- how a request and a line are named. An identifier and a number of digits are two types, and are passed by pointer: a compiler tells one that is given
+ * for the other (in C++, and in C by gcc 14 and clang 16, it is an error; older ones warn). */
+
+/* The CallIdentifier of the failed call: `length` 16 and its bytes. Length 0: there is none, and the bytes don't count; a struct of zeros says so. Any other
+ * length is refused with 2. */
+typedef struct tollherring_identifier {
+    uint8_t length; /* 16 or 0 */
+    uint8_t bytes[16];
+} tollherring_identifier;
+
+/* A number of digits: how many, then a byte 0 to 9 for each; what stands behind the last digit doesn't count. */
+typedef struct tollherring_number {
+    uint8_t length; /* 1 to 15; 0 for a numberA that is withheld */
+    uint8_t digits[15];
+} tollherring_number;
+
+/* A request without an identifier is named by a place: that of its record in its desk, from 0, in the order of storing. When a record ends, those behind it
+ * move forward by one. A place where no record stands names none; this one never has a record. */
+#define TOLLHERRING_NO_PLACE ((uint64_t)-1)
+
+/* Which record a message, an act or a report is about. Types 1 and 2 are about none: they make a record, and no place is looked at. All others:
+ *
+ *     a. it has an identifier, and a record has the same: that one. Its place is not looked at, nor are a message's numbers.
+ *     b. else, a message of type 5, 6, 9 or 10 in Setup: its numbers and service are matched. A record fits if not both have an identifier, numberB and service
+ *        are equal, and numberA is equal where neither is withheld. It is the oldest record that fits and is in a state that the message is for (5 Invoked,
+ *        6 and 9 Await, 10 any); 7 if some fit and none is, 6 if none fits. The named place is not looked at.
+ *     c. else, without an identifier: the record at the place that the host names with it, which may have an identifier; 6 if none stands there.
+ *     d. else 6.
+ *
+ * A host whose every message, act and report has an identifier gives TOLLHERRING_NO_PLACE throughout. docs/HOST.md tells how the others keep places. */
+
 /* ---- the desks: allocated by the host, and not looked into. Words of 64 bits, so that a desk may be copied, or kept in memory, as it is. A call has an answer on
  * any words; what it means for requests is known of a desk that was started. */
 
-#define TOLLHERRING_CLERK_WORDS 208
-#define TOLLHERRING_LINE_WORDS 530
+#define TOLLHERRING_CLERK_WORDS 224
+#define TOLLHERRING_LINE_WORDS 562
 
 typedef struct tollherring_clerk {
     uint64_t words[TOLLHERRING_CLERK_WORDS];
@@ -45,20 +76,23 @@ typedef struct tollherring_line {
 /* ---- what a step does */
 
 typedef struct tollherring_outcome {
-    uint64_t refusal; /* 0, or why nothing changed: TOLLHERRING_... below */
-    uint64_t length;  /* how many bytes of `out` are the message to be sent; 0: nothing is sent */
-    uint64_t next;    /* after receive: how many bytes were read; 0 where the bytes themselves were refused (1, 2), and on 12. Else 0 */
-    uint64_t starts;  /* timers to start: a sum of TOLLHERRING_T1, T2, T3, GUARD */
-    uint64_t stops;   /* timers to stop: the same, also the one that was just reported. No timer is in both. All are those of the one record that the step
-                         was about: the one whose identifier was given, was in the bytes received, or, after a Look, is in `out` */
-    uint64_t notice;  /* what to tell User A: TOLLHERRING_ACCEPTED and so on, 0 for nothing */
-    uint64_t clear;   /* 1: clear the call */
-    uint64_t unread;  /* 1: the bytes given to receive could not be read (1, 2), and `place` tells where they went wrong. Else 0, also on a 2 for a number that
-                         was given beside the bytes */
-    uint64_t place;   /* where `unread` is 1: an index, from 0, into the bytes that were given. It is the first byte of the faulty number, also where its second
-                         byte is the fault (80 80, 80 00) or its value is out of range, and a length of digits is such a number; the digit that is over 9; or,
-                         where the bytes end inside the message, their length. Else 0, which alone tells nothing: ask `unread`. A support desk that has the
-                         bytes, the refusal and the place need not count: what stands before the place was read without fault */
+    uint64_t refusal;    /* 0, or why nothing changed: TOLLHERRING_... below */
+    uint64_t length;     /* how many bytes of `out` are the message to be sent; 0: nothing is sent */
+    uint64_t next;       /* after receive: how many bytes were read; 0 where the bytes themselves were refused (1, 2), and on 12. Else 0 */
+    uint64_t starts;     /* timers to start: a sum of TOLLHERRING_T1, T2, T3, GUARD */
+    uint64_t stops;      /* timers to stop: the same, also the one that was just reported. No timer is in both. All are those of the one record that the step
+                            was about */
+    uint64_t notice;     /* what to tell User A: TOLLHERRING_ACCEPTED and so on, 0 for nothing */
+    uint64_t clear;      /* 1: clear the call */
+    uint64_t unread;     /* 1: the bytes given to receive could not be read (1, 2), and `fault_at` tells where they went wrong. Else 0, also on a 2 for a number
+                            that was given beside the bytes */
+    uint64_t fault_at;   /* where `unread` is 1: an index, from 0, into the bytes that were given. It is the first byte of the faulty number, also where its
+                            second byte is the fault (80 80, 80 00) or its value is out of range, and a length of digits or of an identifier is such a number;
+                            the digit that is over 9; or, where the bytes end inside the message, their length. Else 0, which alone tells nothing: ask `unread`.
+                            A support desk that has the bytes, the refusal and this need not count: what stands before it was read without fault */
+    uint64_t has_record; /* 1: the step was about a record, and `record_at` is its place. 0: it was refused, or was a denied request or a line report */
+    uint64_t record_at;  /* where `has_record` is 1: the place where the record stands now, or stood until this step ended it. Of an ask and of an accepted request
+                            it is where the record was stored, of a Look that of the one which was offered. Else 0, which alone tells nothing */
 } tollherring_outcome;
 
 /* timers, in `starts` and `stops` */
@@ -80,13 +114,14 @@ typedef struct tollherring_outcome {
 #define TOLLHERRING_BUSY_AGAIN_WAITING 10 /* busy again, now waiting for free: the request was CCNR, was kept and is CCBS from now on */
 
 /* refusals */
-#define TOLLHERRING_BYTES_END 1       /* bytes end inside a message: the place is their length; or a number is over two bytes or not shortest: it is less */
+#define TOLLHERRING_BYTES_END 1       /* bytes end inside a message: `fault_at` is their length; or a number is over two bytes or not shortest: it is less */
 #define TOLLHERRING_OUT_OF_RANGE 2    /* a field or a number given is out of range */
 #define TOLLHERRING_OTHER_END 3       /* the message type isn't for this end */
 #define TOLLHERRING_LIVE 4            /* an ask uses an identifier that is live at this desk */
 #define TOLLHERRING_FULL 5            /* the clerk's desk is full: 16 records */
-#define TOLLHERRING_NO_RECORD 6       /* no record with that identifier */
-#define TOLLHERRING_NO_ROW 7          /* the record's state has no row for this input; so for "the connection fell", of an RLS record or before the acknowledgment */
+#define TOLLHERRING_NO_RECORD 6       /* no record with that identifier, that fits, or at that place */
+#define TOLLHERRING_NO_ROW 7          /* the record's state has no row for this input, or records fit and none is in a state that the message is for; so for
+                                         "the connection fell", of an RLS record or before the acknowledgment */
 #define TOLLHERRING_CARRIER 8         /* carrier not allowed for this type and record: the table below */
 #define TOLLHERRING_NOT_RUNNING 9     /* that timer isn't running, or is T2 in Ringout, where it is not heeded */
 #define TOLLHERRING_NO_LINE 10        /* no such line */
@@ -95,15 +130,17 @@ typedef struct tollherring_outcome {
 
 /* ---- messages are bytes, in a form of Tollherring's own (a host that talks to other makers' ends translates from and to H.450.9's APDUs):
  *
- *     type, carrier, the identifier's 16 bytes, and then the fields of the type:
- *     1, 2     numberA, numberB, service, flags         flags are can-keep (0, 1) + 2 * preference (0, 1, 2)
- *     3        keep (0, 1)
- *     4        TOLLHERRING_SHORT or TOLLHERRING_LONG
- *     7        TOLLHERRING_REMOTE_USER_BUSY_AGAIN or TOLLHERRING_FAILURE_TO_MATCH
+ *     type, carrier, the identifier's length (16, or 0: it has none), its bytes, and then the fields of the type:
+ *     1, 2                     numberA, numberB, service, flags     flags are can-keep (0, 1) + 2 * preference (0, 1, 2)
+ *     5, 6, 9, 10 in Setup     numberA, numberB, service            those of the record that it is sent for. In another carrier they have no field
+ *     3                        keep (0, 1)
+ *     4                        TOLLHERRING_SHORT or TOLLHERRING_LONG
+ *     7                        TOLLHERRING_REMOTE_USER_BUSY_AGAIN or TOLLHERRING_FAILURE_TO_MATCH
  *
  * A number is one byte up to 127, and else two: the lowest seven bits with the top bit set, then the rest (300 is AC 02). A number of digits is how many
- * there are, then a byte 0 to 9 for each. What a host needs of a message that it sends: out[0] is its type, out[1] the carrier that it goes in, and the 16
- * bytes from out + 2 on are the identifier of the request, which tells where it goes.
+ * there are, then a byte 0 to 9 for each. What a host needs of a message that it sends: out[0] is its type, out[1] the carrier that it goes in, and where
+ * out[2] is 16 the 16 bytes from out + 3 on are the identifier of the request; with or without one, `record_at` of the outcome tells which record it is of.
+ * (The reply to a refused message is of none: it goes back where the message came from.)
  *
  * The kinds of request are CCBS, Completion of Calls to Busy Subscribers, and CCNR, Completion of Calls on No Reply. The line desk chooses for each request
  * that it stores, and for its life, between RET, signalling connection retained, and RLS, signalling connection released. A RET record whose connection fell
@@ -127,8 +164,8 @@ typedef struct tollherring_outcome {
  *     12 call failed                clerk  Release Complete
  */
 
-#define TOLLHERRING_MESSAGE_LEAST 18
-#define TOLLHERRING_MESSAGE_MOST 53
+#define TOLLHERRING_MESSAGE_LEAST 3
+#define TOLLHERRING_MESSAGE_MOST 54
 
 /* the first byte */
 #define TOLLHERRING_CCBS_REQUEST 1
@@ -157,9 +194,6 @@ typedef struct tollherring_outcome {
 #define TOLLHERRING_REMOTE_USER_BUSY_AGAIN 1
 #define TOLLHERRING_FAILURE_TO_MATCH 2
 
-/* ---- an identifier is 16 bytes, the CallIdentifier of the failed call. A number of digits is 16 bytes too: how many digits (1 to 15; 0 for a numberA
- * that is withheld), then one byte 0 to 9 for each digit; what stands behind the last digit doesn't count. */
-
 /* ---- the clerk's desk (User A's end) */
 
 /* kinds and preferences of an ask: retain asks for RET, release for RLS */
@@ -184,30 +218,31 @@ typedef struct tollherring_outcome {
 /* An empty desk. */
 void tollherring_clerk_start(tollherring_clerk *desk);
 
-/* User A asks to be rung back. `service`, 0 to 16383, is the service of the failed call as both ends number it; it is carried and compared with nothing.
- * can_keep, 0 or 1: whether this end can keep a request that meets a busy line again; it is kept if both ends say so. The preference goes before the
- * line desk's default. Refusals 2, 4, 5, 12. */
-uint64_t tollherring_clerk_ask(tollherring_clerk *desk, const uint8_t identifier[16], uint64_t kind, const uint8_t number_a[16],
-                               const uint8_t number_b[16], uint64_t service, uint64_t can_keep, uint64_t preference, uint8_t *out, size_t room,
+/* User A asks to be rung back. `service`, 0 to 16383, is the service of the failed call as both ends number it; it is carried, and compared where a message
+ * is matched to a record. can_keep, 0 or 1: whether this end can keep a request that meets a busy line again; it is kept if both ends say so. The preference
+ * goes before the line desk's default. Refusals 2, 4 (only with an identifier), 5, 12. */
+uint64_t tollherring_clerk_ask(tollherring_clerk *desk, const tollherring_identifier *identifier, uint64_t kind, const tollherring_number *number_a,
+                               const tollherring_number *number_b, uint64_t service, uint64_t can_keep, uint64_t preference, uint8_t *out, size_t room,
                                tollherring_outcome *outcome);
 
-/* Bytes reach this end; user_a_busy 0 or 1. One message is read, from the front. Refusals 1, 2, 3, 6, 7, 8, 12; a 1, and a 2 of the bytes, have a place. */
-uint64_t tollherring_clerk_receive(tollherring_clerk *desk, const uint8_t *bytes, size_t length, uint64_t user_a_busy, uint8_t *out, size_t room,
-                                   tollherring_outcome *outcome);
+/* Bytes reach this end; `place`: of the record that a message without an identifier is about, as the host knows it, or TOLLHERRING_NO_PLACE; user_a_busy 0
+ * or 1. One message is read, from the front. Refusals 1, 2, 3, 6, 7, 8, 12; a 1, and a 2 of the bytes, are `unread`. */
+uint64_t tollherring_clerk_receive(tollherring_clerk *desk, uint64_t place, const uint8_t *bytes, size_t length, uint64_t user_a_busy, uint8_t *out,
+                                   size_t room, tollherring_outcome *outcome);
 
-/* An act at this end. Refusals 2, 6, 7, 12. */
-uint64_t tollherring_clerk_act(tollherring_clerk *desk, const uint8_t identifier[16], uint64_t act, uint8_t *out, size_t room,
+/* An act at this end, on the record with this identifier, or where that has length 0 on the one at this place. Refusals 2, 6, 7, 12. */
+uint64_t tollherring_clerk_act(tollherring_clerk *desk, uint64_t place, const tollherring_identifier *identifier, uint64_t act, uint8_t *out, size_t room,
                                tollherring_outcome *outcome);
 
-/* A timer ran out. Refusals 2, 6, 9, 12. */
-uint64_t tollherring_clerk_report(tollherring_clerk *desk, const uint8_t identifier[16], uint64_t timer, uint8_t *out, size_t room,
-                                  tollherring_outcome *outcome);
+/* A timer ran out, of the record that is so named. Refusals 2, 6, 9, 12. */
+uint64_t tollherring_clerk_report(tollherring_clerk *desk, uint64_t place, const tollherring_identifier *identifier, uint64_t timer, uint8_t *out,
+                                  size_t room, tollherring_outcome *outcome);
 
 /* ---- the line desk (User B's end) */
 
 /* a line as it is given to start: its number, and the kinds that it allows, 1 CCBS + 2 CCNR */
 typedef struct tollherring_line_given {
-    uint8_t number[16];
+    tollherring_number number;
     uint8_t kinds;
 } tollherring_line_given;
 
@@ -223,23 +258,24 @@ typedef struct tollherring_line_given {
  * size that ends inside a line, bad digits or kinds, and one number twice: then no desk is made, and the memory is as it was. */
 uint64_t tollherring_line_start(tollherring_line *desk, const tollherring_line_given *lines, size_t size, uint64_t keep, uint64_t retain);
 
-/* Bytes reach this end. One message is read, from the front. Refusals 1, 2, 3, 6, 7, 8, 12; 1 and 2 have a place. */
-uint64_t tollherring_line_receive(tollherring_line *desk, const uint8_t *bytes, size_t length, uint8_t *out, size_t room,
+/* Bytes reach this end; `place` as at the clerk's. One message is read, from the front. Refusals 1, 2, 3, 6, 7, 8, 12; 1 and 2 are `unread`. */
+uint64_t tollherring_line_receive(tollherring_line *desk, uint64_t place, const uint8_t *bytes, size_t length, uint8_t *out, size_t room,
                                   tollherring_outcome *outcome);
 
 /* A line is busy (1) or free (0). It is about no request and sends nothing. Refusals 2, 10. */
-uint64_t tollherring_line_report(tollherring_line *desk, const uint8_t number[16], uint64_t busy, uint8_t *out, size_t room,
+uint64_t tollherring_line_report(tollherring_line *desk, const tollherring_number *number, uint64_t busy, uint8_t *out, size_t room,
                                  tollherring_outcome *outcome);
 
 /* A Look at a line. Refusals 10, 11, 12. */
-uint64_t tollherring_line_look(tollherring_line *desk, const uint8_t number[16], uint8_t *out, size_t room, tollherring_outcome *outcome);
+uint64_t tollherring_line_look(tollherring_line *desk, const tollherring_number *number, uint8_t *out, size_t room, tollherring_outcome *outcome);
 
-/* An act at this end. Refusals 2, 6, 7, 12. */
-uint64_t tollherring_line_act(tollherring_line *desk, const uint8_t identifier[16], uint64_t act, uint8_t *out, size_t room,
+/* An act at this end, on the record with this identifier, or where that has length 0 on the one at this place. Refusals 2, 6, 7, 12. */
+uint64_t tollherring_line_act(tollherring_line *desk, uint64_t place, const tollherring_identifier *identifier, uint64_t act, uint8_t *out, size_t room,
                               tollherring_outcome *outcome);
 
-/* The guard of a record ran out. Refusals 6, 12. */
-uint64_t tollherring_line_guard(tollherring_line *desk, const uint8_t identifier[16], uint8_t *out, size_t room, tollherring_outcome *outcome);
+/* The guard ran out, of the record that is so named. Refusals 2 (the identifier's length), 6, 12. */
+uint64_t tollherring_line_guard(tollherring_line *desk, uint64_t place, const tollherring_identifier *identifier, uint8_t *out, size_t room,
+                                tollherring_outcome *outcome);
 
 /* ---- looking at a desk: the records of the clerk's desk in the order of storing, those of the line desk in the order of acceptance, from place 0 on without
  * gaps, so that the first place without one ends the list. A record that goes moves those behind it one place forward. */
@@ -278,32 +314,33 @@ typedef struct tollherring_line_status {
     uint64_t busy;  /* 0 or 1 */
 } tollherring_line_status;
 
-/* The record at a place: 0; or 6 for a place that has none, and then nothing is written. */
-uint64_t tollherring_clerk_record(const tollherring_clerk *desk, uint64_t place, uint8_t identifier[16], uint8_t number_a[16], uint8_t number_b[16],
-                                  tollherring_record *record);
-uint64_t tollherring_line_record(const tollherring_line *desk, uint64_t place, uint8_t identifier[16], uint8_t number_a[16], uint8_t number_b[16],
-                                 tollherring_record *record);
+/* The record at a place: 0; or 6 for a place that has none, and then nothing is written. Of a record without an identifier seventeen zeros are written:
+ * its length is 0. */
+uint64_t tollherring_clerk_record(const tollherring_clerk *desk, uint64_t place, tollherring_identifier *identifier, tollherring_number *number_a,
+                                  tollherring_number *number_b, tollherring_record *record);
+uint64_t tollherring_line_record(const tollherring_line *desk, uint64_t place, tollherring_identifier *identifier, tollherring_number *number_a,
+                                 tollherring_number *number_b, tollherring_record *record);
 
 /* The line at a place, in the order in which they were given to start: 0; or 10 for a place that has none, and then nothing is written. */
-uint64_t tollherring_line_at(const tollherring_line *desk, uint64_t place, uint8_t number[16], tollherring_line_status *status);
+uint64_t tollherring_line_at(const tollherring_line *desk, uint64_t place, tollherring_number *number, tollherring_line_status *status);
 
 /* ---- messages as such, for logs and for those that a host hands in by itself: the desks take and give bytes */
 
 typedef struct tollherring_message {
     uint64_t type;
     uint64_t carrier;
-    uint64_t service; /* types 1 and 2; else 0 */
+    uint64_t service; /* types 1 and 2, and 5, 6, 9 and 10 in Setup; else 0 */
     uint64_t field;   /* types 1 and 2: flags, can-keep + 2 * preference; 3: keep; 4 and 7: the error; else 0 */
 } tollherring_message;
 
-/* One message from the front of some bytes; how many bytes it takes. Types 3 to 12 have no numbers of digits: sixteen zeros are written. Refusals 1, 2, and
- * then the place of the fault is written, as an outcome has it, and nothing else; where a message is read, `place` is left as it was. */
-uint64_t tollherring_message_read(const uint8_t *bytes, size_t length, uint8_t identifier[16], uint8_t number_a[16], uint8_t number_b[16],
-                                  tollherring_message *message, uint64_t *taken, uint64_t *place);
+/* One message from the front of some bytes; how many bytes it takes. Of an identifier that it doesn't have seventeen zeros are written, of numbers of digits
+ * sixteen each. Refusals 1, 2, and then `fault_at` is written, as an outcome has it, and nothing else; where a message is read, that is left as it was. */
+uint64_t tollherring_message_read(const uint8_t *bytes, size_t length, tollherring_identifier *identifier, tollherring_number *number_a,
+                                  tollherring_number *number_b, tollherring_message *message, uint64_t *taken, uint64_t *fault_at);
 
-/* A message at a place of a buffer of `room` bytes; how many bytes it takes. What its type has no field for is not looked at. Refusals 2, 12, and then nothing
- * is written. */
-uint64_t tollherring_message_write(const uint8_t identifier[16], const uint8_t number_a[16], const uint8_t number_b[16],
+/* A message at a place of a buffer of `room` bytes; how many bytes it takes. What its type, in its carrier, has no field for is not looked at. Refusals 2,
+ * 12, and then nothing is written. */
+uint64_t tollherring_message_write(const tollherring_identifier *identifier, const tollherring_number *number_a, const tollherring_number *number_b,
                                    const tollherring_message *message, uint8_t *out, size_t room, size_t place, uint64_t *written);
 
 #ifdef __cplusplus

@@ -16,7 +16,7 @@
 //! let mut desk = ClerkDesk::start();
 //! let mut out = [0; MESSAGE_MOST];
 //! let ask = Ask { kind: Kind::Ccbs, service: 0, can_keep: true, preference: Preference::None };
-//! let outcome = desk.ask(&call, &Number::of_text("5550123")?, &Number::of_text("41180")?, &ask, &mut out);
+//! let outcome = desk.ask(Some(call), &Number::of_text("5550123")?, &Number::of_text("41180")?, &ask, &mut out);
 //! if let (Some(message), Some(carrier)) = (outcome.message, outcome.carrier()) { send(carrier, message) }
 //! ```
 #![allow(dead_code)] // a host need not use all of it
@@ -24,15 +24,24 @@
 use core::fmt;
 
 /// The least and the most bytes that a message takes.
-pub const MESSAGE_LEAST: usize = 18;
-pub const MESSAGE_MOST: usize = 53;
+pub const MESSAGE_LEAST: usize = 3;
+pub const MESSAGE_MOST: usize = 54;
 
 /// How many words of 64 bits each desk takes.
-pub const CLERK_WORDS: usize = 208;
-pub const LINE_WORDS: usize = 530;
+pub const CLERK_WORDS: usize = 224;
+pub const LINE_WORDS: usize = 562;
 
-/// The CallIdentifier of the failed call: any 16 bytes.
-pub type Identifier = [u8; 16];
+/// The CallIdentifier of the failed call: any 16 bytes. A request, or a message, may have none.
+#[derive(Clone, Copy, PartialEq, Eq, Debug)]
+pub struct Identifier(pub [u8; 16]);
+
+/// How a host names a request: by its identifier, or, where it has none, by the place of its record in the desk, from 0, in the order of storing. When a record
+/// ends, those behind it move forward by one. A place where no record stands names none. (A record that has an identifier may be named by its place too.)
+#[derive(Clone, Copy, PartialEq, Eq, Debug)]
+pub enum Name {
+    Identifier(Identifier),
+    Place(usize),
+}
 
 /// A list of named numbers, as the papers number them: `number` gives it, `from_number` takes those that are listed.
 macro_rules! numbered {
@@ -59,7 +68,7 @@ macro_rules! numbered {
 numbered! {
     /// Why nothing changed.
     Refusal {
-        /// Bytes end inside a message: the place is their length. Or a number is over two bytes or not shortest: it is less.
+        /// Bytes end inside a message: the fault is at their length. Or a number is over two bytes or not shortest: it is before.
         BytesEnd = 1,
         /// A field or a number given is out of range.
         OutOfRange = 2,
@@ -69,9 +78,10 @@ numbered! {
         Live = 4,
         /// The clerk's desk is full: 16 records.
         Full = 5,
-        /// No record with that identifier.
+        /// No record with that identifier, that fits, or at that place.
         NoRecord = 6,
-        /// The record's state has no row for this input; so for "the connection fell", of an RLS record or before the acknowledgment.
+        /// The record's state has no row for this input, or records fit and none is in a state that the message is for; so for "the connection fell", of an RLS
+        /// record or before the acknowledgment.
         NoRow = 7,
         /// Carrier not allowed for this type and record: include/tollherring.h has the table.
         Carrier = 8,
@@ -304,7 +314,7 @@ impl Timers {
 }
 
 /// What a step does. The host sends the message, stops and starts timers, tells the notice and clears the call. A refusal has no timer, notice or word to
-/// clear the call, only perhaps a message, the reply, and after `receive` perhaps a `next` or a `place`. Every step has an outcome, whatever the desk holds: any
+/// clear the call, only perhaps a message, the reply, and after `receive` perhaps a `next` or a `fault_at`. Every step has an outcome, whatever the desk holds: any
 /// words are a desk, garbage too, though here they come from `start` alone.
 #[derive(Clone, Copy, PartialEq, Eq, Debug)]
 #[must_use = "what a step sends, the reply to a refused message too, is sent by the host"]
@@ -321,10 +331,13 @@ pub struct Outcome<'o> {
     /// Clear the call.
     pub clear: bool,
     /// Where the bytes given to `receive` could not be read (refusals 1 and 2), the place of the fault: an index into them. It is the first byte of the faulty
-    /// number, also where its second byte is the fault (80 80, 80 00) or its value is out of range, and a length of digits is such a number; the digit that is
-    /// over 9; or, where the bytes end inside the message, their length. A support desk that has the bytes, the refusal and the place need not count: what
-    /// stands before the place was read without fault. None in every other outcome.
-    pub place: Option<usize>,
+    /// number, also where its second byte is the fault (80 80, 80 00) or its value is out of range, and a length of digits or of an identifier is such a number;
+    /// the digit that is over 9; or, where the bytes end inside the message, their length. A support desk that has the bytes, the refusal and the place need
+    /// not count: what stands before the place was read without fault. None in every other outcome.
+    pub fault_at: Option<usize>,
+    /// The place of the record that the step was about: where it stands now, or stood until this step ended it. Of an ask and of an accepted request it is where the
+    /// record was stored, of a Look that of the one which was offered. None where the step was refused, or was a denied request or a line report.
+    pub record_at: Option<usize>,
 }
 
 impl Outcome<'_> {
@@ -342,9 +355,9 @@ impl Outcome<'_> {
         MessageType::from_number(u64::from(self.message?[0]))
     }
 
-    /// The request that the message is of: after a Look, this tells which was offered.
+    /// The identifier of the request that the message is of, where it has one.
     pub fn identifier(&self) -> Option<Identifier> {
-        core::convert::TryFrom::try_from(self.message?.get(2..18)?).ok()
+        Message::read(self.message?).ok()?.0.identifier
     }
 }
 
@@ -360,7 +373,7 @@ pub struct Ask {
 /// A request as the clerk's desk holds it. Keep and connection are chosen by the acknowledgment.
 #[derive(Clone, Copy, PartialEq, Eq, Debug)]
 pub struct ClerkRecord {
-    pub identifier: Identifier,
+    pub identifier: Option<Identifier>,
     pub kind: Kind,
     pub number_a: Number,
     pub number_b: Number,
@@ -376,7 +389,7 @@ pub struct ClerkRecord {
 /// A request as the line desk holds it.
 #[derive(Clone, Copy, PartialEq, Eq, Debug)]
 pub struct LineRecord {
-    pub identifier: Identifier,
+    pub identifier: Option<Identifier>,
     pub kind: Kind,
     pub number_a: Number,
     pub number_b: Number,
@@ -431,10 +444,10 @@ impl ClerkDesk {
         desk
     }
 
-    /// User A asks to be rung back. Refusals 2, 4, 5, 12.
+    /// User A asks to be rung back. Refusals 2, 4 (only with an identifier), 5, 12.
     pub fn ask<'o>(
         &mut self,
-        identifier: &Identifier,
+        identifier: Option<Identifier>,
         number_a: &Number,
         number_b: &Number,
         ask: &Ask,
@@ -457,7 +470,7 @@ impl ClerkDesk {
     #[allow(clippy::too_many_arguments)]
     pub fn ask_numbers<'o>(
         &mut self,
-        identifier: &Identifier,
+        identifier: Option<Identifier>,
         kind: u64,
         number_a: &Number,
         number_b: &Number,
@@ -466,29 +479,52 @@ impl ClerkDesk {
         preference: u64,
         out: &'o mut [u8],
     ) -> Outcome<'o> {
+        let identifier = RawIdentifier::of(identifier);
         told(out, |out, room, raw| unsafe {
             tollherring_clerk_ask(
-                self, identifier, kind, number_a, number_b, service, can_keep, preference, out, room, raw,
+                self,
+                &identifier,
+                kind,
+                number_a,
+                number_b,
+                service,
+                can_keep,
+                preference,
+                out,
+                room,
+                raw,
             )
         })
     }
 
-    /// Bytes reach this end. One message is read, from the front. Refusals 1, 2, 3, 6, 7, 8, 12; 1 and 2 have a place.
-    pub fn receive<'o>(&mut self, bytes: &[u8], user_a_busy: bool, out: &'o mut [u8]) -> Outcome<'o> {
+    /// Bytes reach this end; `place`: of the record that a message without an identifier is about, as the host knows it. One message is read, from the front.
+    /// Refusals 1, 2, 3, 6, 7, 8, 12; 1 and 2 have a `fault_at`.
+    pub fn receive<'o>(
+        &mut self,
+        place: Option<usize>,
+        bytes: &[u8],
+        user_a_busy: bool,
+        out: &'o mut [u8],
+    ) -> Outcome<'o> {
+        let (place, busy) = (named(place), u64::from(user_a_busy));
         told(out, |out, room, raw| unsafe {
-            tollherring_clerk_receive(self, bytes.as_ptr(), bytes.len(), u64::from(user_a_busy), out, room, raw)
+            tollherring_clerk_receive(self, place, bytes.as_ptr(), bytes.len(), busy, out, room, raw)
         })
     }
 
     /// An act at this end. Refusals 6, 7, 12.
-    pub fn act<'o>(&mut self, identifier: &Identifier, act: Act, out: &'o mut [u8]) -> Outcome<'o> {
-        told(out, |out, room, raw| unsafe { tollherring_clerk_act(self, identifier, act.number(), out, room, raw) })
+    pub fn act<'o>(&mut self, name: Name, act: Act, out: &'o mut [u8]) -> Outcome<'o> {
+        let (place, identifier) = name.parts();
+        told(out, |out, room, raw| unsafe {
+            tollherring_clerk_act(self, place, &identifier, act.number(), out, room, raw)
+        })
     }
 
     /// A timer ran out. Refusals 6, 9, 12.
-    pub fn report<'o>(&mut self, identifier: &Identifier, timer: Timer, out: &'o mut [u8]) -> Outcome<'o> {
+    pub fn report<'o>(&mut self, name: Name, timer: Timer, out: &'o mut [u8]) -> Outcome<'o> {
+        let (place, identifier) = name.parts();
         told(out, |out, room, raw| unsafe {
-            tollherring_clerk_report(self, identifier, timer.number(), out, room, raw)
+            tollherring_clerk_report(self, place, &identifier, timer.number(), out, room, raw)
         })
     }
 
@@ -546,10 +582,11 @@ impl LineDesk {
         refused(refusal).map_or(Ok(desk), Err)
     }
 
-    /// Bytes reach this end. One message is read, from the front. Refusals 1, 2, 3, 6, 7, 8, 12; 1 and 2 have a place.
-    pub fn receive<'o>(&mut self, bytes: &[u8], out: &'o mut [u8]) -> Outcome<'o> {
+    /// Bytes reach this end; `place` as at the clerk's. One message is read, from the front. Refusals 1, 2, 3, 6, 7, 8, 12; 1 and 2 have a `fault_at`.
+    pub fn receive<'o>(&mut self, place: Option<usize>, bytes: &[u8], out: &'o mut [u8]) -> Outcome<'o> {
+        let place = named(place);
         told(out, |out, room, raw| unsafe {
-            tollherring_line_receive(self, bytes.as_ptr(), bytes.len(), out, room, raw)
+            tollherring_line_receive(self, place, bytes.as_ptr(), bytes.len(), out, room, raw)
         })
     }
 
@@ -566,13 +603,17 @@ impl LineDesk {
     }
 
     /// An act at this end. Refusals 6, 7, 12.
-    pub fn act<'o>(&mut self, identifier: &Identifier, act: LineAct, out: &'o mut [u8]) -> Outcome<'o> {
-        told(out, |out, room, raw| unsafe { tollherring_line_act(self, identifier, act.number(), out, room, raw) })
+    pub fn act<'o>(&mut self, name: Name, act: LineAct, out: &'o mut [u8]) -> Outcome<'o> {
+        let (place, identifier) = name.parts();
+        told(out, |out, room, raw| unsafe {
+            tollherring_line_act(self, place, &identifier, act.number(), out, room, raw)
+        })
     }
 
     /// The guard of a record ran out. Refusals 6, 12.
-    pub fn guard<'o>(&mut self, identifier: &Identifier, out: &'o mut [u8]) -> Outcome<'o> {
-        told(out, |out, room, raw| unsafe { tollherring_line_guard(self, identifier, out, room, raw) })
+    pub fn guard<'o>(&mut self, name: Name, out: &'o mut [u8]) -> Outcome<'o> {
+        let (place, identifier) = name.parts();
+        told(out, |out, room, raw| unsafe { tollherring_line_guard(self, place, &identifier, out, room, raw) })
     }
 
     /// The record at a place, in the order of acceptance.
@@ -617,31 +658,33 @@ impl LineDesk {
 }
 
 /// A message as such, for logs and for those that a host hands in by itself: the desks take and give bytes. Types 1 and 2 have the two numbers, a service, and flags
-/// (can-keep + 2 * preference) as their field; the field of type 3 is keep, of 4 and 7 the error. What a type doesn't have is read as 0 and not looked at when written.
+/// (can-keep + 2 * preference) as their field; 5, 6, 9 and 10 in Setup the two numbers and a service; the field of type 3 is keep, of 4 and 7 the error. What a
+/// type, in its carrier, doesn't have is read as 0 and not looked at when written.
 #[derive(Clone, Copy, PartialEq, Eq, Debug)]
 pub struct Message {
     pub message_type: MessageType,
     pub carrier: Carrier,
-    pub identifier: Identifier,
+    pub identifier: Option<Identifier>,
     pub number_a: Number,
     pub number_b: Number,
     pub service: u64,
     pub field: u64,
 }
 
-/// Why bytes cannot be read as a message, 1 or 2, and where: the place is an index into them, as in [`Outcome::place`].
+/// Why bytes cannot be read as a message, 1 or 2, and where: `at` is an index into them, as in [`Outcome::fault_at`].
 #[derive(Clone, Copy, PartialEq, Eq, Debug)]
 pub struct Fault {
     pub refusal: Refusal,
-    pub place: usize,
+    pub at: usize,
 }
 
 impl Message {
     /// One message from the front of some bytes, and the bytes that follow it. Refusals 1, 2, each with the place of the fault.
     pub fn read(bytes: &[u8]) -> Result<(Message, &[u8]), Fault> {
-        let (mut identifier, mut number_a, mut number_b) = ([0; 16], Number::WITHHELD, Number::WITHHELD);
+        let (mut identifier, mut number_a, mut number_b) =
+            (RawIdentifier::of(None), Number::WITHHELD, Number::WITHHELD);
         let mut raw = RawMessage { message_type: 0, carrier: 0, service: 0, field: 0 };
-        let (mut taken, mut place) = (0, 0);
+        let (mut taken, mut fault_at) = (0, 0);
         let refusal = unsafe {
             tollherring_message_read(
                 bytes.as_ptr(),
@@ -651,16 +694,16 @@ impl Message {
                 &mut number_b,
                 &mut raw,
                 &mut taken,
-                &mut place,
+                &mut fault_at,
             )
         };
         if let Some(refusal) = refused(refusal) {
-            return Err(Fault { refusal, place: place as usize });
+            return Err(Fault { refusal, at: fault_at as usize });
         }
         let message = Message {
             message_type: known(MessageType::from_number(raw.message_type)),
             carrier: known(Carrier::from_number(raw.carrier)),
-            identifier,
+            identifier: identifier.told(),
             number_a,
             number_b,
             service: raw.service,
@@ -679,17 +722,9 @@ impl Message {
         };
         let mut written = 0;
         let (room, out) = (out.len(), out.as_mut_ptr());
+        let identifier = RawIdentifier::of(self.identifier);
         let refusal = unsafe {
-            tollherring_message_write(
-                &self.identifier,
-                &self.number_a,
-                &self.number_b,
-                &raw,
-                out,
-                room,
-                place,
-                &mut written,
-            )
+            tollherring_message_write(&identifier, &self.number_a, &self.number_b, &raw, out, room, place, &mut written)
         };
         refused(refusal).map_or(Ok(written as usize), Err)
     }
@@ -697,6 +732,40 @@ impl Message {
 
 // ---- what lies under it: the functions of include/tollherring.h. They keep no pointer, and touch what they are lent and nothing else; the references and
 // slices of the functions above are what they ask for.
+
+/// An identifier as it crosses: length 16 and its bytes, or length 0.
+#[repr(C)]
+struct RawIdentifier {
+    length: u8,
+    bytes: [u8; 16],
+}
+
+impl RawIdentifier {
+    fn of(identifier: Option<Identifier>) -> RawIdentifier {
+        identifier.map_or(RawIdentifier { length: 0, bytes: [0; 16] }, |own| RawIdentifier { length: 16, bytes: own.0 })
+    }
+
+    fn told(&self) -> Option<Identifier> {
+        if self.length == 0 {
+            return None;
+        }
+        Some(Identifier(self.bytes))
+    }
+}
+
+/// A place as it crosses: one that never has a record where the host names none.
+fn named(place: Option<usize>) -> u64 {
+    place.map_or(u64::MAX, |place| place as u64)
+}
+
+impl Name {
+    fn parts(self) -> (u64, RawIdentifier) {
+        match self {
+            Name::Identifier(identifier) => (named(None), RawIdentifier::of(Some(identifier))),
+            Name::Place(place) => (place as u64, RawIdentifier::of(None)),
+        }
+    }
+}
 
 #[repr(C)]
 struct RawOutcome {
@@ -708,7 +777,9 @@ struct RawOutcome {
     notice: u64,
     clear: u64,
     unread: u64,
-    place: u64,
+    fault_at: u64,
+    has_record: u64,
+    record_at: u64,
 }
 
 #[repr(C)]
@@ -742,36 +813,41 @@ struct RawMessage {
 #[link(name = "tollherring", kind = "static")]
 extern "C" {
     fn tollherring_clerk_start(desk: &mut ClerkDesk);
-    fn tollherring_clerk_ask(desk: &mut ClerkDesk, identifier: &Identifier, kind: u64, number_a: &Number, number_b: &Number, service: u64,
+    fn tollherring_clerk_ask(desk: &mut ClerkDesk, identifier: &RawIdentifier, kind: u64, number_a: &Number, number_b: &Number, service: u64,
         can_keep: u64, preference: u64, out: *mut u8, room: usize, outcome: &mut RawOutcome) -> u64;
-    fn tollherring_clerk_receive(desk: &mut ClerkDesk, bytes: *const u8, length: usize, user_a_busy: u64, out: *mut u8, room: usize,
+    fn tollherring_clerk_receive(desk: &mut ClerkDesk, place: u64, bytes: *const u8, length: usize, user_a_busy: u64, out: *mut u8, room: usize,
         outcome: &mut RawOutcome) -> u64;
-    fn tollherring_clerk_act(desk: &mut ClerkDesk, identifier: &Identifier, act: u64, out: *mut u8, room: usize, outcome: &mut RawOutcome) -> u64;
-    fn tollherring_clerk_report(desk: &mut ClerkDesk, identifier: &Identifier, timer: u64, out: *mut u8, room: usize, outcome: &mut RawOutcome) -> u64;
-    fn tollherring_clerk_record(desk: &ClerkDesk, place: u64, identifier: &mut Identifier, number_a: &mut Number, number_b: &mut Number,
+    fn tollherring_clerk_act(desk: &mut ClerkDesk, place: u64, identifier: &RawIdentifier, act: u64, out: *mut u8, room: usize,
+        outcome: &mut RawOutcome) -> u64;
+    fn tollherring_clerk_report(desk: &mut ClerkDesk, place: u64, identifier: &RawIdentifier, timer: u64, out: *mut u8, room: usize,
+        outcome: &mut RawOutcome) -> u64;
+    fn tollherring_clerk_record(desk: &ClerkDesk, place: u64, identifier: &mut RawIdentifier, number_a: &mut Number, number_b: &mut Number,
         record: &mut RawRecord) -> u64;
 
     fn tollherring_line_start(desk: &mut LineDesk, lines: *const LineGiven, bytes: usize, keep: u64, retain: u64) -> u64;
-    fn tollherring_line_receive(desk: &mut LineDesk, bytes: *const u8, length: usize, out: *mut u8, room: usize, outcome: &mut RawOutcome) -> u64;
+    fn tollherring_line_receive(desk: &mut LineDesk, place: u64, bytes: *const u8, length: usize, out: *mut u8, room: usize,
+        outcome: &mut RawOutcome) -> u64;
     fn tollherring_line_report(desk: &mut LineDesk, number: &Number, busy: u64, out: *mut u8, room: usize, outcome: &mut RawOutcome) -> u64;
     fn tollherring_line_look(desk: &mut LineDesk, number: &Number, out: *mut u8, room: usize, outcome: &mut RawOutcome) -> u64;
-    fn tollherring_line_act(desk: &mut LineDesk, identifier: &Identifier, act: u64, out: *mut u8, room: usize, outcome: &mut RawOutcome) -> u64;
-    fn tollherring_line_guard(desk: &mut LineDesk, identifier: &Identifier, out: *mut u8, room: usize, outcome: &mut RawOutcome) -> u64;
-    fn tollherring_line_record(desk: &LineDesk, place: u64, identifier: &mut Identifier, number_a: &mut Number, number_b: &mut Number,
+    fn tollherring_line_act(desk: &mut LineDesk, place: u64, identifier: &RawIdentifier, act: u64, out: *mut u8, room: usize,
+        outcome: &mut RawOutcome) -> u64;
+    fn tollherring_line_guard(desk: &mut LineDesk, place: u64, identifier: &RawIdentifier, out: *mut u8, room: usize, outcome: &mut RawOutcome) -> u64;
+    fn tollherring_line_record(desk: &LineDesk, place: u64, identifier: &mut RawIdentifier, number_a: &mut Number, number_b: &mut Number,
         record: &mut RawRecord) -> u64;
     fn tollherring_line_at(desk: &LineDesk, place: u64, number: &mut Number, status: &mut RawStatus) -> u64;
 
-    fn tollherring_message_read(bytes: *const u8, length: usize, identifier: &mut Identifier, number_a: &mut Number, number_b: &mut Number,
-        message: &mut RawMessage, taken: &mut u64, place: &mut u64) -> u64;
-    fn tollherring_message_write(identifier: &Identifier, number_a: &Number, number_b: &Number, message: &RawMessage, out: *mut u8, room: usize,
+    fn tollherring_message_read(bytes: *const u8, length: usize, identifier: &mut RawIdentifier, number_a: &mut Number, number_b: &mut Number,
+        message: &mut RawMessage, taken: &mut u64, fault_at: &mut u64) -> u64;
+    fn tollherring_message_write(identifier: &RawIdentifier, number_a: &Number, number_b: &Number, message: &RawMessage, out: *mut u8, room: usize,
         place: usize, written: &mut u64) -> u64;
 }
 
 // The layout that the archive was made for. A struct made of numbered fields has to lie in memory as these numbers in their order.
 const _: () = {
     use core::mem::{align_of, size_of, transmute};
-    assert!(size_of::<ClerkDesk>() == 1664 && align_of::<ClerkDesk>() == 8);
-    assert!(size_of::<LineDesk>() == 4240 && align_of::<LineDesk>() == 8);
+    assert!(size_of::<ClerkDesk>() == 1792 && align_of::<ClerkDesk>() == 8);
+    assert!(size_of::<LineDesk>() == 4496 && align_of::<LineDesk>() == 8);
+    assert!(size_of::<RawIdentifier>() == 17 && align_of::<RawIdentifier>() == 1);
     assert!(size_of::<LineGiven>() == 17 && align_of::<LineGiven>() == 1);
     assert!(size_of::<Number>() == 16 && size_of::<usize>() == 8 && align_of::<u64>() == 8);
     const fn in_order<const N: usize>(words: [u64; N]) {
@@ -783,7 +859,7 @@ const _: () = {
     }
     // whole words in, whole words out: transmute holds the sizes against each other, and there is no value that a word cannot have
     unsafe {
-        in_order(transmute::<RawOutcome, [u64; 9]>(RawOutcome {
+        in_order(transmute::<RawOutcome, [u64; 11]>(RawOutcome {
             refusal: 0,
             length: 1,
             next: 2,
@@ -792,7 +868,9 @@ const _: () = {
             notice: 5,
             clear: 6,
             unread: 7,
-            place: 8,
+            fault_at: 8,
+            has_record: 9,
+            record_at: 10,
         }));
         in_order(transmute::<RawRecord, [u64; 9]>(RawRecord {
             kind: 0,
@@ -809,6 +887,8 @@ const _: () = {
         in_order(transmute::<RawMessage, [u64; 4]>(RawMessage { message_type: 0, carrier: 1, service: 2, field: 3 }));
         let line = transmute::<LineGiven, [u8; 17]>(LineGiven { number: Number([1; 16]), kinds: 2 });
         assert!(line[0] == 1 && line[15] == 1 && line[16] == 2);
+        let identifier = transmute::<RawIdentifier, [u8; 17]>(RawIdentifier { length: 2, bytes: [1; 16] });
+        assert!(identifier[0] == 2 && identifier[1] == 1 && identifier[16] == 1);
     }
 };
 
@@ -826,8 +906,19 @@ fn refused(number: u64) -> Option<Refusal> {
 
 /// A call with its tail, `out`, `room` and `outcome`, and the outcome as Rust has it.
 fn told(out: &mut [u8], call: impl FnOnce(*mut u8, usize, &mut RawOutcome) -> u64) -> Outcome<'_> {
-    let mut raw =
-        RawOutcome { refusal: 0, length: 0, next: 0, starts: 0, stops: 0, notice: 0, clear: 0, unread: 0, place: 0 };
+    let mut raw = RawOutcome {
+        refusal: 0,
+        length: 0,
+        next: 0,
+        starts: 0,
+        stops: 0,
+        notice: 0,
+        clear: 0,
+        unread: 0,
+        fault_at: 0,
+        has_record: 0,
+        record_at: 0,
+    };
     let refusal = call(out.as_mut_ptr(), out.len(), &mut raw);
     let message = &out[..raw.length as usize];
     Outcome {
@@ -838,15 +929,16 @@ fn told(out: &mut [u8], call: impl FnOnce(*mut u8, usize, &mut RawOutcome) -> u6
         stops: Timers(raw.stops),
         notice: if raw.notice == 0 { None } else { Some(known(Notice::from_number(raw.notice))) },
         clear: raw.clear == 1,
-        place: if raw.unread == 0 { None } else { Some(raw.place as usize) },
+        fault_at: if raw.unread == 0 { None } else { Some(raw.fault_at as usize) },
+        record_at: if raw.has_record == 0 { None } else { Some(raw.record_at as usize) },
     }
 }
 
 /// A record's parts, or nothing where the place has none.
 fn looked(
-    call: impl FnOnce(&mut Identifier, &mut Number, &mut Number, &mut RawRecord) -> u64,
-) -> Option<(Identifier, Number, Number, RawRecord)> {
-    let (mut identifier, mut number_a, mut number_b) = ([0; 16], Number::WITHHELD, Number::WITHHELD);
+    call: impl FnOnce(&mut RawIdentifier, &mut Number, &mut Number, &mut RawRecord) -> u64,
+) -> Option<(Option<Identifier>, Number, Number, RawRecord)> {
+    let (mut identifier, mut number_a, mut number_b) = (RawIdentifier::of(None), Number::WITHHELD, Number::WITHHELD);
     let mut raw = RawRecord {
         kind: 0,
         service: 0,
@@ -861,5 +953,5 @@ fn looked(
     if call(&mut identifier, &mut number_a, &mut number_b, &mut raw) != 0 {
         return None;
     }
-    Some((identifier, number_a, number_b, raw))
+    Some((identifier.told(), number_a, number_b, raw))
 }

@@ -1,9 +1,10 @@
 //! The clerk's desk: User A's endpoint.
 
 use crate::codec::{
-    good_digits, good_number_a, in_range, Carrier, Content, Identifier, Message, Refusal, RequestFields,
+    good_digits, good_number_a, in_range, Carrier, Content, Elements, Identifier, Message, Refusal, RequestFields,
     LARGEST_SERVICE, REMOTE_USER_BUSY_AGAIN, SHORT,
 };
+use crate::meant::{place_of, record_meant, record_named, Held, Name};
 use crate::outcome::{message, Connection, Kind, Notice, Outcome, T1, T2, T3};
 
 /// "The clerk's desk is User A's endpoint and holds at most 16 records."
@@ -91,7 +92,7 @@ pub enum FreeChoice {
 /// An ask as the host makes it, in range or not.
 #[derive(Clone, PartialEq, Eq, Debug)]
 pub struct Ask {
-    pub identifier: Identifier,
+    pub identifier: Option<Identifier>,
     pub kind: Kind,
     pub number_a: Vec<u8>,
     pub number_b: Vec<u8>,
@@ -104,7 +105,7 @@ pub struct Ask {
 /// connection choices are empty until the acknowledgment".
 #[derive(Clone, PartialEq, Eq, Debug)]
 pub struct Record {
-    pub identifier: Identifier,
+    pub identifier: Option<Identifier>,
     pub kind: Kind,
     pub number_a: Vec<u8>,
     pub number_b: Vec<u8>,
@@ -214,9 +215,27 @@ fn reply_to(refused: &Message, refusal: Refusal) -> Option<Message> {
     replies.then(|| message(Carrier::ReleaseComplete, refused.identifier, Content::CcCancel))
 }
 
+impl Held for Record {
+    fn identifier(&self) -> Option<Identifier> {
+        self.identifier
+    }
+
+    fn elements(&self) -> Elements {
+        let (number_a, number_b) = (self.number_a.clone(), self.number_b.clone());
+        Elements { number_a, number_b, service: self.service }
+    }
+
+    /// "For 5 that is Invoked, RET or RLS; .. for 10 any state": the rows.
+    fn is_in_state_for(&self, content: &Content) -> bool {
+        has_row(self.state, content)
+    }
+}
+
 impl Record {
+    /// Request 1: "What a record sends has the record's identifier or none, and in
+    /// Setup (5, 6, 9, 10) the record's elements, numberA as it is held."
     fn sends(&self, carrier: Carrier, content: Content) -> Message {
-        message(carrier, self.identifier, content)
+        message(carrier, self.identifier, content).with_elements(&self.elements())
     }
 
     /// The choice whose carriers the record sends by; none before the
@@ -291,17 +310,14 @@ impl Record {
 }
 
 impl ClerkDesk {
-    pub fn place_of(&self, identifier: &Identifier) -> Option<usize> {
-        self.records.iter().position(|r| r.identifier == *identifier)
-    }
-
     /// "Ask: 2, 4, 5." READINGS 8: "It tests no duplicate numbers. A live
-    /// identifier at a full desk is 4."
+    /// identifier at a full desk is 4." Request 1: "An ask without an identifier
+    /// is never 4."
     pub fn ask(&mut self, ask: &Ask) -> Outcome {
         if !ask_in_range(ask) {
             return Outcome::refused(Refusal::OutOfRange);
         }
-        if self.place_of(&ask.identifier).is_some() {
+        if ask.identifier.is_some_and(|identifier| place_of(&self.records, &identifier).is_some()) {
             return Outcome::refused(Refusal::IdentifierLive);
         }
         if self.records.len() >= MOST_RECORDS {
@@ -309,18 +325,18 @@ impl ClerkDesk {
         }
         // "Ask: send type 1 or 2, start T1, Wait-Ack."
         self.records.push(record_of(ask));
-        Outcome::done().sending(request_of(ask)).starting(T1)
+        Outcome::done().sending(request_of(ask)).starting(T1).about(self.records.len() - 1)
     }
 
     /// "Messages: 2, 3, 6, 7, 8"; all return the number and change nothing.
-    fn judge(&self, message: &Message) -> Result<usize, Refusal> {
+    fn judge(&self, message: &Message, place: usize) -> Result<usize, Refusal> {
         if !in_range(message) {
             return Err(Refusal::OutOfRange);
         }
         if !is_for_clerk(&message.content) {
             return Err(Refusal::NotForThisEnd);
         }
-        let place = self.place_of(&message.identifier).ok_or(Refusal::NoRecord)?;
+        let place = record_meant(&self.records, message, place)?;
         let record = self.records.get(place).ok_or(Refusal::NoRecord)?;
         // READINGS 10: "7 before 8."
         if !has_row(record.state, &message.content) {
@@ -333,10 +349,12 @@ impl ClerkDesk {
     }
 
     /// READINGS 14: "The host's word on User A comes with every message at the
-    /// clerk's desk and matters only for ccExecPossible in Invoked."
-    pub fn take(&mut self, message: &Message, user_a_busy: bool) -> Outcome {
-        match self.judge(message) {
-            Ok(place) => self.step(place, message, user_a_busy),
+    /// clerk's desk and matters only for ccExecPossible in Invoked." Request 1: so
+    /// does the place that the host names, and it matters only where the message
+    /// has no identifier and is none of types 5 and 10 in Setup.
+    pub fn take(&mut self, message: &Message, place: usize, user_a_busy: bool) -> Outcome {
+        match self.judge(message, place) {
+            Ok(place) => self.step(place, message, user_a_busy).about(place),
             Err(refusal) => {
                 let mut outcome = Outcome::refused(refusal);
                 outcome.message = reply_to(message, refusal);
@@ -409,268 +427,82 @@ impl ClerkDesk {
         }
     }
 
-    /// "Accept in Wait-Answer: stop T3, send ccRingout, Ringout." Acts: 6, 7.
-    pub fn accept(&mut self, identifier: &Identifier) -> Outcome {
-        let Some(record) = self.records.iter_mut().find(|r| r.identifier == *identifier) else {
-            return Outcome::refused(Refusal::NoRecord);
-        };
-        if record.state != State::WaitAnswer {
-            return Outcome::refused(Refusal::NoRow);
+    /// An act or a timer report: 6, or the step on the record that is named.
+    fn on_named(&mut self, name: &Name, step: impl FnOnce(&mut ClerkDesk, usize) -> Outcome) -> Outcome {
+        match record_named(&self.records, name) {
+            Ok(place) => step(self, place).about(place),
+            Err(refusal) => Outcome::refused(refusal),
         }
-        record.state = State::Ringout;
-        let ringout = record.sends(Carrier::Setup, Content::CcRingout);
-        Outcome::done().stopping(T3).sending(ringout)
+    }
+
+    /// The same for a step that ends no record.
+    fn on_record(&mut self, name: &Name, step: impl FnOnce(&mut Record) -> Outcome) -> Outcome {
+        self.on_named(name, |desk, place| match desk.records.get_mut(place) {
+            Some(record) => step(record),
+            None => Outcome::refused(Refusal::NoRecord),
+        })
+    }
+
+    /// "Accept in Wait-Answer: stop T3, send ccRingout, Ringout." Acts: 6, 7.
+    pub fn accept(&mut self, name: &Name) -> Outcome {
+        self.on_record(name, |record| {
+            if record.state != State::WaitAnswer {
+                return Outcome::refused(Refusal::NoRow);
+            }
+            record.state = State::Ringout;
+            let ringout = record.sends(Carrier::Setup, Content::CcRingout);
+            Outcome::done().stopping(T3).sending(ringout)
+        })
     }
 
     /// "User A free in Suspended, as the host chooses: send ccResume, Invoked;
     /// or start T3, Wait-Answer, "recall"." Acts: 6, 7.
-    pub fn user_a_free(&mut self, identifier: &Identifier, choice: FreeChoice) -> Outcome {
-        let Some(record) = self.records.iter_mut().find(|r| r.identifier == *identifier) else {
-            return Outcome::refused(Refusal::NoRecord);
-        };
-        if record.state != State::Suspended {
-            return Outcome::refused(Refusal::NoRow);
-        }
-        match choice {
+    pub fn user_a_free(&mut self, name: &Name, choice: FreeChoice) -> Outcome {
+        self.on_record(name, |record| match choice {
+            _ if record.state != State::Suspended => Outcome::refused(Refusal::NoRow),
             FreeChoice::Recall => record.recall(),
             FreeChoice::Resume => {
                 record.state = State::Invoked;
                 Outcome::done().sending(record.sends_resume())
             }
-        }
+        })
     }
 
     /// "User's cancel in any state: send ccCancel, delete, "cancelled". .. In
     /// Ringout the host is also told to clear the call." Acts: 6, 7.
-    pub fn user_cancels(&mut self, identifier: &Identifier) -> Outcome {
-        let Some(place) = self.place_of(identifier) else {
-            return Outcome::refused(Refusal::NoRecord);
-        };
-        let clear = self.rings_out(place);
-        self.cancel_record(place).telling(Notice::Cancelled).clearing(clear)
+    pub fn user_cancels(&mut self, name: &Name) -> Outcome {
+        self.on_named(name, |desk, place| {
+            let clear = desk.rings_out(place);
+            desk.cancel_record(place).telling(Notice::Cancelled).clearing(clear)
+        })
     }
 
     /// Request 11: "An act at each desk, by identifier: refusals 6, then 7
     /// (Wait-Ack, or a record that is RLS). Taken in every other state; the
     /// state stays, no timer, no message, no notice; on a marked record taken,
     /// and nothing changes."
-    pub fn connection_fell(&mut self, identifier: &Identifier) -> Outcome {
-        let Some(record) = self.records.iter_mut().find(|r| r.identifier == *identifier) else {
-            return Outcome::refused(Refusal::NoRecord);
-        };
-        if record.connection != Some(Connection::Ret) {
-            return Outcome::refused(Refusal::NoRow);
-        }
-        record.down = true;
-        Outcome::done()
+    pub fn connection_fell(&mut self, name: &Name) -> Outcome {
+        self.on_record(name, |record| {
+            if record.connection != Some(Connection::Ret) {
+                return Outcome::refused(Refusal::NoRow);
+            }
+            record.down = true;
+            Outcome::done()
+        })
     }
 
     /// "T1, T2 or T3 running out: the same, "failed"." Timers: 6, 9. M1 leaves
     /// no timer that is taken in Ringout, so no clear-the-call word either.
-    pub fn timer_runs_out(&mut self, identifier: &Identifier, timer: Timer) -> Outcome {
-        let Some(place) = self.place_of(identifier) else {
-            return Outcome::refused(Refusal::NoRecord);
-        };
-        let taken = self.records.get(place).is_some_and(|r| timer.taken_in(r.state));
-        if !taken {
-            return Outcome::refused(Refusal::TimerNotRunning);
-        }
-        self.cancel_record(place).telling(Notice::Failed)
+    pub fn timer_runs_out(&mut self, name: &Name, timer: Timer) -> Outcome {
+        self.on_named(name, |desk, place| {
+            let taken = desk.records.get(place).is_some_and(|r| timer.taken_in(r.state));
+            if !taken {
+                return Outcome::refused(Refusal::TimerNotRunning);
+            }
+            desk.cancel_record(place).telling(Notice::Failed)
+        })
     }
 }
 
 #[cfg(test)]
-mod tests {
-    use super::*;
-
-    const ID: Identifier = [5; 16];
-
-    fn an_ask(identifier: Identifier, can_keep: bool) -> Ask {
-        Ask {
-            identifier,
-            kind: Kind::Ccbs,
-            number_a: vec![1, 2],
-            number_b: vec![3],
-            service: 9,
-            can_keep,
-            preference: 0,
-        }
-    }
-
-    fn invoked(carrier: Carrier, can_keep: bool, keep: u32) -> ClerkDesk {
-        let mut desk = ClerkDesk::default();
-        desk.ask(&an_ask(ID, can_keep));
-        desk.take(&message(carrier, ID, Content::RequestResult { keep }), false);
-        desk
-    }
-
-    fn ringing_out(can_keep: bool, keep: u32) -> ClerkDesk {
-        let mut desk = invoked(Carrier::Connect, can_keep, keep);
-        desk.take(&message(Carrier::Facility, ID, Content::CcExecPossible), false);
-        desk.accept(&ID);
-        assert_eq!(desk.records[0].state, State::Ringout);
-        desk
-    }
-
-    fn busy_again() -> Message {
-        message(Carrier::ReleaseComplete, ID, Content::RingoutError { error: REMOTE_USER_BUSY_AGAIN })
-    }
-
-    #[test]
-    fn example_10_ret_ccexecpossible_user_a_busy_ccsuspend_in_facility() {
-        let mut desk = invoked(Carrier::Connect, true, 1);
-        let outcome = desk.take(&message(Carrier::Facility, ID, Content::CcExecPossible), true);
-        let expected = Outcome::done().sending(message(Carrier::Facility, ID, Content::CcSuspend));
-        assert_eq!(outcome, expected);
-        assert_eq!(desk.records[0].state, State::Suspended);
-    }
-
-    #[test]
-    fn example_11_busy_again_in_ringout_keep_chosen_invoked_not_chosen_gone() {
-        let mut desk = ringing_out(true, 1);
-        assert_eq!(desk.take(&busy_again(), false), Outcome::done().telling(Notice::BusyAgainKept));
-        assert_eq!(desk.records[0].state, State::Invoked);
-        let mut desk = ringing_out(true, 0);
-        let ended = Outcome::done().telling(Notice::BusyAgainEnded).stopping(T2);
-        assert_eq!(desk.take(&busy_again(), false), ended);
-        assert!(desk.records.is_empty());
-    }
-
-    #[test]
-    fn request_5_a_ccnr_record_met_busy_again_becomes_ccbs_once() {
-        let mut desk = ClerkDesk::default();
-        desk.ask(&Ask { kind: Kind::Ccnr, ..an_ask(ID, true) });
-        desk.take(&message(Carrier::Connect, ID, Content::RequestResult { keep: 1 }), false);
-        for notice in [Notice::NowWaitingForFree, Notice::BusyAgainKept, Notice::BusyAgainKept] {
-            desk.take(&message(Carrier::Facility, ID, Content::CcExecPossible), false);
-            desk.accept(&ID);
-            assert_eq!(desk.take(&busy_again(), false), Outcome::done().telling(notice));
-            assert_eq!((desk.records[0].kind, desk.records[0].state), (Kind::Ccbs, State::Invoked));
-        }
-        // Without keep it ends as before, whatever the kind.
-        let mut desk = ringing_out(true, 0);
-        desk.records[0].kind = Kind::Ccnr;
-        let ended = Outcome::done().telling(Notice::BusyAgainEnded).stopping(T2);
-        assert_eq!(desk.take(&busy_again(), false), ended);
-    }
-
-    #[test]
-    fn example_12_t3_reported_in_suspended_9() {
-        let mut desk = invoked(Carrier::Connect, true, 1);
-        desk.take(&message(Carrier::Facility, ID, Content::CcExecPossible), true);
-        assert_eq!(desk.timer_runs_out(&ID, Timer::T3), Outcome::refused(Refusal::TimerNotRunning));
-    }
-
-    #[test]
-    fn seen_in_class_keep_from_the_result_alone() {
-        // "Taking keep from the result alone, though can-keep was sent false."
-        assert_eq!(invoked(Carrier::Connect, false, 1).records[0].keep, Some(false));
-        assert_eq!(invoked(Carrier::Connect, true, 1).records[0].keep, Some(true));
-    }
-
-    #[test]
-    fn m1_t2_in_ringout_is_9() {
-        let mut desk = ringing_out(true, 1);
-        assert_eq!(desk.timer_runs_out(&ID, Timer::T2), Outcome::refused(Refusal::TimerNotRunning));
-        assert_eq!(desk.records.len(), 1);
-    }
-
-    #[test]
-    fn m2_type_12_in_ringout_sends_cccancel() {
-        let mut desk = ringing_out(true, 1);
-        let outcome = desk.take(&message(Carrier::ReleaseComplete, ID, Content::CallFailed), false);
-        let cancel = message(Carrier::ReleaseComplete, ID, Content::CcCancel);
-        let expected = Outcome::done().sending(cancel).telling(Notice::Failed).stopping(T2);
-        assert_eq!(outcome, expected);
-    }
-
-    #[test]
-    fn m3_ccexecpossible_in_setup_is_answered_on_7_and_never_refused_with_8() {
-        // Request 11: "type 5 in Setup is never 8 any more, and mend M3 replies
-        // to it on 6 and 7; type 5 in Facility for RLS is 8 without a reply".
-        let exec = |carrier| message(carrier, ID, Content::CcExecPossible);
-        let recall = Outcome::done().starting(T3).telling(Notice::Recall);
-        for down in [false, true] {
-            for carrier in [Carrier::Setup, Carrier::Facility] {
-                let mut desk = invoked(Carrier::Connect, true, 1);
-                desk.records[0].down = down;
-                assert_eq!(desk.take(&exec(carrier), false), recall);
-            }
-        }
-        let mut desk = invoked(Carrier::Connect, true, 1);
-        assert_eq!(desk.take(&exec(Carrier::Connect), false), Outcome::refused(Refusal::BadCarrier));
-        desk.take(&exec(Carrier::Setup), false);
-        let reply = message(Carrier::ReleaseComplete, ID, Content::CcCancel);
-        assert_eq!(desk.take(&exec(Carrier::Setup), false), Outcome::refused(Refusal::NoRow).sending(reply));
-        assert_eq!(desk.take(&exec(Carrier::Facility), false), Outcome::refused(Refusal::NoRow));
-        let mut desk = invoked(Carrier::ReleaseComplete, true, 1);
-        assert_eq!(desk.take(&exec(Carrier::Facility), false), Outcome::refused(Refusal::BadCarrier));
-        assert_eq!(desk.take(&exec(Carrier::Setup), false), recall);
-    }
-
-    #[test]
-    fn request_11_refusals_of_the_report() {
-        let mut desk = ClerkDesk::default();
-        assert_eq!(desk.connection_fell(&ID), Outcome::refused(Refusal::NoRecord));
-        desk.ask(&an_ask(ID, true));
-        assert_eq!(desk.connection_fell(&ID), Outcome::refused(Refusal::NoRow));
-        let mut desk = invoked(Carrier::ReleaseComplete, true, 1);
-        assert_eq!(desk.connection_fell(&ID), Outcome::refused(Refusal::NoRow));
-        assert!(!desk.records[0].down);
-    }
-
-    #[test]
-    fn request_11_a_marked_record_sends_by_the_rls_carriers() {
-        let mut desk = invoked(Carrier::Connect, true, 1);
-        assert_eq!(desk.connection_fell(&ID), Outcome::done());
-        let marked = desk.clone();
-        assert_eq!(desk.connection_fell(&ID), Outcome::done());
-        assert_eq!(desk, marked);
-        assert_eq!(desk.records[0].connection, Some(Connection::Ret));
-        let outcome = desk.take(&message(Carrier::Setup, ID, Content::CcExecPossible), true);
-        let suspend = message(Carrier::ReleaseComplete, ID, Content::CcSuspend);
-        assert_eq!(outcome, Outcome::done().sending(suspend));
-        let resume = message(Carrier::Setup, ID, Content::CcResume);
-        assert_eq!(desk.user_a_free(&ID, FreeChoice::Resume), Outcome::done().sending(resume));
-        // "Nothing clears the mark; a resume and busy again do not."
-        assert!(desk.records[0].down);
-        desk.take(&message(Carrier::Facility, ID, Content::CcExecPossible), false);
-        desk.accept(&ID);
-        assert_eq!(desk.take(&busy_again(), false), Outcome::done().telling(Notice::BusyAgainKept));
-        assert!(desk.records[0].down);
-        let cancel = message(Carrier::Setup, ID, Content::CcCancel);
-        let failed = Outcome::done().sending(cancel).telling(Notice::Failed).stopping(T2);
-        assert_eq!(desk.clone().timer_runs_out(&ID, Timer::T2), failed);
-        // "also the ccCancel of mend M2".
-        let mut desk = ringing_out(true, 1);
-        desk.connection_fell(&ID);
-        assert_eq!(desk.take(&message(Carrier::ReleaseComplete, ID, Content::CallFailed), false), failed);
-    }
-
-    #[test]
-    fn m4_cccancel_in_ringout_clears_the_call() {
-        let mut desk = ringing_out(true, 1);
-        let outcome = desk.take(&message(Carrier::Setup, ID, Content::CcCancel), false);
-        let expected = Outcome::done().telling(Notice::Failed).stopping(T2).clearing(true);
-        assert_eq!(outcome, expected);
-    }
-
-    #[test]
-    fn sixteen_against_seventeen_asks() {
-        let mut desk = ClerkDesk::default();
-        for n in 0..16 {
-            assert_eq!(desk.ask(&an_ask([n; 16], true)).refusal, None);
-        }
-        assert_eq!(desk.ask(&an_ask([16; 16], true)), Outcome::refused(Refusal::ClerkFull));
-        // READINGS 8: "A live identifier at a full desk is 4."
-        assert_eq!(desk.ask(&an_ask([0; 16], true)), Outcome::refused(Refusal::IdentifierLive));
-    }
-
-    #[test]
-    fn reading_7_2_before_3() {
-        let fields = RequestFields { number_a: vec![], number_b: vec![], service: 0, flags: 0 };
-        let request = message(Carrier::Setup, ID, Content::CcbsRequest(fields));
-        let outcome = ClerkDesk::default().take(&request, false);
-        assert_eq!(outcome, Outcome::refused(Refusal::OutOfRange));
-    }
-}
+mod tests;

@@ -1,8 +1,14 @@
-//! The bytes of document 01: numbers in groups of seven bits, one message
-//! taken from the front of bytes, one message written at a place of a buffer.
+//! The bytes of document 01, with request 1 of document 02: numbers in groups of
+//! seven bits, one message taken from the front of bytes, one message written at
+//! a place of a buffer.
 
-/// "identifier (16 bytes, the CallIdentifier of the failed call)".
+/// "identifier (16 bytes, the CallIdentifier of the failed call)". Request 1: "It
+/// may now be absent", so messages and records hold an Option of it: "An absent
+/// identifier is a length, never a value."
 pub type Identifier = [u8; 16];
+
+/// Request 1: "the byte form gets a length of 0 or 16 before the identifier".
+const IDENTIFIER_LENGTH: u32 = 16;
 
 /// numberA "1 to 15 decimal digits, or withheld", numberB "1 to 15".
 pub const MOST_DIGITS: usize = 15;
@@ -99,6 +105,17 @@ pub struct RequestFields {
     pub flags: u32,
 }
 
+/// Request 1: "Types 5, 6, 9 and 10 in Setup always carry numberA, numberB and
+/// service too". READINGS-02 lets numberB and service be absent in the language;
+/// "the byte form has no way to say so", and here every message was read or is
+/// a record's, so they are there. An empty numberA is a withheld one.
+#[derive(Clone, PartialEq, Eq, Debug)]
+pub struct Elements {
+    pub number_a: Vec<u8>,
+    pub number_b: Vec<u8>,
+    pub service: u32,
+}
+
 /// "A message is one of twelve types with its own fields".
 #[derive(Clone, PartialEq, Eq, Debug)]
 pub enum Content {
@@ -142,6 +159,12 @@ impl Content {
         }
     }
 
+    /// Request 1: "Types 5, 6, 9 and 10 in Setup have numberA, numberB, service,
+    /// in the order of type 1; in another carrier they have none."
+    pub fn carries_elements(&self, carrier: Carrier) -> bool {
+        carrier == Carrier::Setup && matches!(self.type_number(), 5 | 6 | 9 | 10)
+    }
+
     /// The name of the type and its one small field, as document 01 has them.
     pub fn name(&self) -> &'static str {
         match self {
@@ -165,12 +188,22 @@ impl Content {
 }
 
 /// "Equality is of these" (type, carrier, identifier, fields); digits stand in
-/// a Vec of their own length, so there are no places behind the last digit.
+/// a Vec of their own length, so there are no places behind the last digit. The
+/// elements are there exactly for types 5, 6, 9 and 10 in Setup.
 #[derive(Clone, PartialEq, Eq, Debug)]
 pub struct Message {
     pub carrier: Carrier,
-    pub identifier: Identifier,
+    pub identifier: Option<Identifier>,
     pub content: Content,
+    pub elements: Option<Elements>,
+}
+
+impl Message {
+    /// The message with these elements, if its type and carrier have any.
+    pub fn with_elements(mut self, elements: &Elements) -> Message {
+        self.elements = self.content.carries_elements(self.carrier).then(|| elements.clone());
+        self
+    }
 }
 
 /// One to fifteen digits, each 0 to 9: a numberB, or the digits of a line.
@@ -183,9 +216,18 @@ pub fn good_number_a(digits: &[u8]) -> bool {
     digits.is_empty() || good_digits(digits)
 }
 
+fn elements_in_range(elements: &Elements) -> bool {
+    good_number_a(&elements.number_a) && good_digits(&elements.number_b) && elements.service <= LARGEST_SERVICE
+}
+
 /// Refusal 2, "a field is out of range"; READINGS 7: it "looks at every field
-/// of the message, also of a type for the other end".
+/// of the message, also of a type for the other end". Elements that are missing,
+/// or too many, are no message of this program's: no bytes are read as one.
 pub fn in_range(message: &Message) -> bool {
+    let due = message.content.carries_elements(message.carrier);
+    if due != message.elements.is_some() || !message.elements.iter().all(elements_in_range) {
+        return false;
+    }
     match &message.content {
         Content::CcbsRequest(fields) | Content::CcnrRequest(fields) => {
             good_number_a(&fields.number_a)
@@ -273,14 +315,22 @@ fn read_carrier(bytes: &[u8]) -> Read<'_, Carrier> {
     Ok((carrier, rest))
 }
 
-/// "16 identifier bytes raw".
-fn read_identifier(bytes: &[u8]) -> Read<'_, Identifier> {
+/// Request 1: "identifier's length (a number: 0 or 16, else 2), the identifier";
+/// the sixteen bytes are raw. REPLAY-02: "Two-byte forms of the length are faults
+/// like any other's: `90 00` is 1 (not shortest), `80 01` is 2."
+fn read_identifier(bytes: &[u8]) -> Read<'_, Option<Identifier>> {
+    let (length, mut rest) = read_number(bytes)?;
+    if length == 0 {
+        return Ok((None, rest));
+    }
+    if length != IDENTIFIER_LENGTH {
+        return Err(Fault::at_front(Refusal::OutOfRange));
+    }
     let mut identifier = [0; 16];
-    let mut rest = bytes;
     for place in identifier.iter_mut() {
         (*place, rest) = told_in(bytes, rest, read_byte(rest))?;
     }
-    Ok((identifier, rest))
+    Ok((Some(identifier), rest))
 }
 
 /// READINGS 3: "A digit is one raw byte; over 9 is 2."
@@ -307,10 +357,15 @@ fn read_digits(bytes: &[u8], fewest: u32) -> Read<'_, Vec<u8>> {
 }
 
 /// READINGS 3: "Every readable service is in range."
-fn read_request(bytes: &[u8]) -> Read<'_, RequestFields> {
+fn read_elements(bytes: &[u8]) -> Read<'_, Elements> {
     let (number_a, rest) = read_digits(bytes, 0)?;
     let (number_b, rest) = told_in(bytes, rest, read_digits(rest, 1))?;
     let (service, rest) = told_in(bytes, rest, read_within(rest, 0, LARGEST_SERVICE))?;
+    Ok((Elements { number_a, number_b, service }, rest))
+}
+
+fn read_request(bytes: &[u8]) -> Read<'_, RequestFields> {
+    let (Elements { number_a, number_b, service }, rest) = read_elements(bytes)?;
     let (flags, rest) = told_in(bytes, rest, read_within(rest, 0, LARGEST_FLAGS))?;
     Ok((RequestFields { number_a, number_b, service, flags }, rest))
 }
@@ -335,16 +390,20 @@ fn read_content(type_number: u32, bytes: &[u8]) -> Read<'_, Content> {
     Ok((content, bytes))
 }
 
-/// "Order: type, carrier, 16 identifier bytes raw, then fields". "The reader
-/// takes one message from the front and hands back the part of the buffer
-/// that follows the message". READINGS 4: it "does not hold the carrier
-/// against the type".
+/// Request 1: "type, carrier, identifier's length .., the identifier, then the
+/// fields". "The reader takes one message from the front and hands back the part
+/// of the buffer that follows the message". READINGS 4: it "does not hold the
+/// carrier against the type". The types with elements have no field of their own.
 pub fn read_message(bytes: &[u8]) -> Read<'_, Message> {
     let (type_number, rest) = read_within(bytes, 1, 12)?;
     let (carrier, rest) = told_in(bytes, rest, read_carrier(rest))?;
     let (identifier, rest) = told_in(bytes, rest, read_identifier(rest))?;
     let (content, rest) = told_in(bytes, rest, read_content(type_number, rest))?;
-    Ok((Message { carrier, identifier, content }, rest))
+    if !content.carries_elements(carrier) {
+        return Ok((Message { carrier, identifier, content, elements: None }, rest));
+    }
+    let (elements, rest) = told_in(bytes, rest, read_elements(rest))?;
+    Ok((Message { carrier, identifier, content, elements: Some(elements) }, rest))
 }
 
 /// "each number in groups of seven bits, lowest group first, the top bit set
@@ -364,12 +423,23 @@ fn put_digits(bytes: &mut Vec<u8>, digits: &[u8]) {
     bytes.extend_from_slice(digits);
 }
 
-/// The byte form of a message whose fields are in range: 18 to 53 bytes.
+/// "an absent identifier is a length": 0 and nothing behind it.
+fn put_identifier(bytes: &mut Vec<u8>, identifier: &Option<Identifier>) {
+    put_number(bytes, identifier.map_or(0, |_| IDENTIFIER_LENGTH));
+    bytes.extend(identifier.iter().flatten());
+}
+
+/// The byte form of a message whose fields are in range: 3 to 54 bytes.
 pub fn message_bytes(message: &Message) -> Vec<u8> {
     let mut bytes = Vec::new();
     put_number(&mut bytes, message.content.type_number());
     put_number(&mut bytes, message.carrier.number());
-    bytes.extend_from_slice(&message.identifier);
+    put_identifier(&mut bytes, &message.identifier);
+    if let Some(elements) = &message.elements {
+        put_digits(&mut bytes, &elements.number_a);
+        put_digits(&mut bytes, &elements.number_b);
+        put_number(&mut bytes, elements.service);
+    }
     match &message.content {
         Content::CcbsRequest(fields) | Content::CcnrRequest(fields) => {
             put_digits(&mut bytes, &fields.number_a);
@@ -407,7 +477,15 @@ mod tests {
     use super::*;
 
     fn plain(content: Content) -> Message {
-        Message { carrier: Carrier::ReleaseComplete, identifier: [7; 16], content }
+        Message { carrier: Carrier::ReleaseComplete, identifier: Some([7; 16]), content, elements: None }
+    }
+
+    fn nameless(content: Content) -> Message {
+        Message { identifier: None, ..plain(content) }
+    }
+
+    fn long_elements() -> Elements {
+        Elements { number_a: vec![1; 15], number_b: vec![2; 15], service: 16383 }
     }
 
     fn longest() -> Message {
@@ -466,9 +544,7 @@ mod tests {
 
     #[test]
     fn reading_3_the_count_is_judged_before_any_digit() {
-        let mut bytes = vec![1, 1];
-        bytes.extend_from_slice(&[0; 16]);
-        bytes.push(16);
+        let mut bytes = vec![1, 1, 0, 16];
         assert_eq!(refusal_of(&bytes), 2);
         *bytes.last_mut().unwrap() = 15;
         assert_eq!(refusal_of(&bytes), 1);
@@ -477,9 +553,51 @@ mod tests {
     }
 
     #[test]
-    fn a_message_takes_18_to_53_bytes() {
-        assert_eq!(message_bytes(&plain(Content::CcCancel)).len(), 18);
-        assert_eq!(message_bytes(&longest()).len(), 53);
+    fn a_message_takes_3_to_54_bytes() {
+        assert_eq!(message_bytes(&nameless(Content::CcCancel)), [10, 4, 0]);
+        assert_eq!(message_bytes(&plain(Content::CcCancel)).len(), 19);
+        assert_eq!(message_bytes(&longest()).len(), 54);
+    }
+
+    #[test]
+    fn request_1_elements_stand_in_setup_alone() {
+        for content in [Content::CcExecPossible, Content::CcRingout, Content::CcResume, Content::CcCancel] {
+            for carrier in Carrier::ALL {
+                let message = Message { carrier, ..plain(content.clone()) }.with_elements(&long_elements());
+                assert_eq!(message.elements.is_some(), carrier == Carrier::Setup);
+                assert!(in_range(&message));
+                let bytes = message_bytes(&message);
+                assert_eq!(bytes.len(), if carrier == Carrier::Setup { 53 } else { 19 });
+                assert_eq!(read_message(&bytes), Ok((message, &[][..])));
+            }
+        }
+        let suspend = Message { carrier: Carrier::Setup, ..plain(Content::CcSuspend) };
+        assert_eq!(suspend.with_elements(&long_elements()).elements, None);
+    }
+
+    #[test]
+    fn request_1_elements_that_are_missing_or_too_many_are_2() {
+        let bare = Message { carrier: Carrier::Setup, ..plain(Content::CcCancel) };
+        assert_eq!(write_message(&bare, &mut [0; 60], 0), Err(Refusal::OutOfRange));
+        let too_many = Message { elements: Some(long_elements()), ..plain(Content::CcCancel) };
+        assert_eq!(write_message(&too_many, &mut [0; 60], 0), Err(Refusal::OutOfRange));
+        let bad = Elements { service: 16384, ..long_elements() };
+        assert!(!in_range(&bare.with_elements(&bad)));
+    }
+
+    #[test]
+    fn request_1_the_identifiers_length_is_0_or_16() {
+        // "length other than 0 or 16 is 2"; "`90 00` is 1 (not shortest), `80 01`
+        // is 2".
+        for length in 0..=127 {
+            let bytes = [&[8, 4, length][..], &[0; 16]].concat();
+            let expected = if matches!(length, 0 | 16) { 0 } else { 2 };
+            assert_eq!(refusal_of(&bytes), expected, "{length}");
+        }
+        assert_eq!(refusal_of(&[8, 4, 0x90, 0]), 1);
+        assert_eq!(refusal_of(&[8, 4, 0x80, 1]), 2);
+        assert_eq!(refusal_of(&[8, 4]), 1);
+        assert_eq!(refusal_of(&[8, 4, 16]), 1);
     }
 
     #[test]
@@ -490,13 +608,13 @@ mod tests {
     }
 
     #[test]
-    fn room_of_53_bytes_against_52() {
+    fn room_of_54_bytes_against_53() {
         let mut buffer = [0xEE; 60];
-        assert_eq!(write_message(&longest(), &mut buffer, 7), Ok(53));
-        assert_eq!(buffer[..7], [0xEE; 7]);
-        assert_eq!(buffer[7..], message_bytes(&longest())[..]);
+        assert_eq!(write_message(&longest(), &mut buffer, 6), Ok(54));
+        assert_eq!(buffer[..6], [0xEE; 6]);
+        assert_eq!(buffer[6..], message_bytes(&longest())[..]);
         let mut buffer = [0xEE; 60];
-        assert_eq!(write_message(&longest(), &mut buffer, 8), Err(Refusal::NoRoom));
+        assert_eq!(write_message(&longest(), &mut buffer, 7), Err(Refusal::NoRoom));
         assert_eq!(write_message(&longest(), &mut buffer, 61), Err(Refusal::NoRoom));
         assert_eq!(write_message(&longest(), &mut buffer, usize::MAX), Err(Refusal::NoRoom));
         assert_eq!(buffer, [0xEE; 60]);
@@ -511,7 +629,7 @@ mod tests {
     #[test]
     fn reading_4_every_carrier_with_every_type() {
         for carrier in Carrier::ALL {
-            let message = Message { carrier, identifier: [3; 16], content: Content::CallAlerts };
+            let message = Message { carrier, ..plain(Content::CallAlerts) };
             assert_eq!(read_message(&message_bytes(&message)), Ok((message, &[][..])));
         }
     }

@@ -20,7 +20,19 @@
 //!   11 every acknowledged record takes it in that carrier, and 7 comes first;
 //! - a mark "connection down" in Wait-Ack or on an RLS record (refusal 7);
 //! - a record whose numberB is no line: it would have got the long error, and
-//!   a taken start makes a desk without records.
+//!   a taken start makes a desk without records;
+//! - elements absent from a message of types 5, 6, 9 or 10 in Setup: the byte form
+//!   has no way to say so;
+//! - refusal 7 on a ccCancel that is fitted (it is for every state), and refusal 8
+//!   on any message that is fitted (it is in Setup, which all of them may be in);
+//! - a ccRingout that is taken by place: it is taken in Setup alone, and fitted there.
+//!
+//! Request 1: rows about a record say how it was found, "by identifier", "by fit" or
+//! "by place"; "no record" is the state where none was. A message for the other end
+//! (refusal 3) is looked at as if it were an act. Coverage finds the record by a
+//! search of its own (meaning.rs); where the desk's `at` is another, or a step alters
+//! another record, or a message is sent with what isn't its record's, the row is not
+//! listed.
 //!
 //! Refusal 12 is the writer's and at neither desk, so it is in the codec's table.
 //! Every fault of bytes is a row three times, with the place that is told for it:
@@ -30,10 +42,16 @@
 
 mod expected;
 mod expected_codec;
+mod expected_meant;
+mod meaning;
 mod observed;
+mod observed_clerk;
 mod observed_codec;
+mod observed_line;
+mod observed_meant;
 mod stops;
 
+pub use self::observed::is_at_clerk;
 use crate::script::{take_entry, Answer, Entry, Session};
 use std::collections::{BTreeSet, HashMap};
 
@@ -45,6 +63,7 @@ struct Row {
 /// Every row, those of `stop N` at the end.
 fn all_rows() -> Vec<String> {
     let mut rows = expected::rows();
+    rows.extend(expected_meant::rows());
     rows.extend(expected_codec::rows());
     rows.extend(stops::rows());
     rows
@@ -98,7 +117,7 @@ impl Coverage {
 
     /// Plays one entry and counts its rows; true where one of them was never
     /// reached before.
-    pub fn step(&mut self, session: &mut Session, entry: &Entry) -> bool {
+    pub fn step(&mut self, session: &mut Session, entry: &Entry) -> (Answer, bool) {
         let before = session.clone();
         let answer = session.play(entry);
         self.refusals.extend(Some(refusal_number(&answer)).filter(|number| *number > 0));
@@ -106,7 +125,7 @@ impl Coverage {
         for name in observed::names(&before, entry, &answer, session) {
             new |= self.note(name);
         }
-        new
+        (answer, new)
     }
 
     /// Plays one entry and tells the places of its rows, and counts nothing.
@@ -211,7 +230,7 @@ mod tests {
     fn the_last_lines_are_the_sums() {
         let mut coverage = Coverage::new();
         // The clerk's desk is started, no bytes reach it, a code isn't listed.
-        coverage.play(&[2, 17, 0, 0, 0]);
+        coverage.play(&[2, 17, 0, 255, 0, 0]);
         let report = coverage.report(false);
         assert!(report.contains("\n1 clerk: no bytes: refusal 1 at the bytes' length\n"));
         assert!(report.contains("\n1 stop: code not listed\n"));
@@ -266,15 +285,16 @@ mod tests {
         assert_eq!(name(&[34, 2, 1]), "stop: code 34: the script ends inside");
         assert_eq!(name(&[1, 1, 1, 5, 4, 0]), "stop: code 1: kinds not listed");
         assert_eq!(name(&[1, 1, 1, 5, 3, 4, 64]), "stop: code 1: settings not listed");
-        assert_eq!(name(&[17, 2, 0]), "stop: code 17: User A busy not listed");
+        assert_eq!(name(&[17, 2, 0, 0]), "stop: code 17: User A busy not listed");
         assert_eq!(name(&[33, 1, 1, 2]), "stop: code 33: busy or free not listed");
-        let identifier = [5; 16];
-        assert_eq!(name(&[&[16][..], &identifier, &[3, 0]].concat()), "stop: code 16: kind not listed");
-        let ask = [&[16][..], &identifier, &[1, 0, 1, 1, 0, 0, 2, 0]].concat();
-        assert_eq!(name(&ask), "stop: code 16: can-keep not listed");
-        assert_eq!(name(&[&[35][..], &identifier, &[0]].concat()), "stop: code 35: act not listed");
-        assert_eq!(name(&[&[21][..], &identifier, &[4]].concat()), "stop: code 21: timer not listed");
-        assert_eq!(name(&[&[19][..], &identifier, &[2]].concat()), "stop: code 19: resume or recall not listed");
+        assert_eq!(name(&[16, 0, 3, 0]), "stop: code 16: kind not listed");
+        assert_eq!(name(&[16, 0, 1, 0, 1, 1, 0, 0, 2, 0]), "stop: code 16: can-keep not listed");
+        let named = [&[35, 16][..], &[5; 16], &[0, 0]].concat();
+        assert_eq!(name(&named), "stop: code 35: act not listed");
+        assert_eq!(name(&named[..9]), "stop: code 35: the script ends inside");
+        assert_eq!(name(&[21, 0, 9, 4]), "stop: code 21: timer not listed");
+        assert_eq!(name(&[19, 0, 9, 2]), "stop: code 19: resume or recall not listed");
+        assert_eq!(name(&[36, 8, 9, 2]), "stop: code 36: identifier's length not listed");
     }
 
     #[test]

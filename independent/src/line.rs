@@ -1,9 +1,10 @@
 //! The line desk: User B's endpoint.
 
 use crate::codec::{
-    good_digits, in_range, Carrier, Content, Identifier, Message, Refusal, RequestFields, FAILURE_TO_MATCH, LONG,
-    REMOTE_USER_BUSY_AGAIN, SHORT,
+    good_digits, in_range, Carrier, Content, Elements, Identifier, Message, Refusal, RequestFields, FAILURE_TO_MATCH,
+    LONG, REMOTE_USER_BUSY_AGAIN, SHORT,
 };
+use crate::meant::{place_of, record_meant, record_named, Held, Name};
 use crate::outcome::{message, Connection, Kind, Outcome, GUARD};
 
 /// "at most 16 lines, at most 32 records, at most 5 for one line".
@@ -77,7 +78,7 @@ impl Line {
 /// "A record also has an activity mark and a suspended mark."
 #[derive(Clone, PartialEq, Eq, Debug)]
 pub struct Record {
-    pub identifier: Identifier,
+    pub identifier: Option<Identifier>,
     pub kind: Kind,
     pub number_a: Vec<u8>,
     pub number_b: Vec<u8>,
@@ -167,9 +168,27 @@ fn preference(fields: &RequestFields) -> u32 {
     fields.flags / 2
 }
 
+impl Held for Record {
+    fn identifier(&self) -> Option<Identifier> {
+        self.identifier
+    }
+
+    fn elements(&self) -> Elements {
+        let (number_a, number_b) = (self.number_a.clone(), self.number_b.clone());
+        Elements { number_a, number_b, service: self.service }
+    }
+
+    /// "for 6 and 9 Await; for 10 any state": the rows.
+    fn is_in_state_for(&self, content: &Content) -> bool {
+        has_row(self.state, content)
+    }
+}
+
 impl Record {
+    /// Request 1: "What a record sends has the record's identifier or none, and in
+    /// Setup (5, 6, 9, 10) the record's elements, numberA as it is held."
     fn sends(&self, carrier: Carrier, content: Content) -> Message {
-        message(carrier, self.identifier, content)
+        message(carrier, self.identifier, content).with_elements(&self.elements())
     }
 
     /// Request 11: "A marked record sends by the RLS carriers".
@@ -211,10 +230,6 @@ impl LineDesk {
         Ok(desk)
     }
 
-    pub fn place_of(&self, identifier: &Identifier) -> Option<usize> {
-        self.records.iter().position(|r| r.identifier == *identifier)
-    }
-
     pub fn line_place(&self, digits: &[u8]) -> Option<usize> {
         self.lines.iter().position(|l| l.digits == digits)
     }
@@ -225,13 +240,13 @@ impl LineDesk {
 
     /// READINGS 17: "the identifier of any live record, or numberA given on
     /// both sides and equal with equal numberB; kind and service don't count;
-    /// withheld numberA leaves the identifier test only."
-    fn is_duplicate(&self, identifier: &Identifier, fields: &RequestFields) -> bool {
-        self.records.iter().any(|r| {
-            let same_numbers =
-                !fields.number_a.is_empty() && r.number_a == fields.number_a && r.number_b == fields.number_b;
-            r.identifier == *identifier || same_numbers
-        })
+    /// withheld numberA leaves the identifier test only." Request 1: "At the line
+    /// the identifier test of a duplicate needs one on both sides".
+    fn is_duplicate(&self, identifier: &Option<Identifier>, fields: &RequestFields) -> bool {
+        let same_numbers =
+            |r: &Record| !fields.number_a.is_empty() && r.number_a == fields.number_a && r.number_b == fields.number_b;
+        let live = identifier.and_then(|identifier| place_of(&self.records, &identifier));
+        live.is_some() || self.records.iter().any(same_numbers)
     }
 
     /// "then short error if duplicate, or the line has 5, or the desk has 32".
@@ -243,7 +258,7 @@ impl LineDesk {
     /// "long error if numberB is no line or the kind isn't allowed". READINGS
     /// 17: "Long before short, also at a full desk." "These are completed
     /// steps that store nothing."
-    fn error_for(&self, identifier: &Identifier, kind: Kind, fields: &RequestFields) -> Option<u32> {
+    fn error_for(&self, identifier: &Option<Identifier>, kind: Kind, fields: &RequestFields) -> Option<u32> {
         let allowed = self.lines.iter().any(|l| l.digits == fields.number_b && l.allows(kind));
         if !allowed {
             Some(LONG)
@@ -282,7 +297,7 @@ impl LineDesk {
     /// exactly if can-keep and the desk keeps; .. The activity mark starts set
     /// if the line is busy." READINGS 18: "Accepted: suspended mark clear,
     /// activity mark = line busy (either kind)."
-    fn accept(&mut self, identifier: Identifier, kind: Kind, fields: &RequestFields) -> Outcome {
+    fn accept(&mut self, identifier: Option<Identifier>, kind: Kind, fields: &RequestFields) -> Outcome {
         let keep = can_keep(fields) && self.keeps;
         let connection = self.choose_connection(fields);
         self.records.push(Record {
@@ -303,24 +318,26 @@ impl LineDesk {
             Connection::Rls => Carrier::ReleaseComplete,
         };
         let result = message(carrier, identifier, Content::RequestResult { keep: u32::from(keep) });
-        Outcome::done().sending(result).starting(GUARD)
+        Outcome::done().sending(result).starting(GUARD).about(self.records.len() - 1)
     }
 
-    /// "Messages: 2, 3, 6, 7, 8 (a request at the line desk: 2, 3, 8)."
-    pub fn take(&mut self, message: &Message) -> Outcome {
+    /// "Messages: 2, 3, 6, 7, 8 (a request at the line desk: 2, 3, 8)." Request 1:
+    /// the host's place comes with every message and is not looked at for types 1
+    /// and 2, for types 6, 9 and 10 in Setup, or where there is an identifier.
+    pub fn take(&mut self, message: &Message, place: usize) -> Outcome {
         if !in_range(message) {
             return Outcome::refused(Refusal::OutOfRange);
         }
         match &message.content {
             Content::CcbsRequest(fields) => self.take_request(message, Kind::Ccbs, fields),
             Content::CcnrRequest(fields) => self.take_request(message, Kind::Ccnr, fields),
-            _ => self.take_other(message),
+            _ => self.take_other(message, place),
         }
     }
 
-    fn take_other(&mut self, message: &Message) -> Outcome {
-        match self.judge(message) {
-            Ok(place) => self.step(place, message),
+    fn take_other(&mut self, message: &Message, place: usize) -> Outcome {
+        match self.judge(message, place) {
+            Ok(place) => self.step(place, message).about(place),
             Err(refusal) => {
                 let mut outcome = Outcome::refused(refusal);
                 outcome.message = reply_to(message, refusal);
@@ -329,11 +346,11 @@ impl LineDesk {
         }
     }
 
-    fn judge(&self, message: &Message) -> Result<usize, Refusal> {
+    fn judge(&self, message: &Message, place: usize) -> Result<usize, Refusal> {
         if !is_for_line(&message.content) {
             return Err(Refusal::NotForThisEnd);
         }
-        let place = self.place_of(&message.identifier).ok_or(Refusal::NoRecord)?;
+        let place = record_meant(&self.records, message, place)?;
         let record = self.records.get(place).ok_or(Refusal::NoRecord)?;
         // READINGS 10: "7 before 8."
         if !has_row(record.state, &message.content) {
@@ -440,288 +457,63 @@ impl LineDesk {
         if self.line_busy(digits) || blocked {
             return Outcome::refused(Refusal::NothingToOffer);
         }
-        let oldest = self.records.iter_mut().find(|r| r.number_b == digits && r.fits());
-        let Some(record) = oldest else {
+        let oldest = self.records.iter_mut().enumerate().find(|(_, r)| r.number_b == digits && r.fits());
+        let Some((place, record)) = oldest else {
             return Outcome::refused(Refusal::NothingToOffer);
         };
         record.state = State::Await;
         let carrier = record.sends_by().facility_or_setup();
-        Outcome::done().sending(record.sends(carrier, Content::CcExecPossible))
+        Outcome::done().sending(record.sends(carrier, Content::CcExecPossible)).about(place)
+    }
+
+    /// An act or a timer report: 6, or the step on the record that is named.
+    fn on_named(&mut self, name: &Name, step: impl FnOnce(&mut LineDesk, usize) -> Outcome) -> Outcome {
+        match record_named(&self.records, name) {
+            Ok(place) => step(self, place).about(place),
+            Err(refusal) => Outcome::refused(refusal),
+        }
     }
 
     /// "Act "alerted" in Alert: send type 11 in Alerting, delete. Act "call
     /// failed" in Alert: send type 12, delete." Acts: 6, 7.
-    pub fn act(&mut self, identifier: &Identifier, act: Act) -> Outcome {
-        let Some(place) = self.place_of(identifier) else {
-            return Outcome::refused(Refusal::NoRecord);
-        };
-        let alert = self.records.get(place).is_some_and(|r| r.state == State::Alert);
-        let sent = match act {
-            Act::Cancel => return self.cancel_record(place),
-            _ if !alert => return Outcome::refused(Refusal::NoRow),
-            Act::Alerted => message(Carrier::Alerting, *identifier, Content::CallAlerts),
-            Act::CallFailed => message(Carrier::ReleaseComplete, *identifier, Content::CallFailed),
-        };
-        self.delete(place).sending(sent)
+    pub fn act(&mut self, name: &Name, act: Act) -> Outcome {
+        self.on_named(name, |desk, place| match act {
+            Act::Cancel => desk.cancel_record(place),
+            Act::Alerted => desk.end_alert(place, Carrier::Alerting, Content::CallAlerts),
+            Act::CallFailed => desk.end_alert(place, Carrier::ReleaseComplete, Content::CallFailed),
+        })
+    }
+
+    fn end_alert(&mut self, place: usize, carrier: Carrier, content: Content) -> Outcome {
+        match self.records.get(place) {
+            Some(record) if record.state == State::Alert => {
+                let sent = record.sends(carrier, content);
+                self.delete(place).sending(sent)
+            }
+            _ => Outcome::refused(Refusal::NoRow),
+        }
     }
 
     /// Request 11: "An act at each desk, by identifier: refusals 6, then 7 (..
     /// a record that is RLS). Taken in every other state; the state stays, no
     /// timer, no message, no notice; on a marked record taken, and nothing
     /// changes. There is no "up again"."
-    pub fn connection_fell(&mut self, identifier: &Identifier) -> Outcome {
-        let Some(record) = self.records.iter_mut().find(|r| r.identifier == *identifier) else {
-            return Outcome::refused(Refusal::NoRecord);
-        };
-        if record.connection != Connection::Ret {
-            return Outcome::refused(Refusal::NoRow);
-        }
-        record.down = true;
-        Outcome::done()
+    pub fn connection_fell(&mut self, name: &Name) -> Outcome {
+        self.on_named(name, |desk, place| match desk.records.get_mut(place) {
+            Some(record) if record.connection == Connection::Ret => {
+                record.down = true;
+                Outcome::done()
+            }
+            _ => Outcome::refused(Refusal::NoRow),
+        })
     }
 
     /// READINGS 13: "The guard always runs, so its report is only ever 6 or
     /// taken."
-    pub fn guard_runs_out(&mut self, identifier: &Identifier) -> Outcome {
-        match self.place_of(identifier) {
-            Some(place) => self.cancel_record(place),
-            None => Outcome::refused(Refusal::NoRecord),
-        }
+    pub fn guard_runs_out(&mut self, name: &Name) -> Outcome {
+        self.on_named(name, LineDesk::cancel_record)
     }
 }
 
 #[cfg(test)]
-mod tests {
-    use super::*;
-
-    fn line(digits: &[u8]) -> Line {
-        Line { digits: digits.to_vec(), allows_ccbs: true, allows_ccnr: true, busy: false }
-    }
-
-    fn desk(lines: &[&[u8]], keeps: bool, retains: bool) -> LineDesk {
-        LineDesk::start(lines.iter().map(|l| line(l)).collect(), keeps, retains).unwrap()
-    }
-
-    fn request(n: u8, kind: Kind, a: &[u8], b: &[u8], flags: u32) -> Message {
-        let fields = RequestFields { number_a: a.to_vec(), number_b: b.to_vec(), service: 1, flags };
-        let content = match kind {
-            Kind::Ccbs => Content::CcbsRequest(fields),
-            Kind::Ccnr => Content::CcnrRequest(fields),
-        };
-        message(Carrier::Setup, [n; 16], content)
-    }
-
-    fn error(n: u8, error: u32) -> Outcome {
-        Outcome::done().sending(message(Carrier::ReleaseComplete, [n; 16], Content::RequestError { error }))
-    }
-
-    #[test]
-    fn example_6_busy_line_ccbs_can_keep_no_preference() {
-        // "desk keeps and defaults to release: result keep 1 in Release
-        // Complete, record Invoked RLS."
-        let mut desk = desk(&[&[1]], true, false);
-        desk.report(&[1], true);
-        let result = message(Carrier::ReleaseComplete, [1; 16], Content::RequestResult { keep: 1 });
-        let outcome = desk.take(&request(1, Kind::Ccbs, &[9], &[1], 1));
-        assert_eq!(outcome, Outcome::done().sending(result).starting(GUARD));
-        assert_eq!(desk.records[0].state, State::Invoked);
-        assert_eq!(desk.records[0].connection, Connection::Rls);
-        assert!(desk.records[0].active);
-    }
-
-    #[test]
-    fn example_7_other_identifier_same_two_numbers_short() {
-        let mut desk = desk(&[&[1]], true, false);
-        desk.take(&request(1, Kind::Ccbs, &[9], &[1], 1));
-        assert_eq!(desk.take(&request(2, Kind::Ccnr, &[9], &[1], 1)), error(2, SHORT));
-        // READINGS 17: "withheld numberA leaves the identifier test only".
-        assert_eq!(desk.take(&request(3, Kind::Ccbs, &[], &[1], 1)).starts, GUARD);
-        assert_eq!(desk.take(&request(4, Kind::Ccbs, &[], &[1], 1)).starts, GUARD);
-    }
-
-    #[test]
-    fn example_8_unknown_number_b_at_a_full_desk_long() {
-        let lines: Vec<[u8; 1]> = (0..7).map(|n| [n]).collect();
-        let lines: Vec<&[u8]> = lines.iter().map(|l| &l[..]).collect();
-        let mut desk = desk(&lines, true, false);
-        for n in 0..32 {
-            assert_eq!(desk.take(&request(n, Kind::Ccbs, &[], &[n / 5], 0)).starts, GUARD);
-        }
-        assert_eq!(desk.take(&request(32, Kind::Ccbs, &[], &[8], 0)), error(32, LONG));
-        assert_eq!(desk.take(&request(32, Kind::Ccbs, &[], &[6], 0)), error(32, SHORT));
-        assert_eq!(desk.records.len(), 32);
-    }
-
-    #[test]
-    fn example_9_ccnr_on_a_free_line_look_11_after_busy_free_look_offered() {
-        let mut desk = desk(&[&[1]], true, true);
-        desk.take(&request(1, Kind::Ccnr, &[9], &[1], 1));
-        assert_eq!(desk.look(&[1]), Outcome::refused(Refusal::NothingToOffer));
-        desk.report(&[1], true);
-        assert_eq!(desk.look(&[1]), Outcome::refused(Refusal::NothingToOffer));
-        desk.report(&[1], false);
-        let exec = message(Carrier::Facility, [1; 16], Content::CcExecPossible);
-        assert_eq!(desk.look(&[1]), Outcome::done().sending(exec));
-        assert_eq!(desk.records[0].state, State::Await);
-    }
-
-    #[test]
-    fn five_against_six_on_one_line() {
-        let mut desk = desk(&[&[1], &[2]], true, true);
-        for n in 0..5 {
-            assert_eq!(desk.take(&request(n, Kind::Ccbs, &[n], &[1], 1)).starts, GUARD);
-        }
-        assert_eq!(desk.take(&request(5, Kind::Ccbs, &[5], &[1], 1)), error(5, SHORT));
-        assert_eq!(desk.take(&request(5, Kind::Ccbs, &[5], &[2], 1)).starts, GUARD);
-    }
-
-    #[test]
-    fn seen_in_class_letting_a_suspended_record_block_the_line() {
-        let mut desk = desk(&[&[1]], true, true);
-        desk.take(&request(1, Kind::Ccbs, &[1], &[1], 1));
-        desk.take(&request(2, Kind::Ccbs, &[2], &[1], 1));
-        desk.look(&[1]);
-        assert_eq!(desk.look(&[1]), Outcome::refused(Refusal::NothingToOffer));
-        desk.take(&message(Carrier::Facility, [1; 16], Content::CcSuspend));
-        assert_eq!(desk.look(&[1]).refusal, None);
-        assert_eq!(desk.records[1].state, State::Await);
-    }
-
-    #[test]
-    fn seen_in_class_deleting_the_record_on_a_ccresume_met_in_invoked() {
-        let mut desk = desk(&[&[1]], true, true);
-        desk.take(&request(1, Kind::Ccbs, &[1], &[1], 1));
-        let reply = message(Carrier::ReleaseComplete, [1; 16], Content::CcCancel);
-        let outcome = desk.take(&message(Carrier::Setup, [1; 16], Content::CcResume));
-        assert_eq!(outcome, Outcome::refused(Refusal::NoRow).sending(reply));
-        assert_eq!(desk.records.len(), 1);
-    }
-
-    #[test]
-    fn m5_ccresume_in_setup_for_a_ret_record() {
-        // "received for RET in Facility or Setup, for RLS in Setup. (Facility
-        // for an RLS record stays 8 ..)"
-        let mut desk = desk(&[&[1]], true, true);
-        desk.take(&request(1, Kind::Ccbs, &[1], &[1], 3));
-        desk.look(&[1]);
-        desk.take(&message(Carrier::Facility, [1; 16], Content::CcSuspend));
-        let outcome = desk.take(&message(Carrier::Setup, [1; 16], Content::CcResume));
-        assert_eq!(outcome, Outcome::done());
-        assert_eq!(desk.records[0].state, State::Invoked);
-        assert!(!desk.records[0].suspended);
-        desk.take(&message(Carrier::Setup, [1; 16], Content::CcCancel));
-        desk.take(&request(2, Kind::Ccbs, &[1], &[1], 5));
-        desk.look(&[1]);
-        let outcome = desk.take(&message(Carrier::Facility, [2; 16], Content::CcResume));
-        assert_eq!(outcome, Outcome::refused(Refusal::BadCarrier));
-    }
-
-    #[test]
-    fn cc_ringout_met_by_a_busy_line() {
-        // "Line busy: send remoteUserBusyAgain; keep, Invoked with activity
-        // marked and the suspended mark cleared; otherwise delete."
-        for keeps in [true, false] {
-            let mut desk = desk(&[&[1]], keeps, true);
-            desk.take(&request(1, Kind::Ccbs, &[1], &[1], 1));
-            desk.look(&[1]);
-            desk.take(&message(Carrier::Facility, [1; 16], Content::CcSuspend));
-            desk.report(&[1], true);
-            assert!(!desk.records[0].active);
-            let outcome = desk.take(&message(Carrier::Setup, [1; 16], Content::CcRingout));
-            let content = Content::RingoutError { error: REMOTE_USER_BUSY_AGAIN };
-            let answer = Outcome::done().sending(message(Carrier::ReleaseComplete, [1; 16], content));
-            if keeps {
-                assert_eq!(outcome, answer);
-                let record = &desk.records[0];
-                assert!(record.state == State::Invoked && record.active && !record.suspended);
-            } else {
-                assert_eq!(outcome, answer.stopping(GUARD));
-                assert!(desk.records.is_empty());
-            }
-        }
-    }
-
-    #[test]
-    fn request_5_a_kept_ccnr_record_becomes_ccbs_on_any_line() {
-        // "The line's allowed kinds are not asked again."
-        let only_ccnr = Line { allows_ccbs: false, ..line(&[1]) };
-        let mut desk = LineDesk::start(vec![only_ccnr], true, true).unwrap();
-        desk.take(&request(1, Kind::Ccnr, &[1], &[1], 1));
-        desk.report(&[1], true);
-        desk.report(&[1], false);
-        for _ in 0..2 {
-            assert_eq!(desk.look(&[1]).refusal, None);
-            desk.report(&[1], true);
-            let outcome = desk.take(&message(Carrier::Setup, [1; 16], Content::CcRingout));
-            let content = Content::RingoutError { error: REMOTE_USER_BUSY_AGAIN };
-            let answer = message(Carrier::ReleaseComplete, [1; 16], content);
-            assert_eq!(outcome, Outcome::done().sending(answer));
-            let record = &desk.records[0];
-            assert_eq!((record.kind, record.state, record.active), (Kind::Ccbs, State::Invoked, true));
-            desk.report(&[1], false);
-        }
-    }
-
-    #[test]
-    fn request_5_a_ccringout_that_finds_the_line_free_keeps_the_kind() {
-        let mut desk = desk(&[&[1]], true, true);
-        desk.report(&[1], true);
-        desk.take(&request(1, Kind::Ccnr, &[1], &[1], 1));
-        desk.report(&[1], false);
-        desk.look(&[1]);
-        desk.take(&message(Carrier::Setup, [1; 16], Content::CcRingout));
-        assert_eq!((desk.records[0].kind, desk.records[0].state), (Kind::Ccnr, State::Alert));
-    }
-
-    #[test]
-    fn request_11_the_report_and_what_a_marked_record_sends() {
-        let mut desk = desk(&[&[1]], true, true);
-        assert_eq!(desk.connection_fell(&[1; 16]), Outcome::refused(Refusal::NoRecord));
-        desk.take(&request(1, Kind::Ccbs, &[1], &[1], 5));
-        assert_eq!(desk.connection_fell(&[1; 16]), Outcome::refused(Refusal::NoRow));
-        desk.take(&request(2, Kind::Ccbs, &[2], &[1], 3));
-        desk.take(&message(Carrier::Setup, [1; 16], Content::CcCancel));
-        assert_eq!(desk.connection_fell(&[2; 16]), Outcome::done());
-        let marked = desk.clone();
-        assert_eq!(desk.connection_fell(&[2; 16]), Outcome::done());
-        assert_eq!(desk, marked);
-        let exec = message(Carrier::Setup, [2; 16], Content::CcExecPossible);
-        assert_eq!(desk.look(&[1]), Outcome::done().sending(exec));
-        let cancel = message(Carrier::Setup, [2; 16], Content::CcCancel);
-        assert_eq!(desk.guard_runs_out(&[2; 16]), Outcome::done().sending(cancel).stopping(GUARD));
-    }
-
-    #[test]
-    fn request_11_a_ret_record_takes_either_carrier() {
-        let offered = |down: bool| {
-            let mut desk = desk(&[&[1]], true, true);
-            desk.take(&request(1, Kind::Ccbs, &[1], &[1], 3));
-            desk.records[0].down = down;
-            desk.look(&[1]);
-            desk
-        };
-        for down in [false, true] {
-            for carrier in Carrier::ALL {
-                let taken = |content: Content| offered(down).take(&message(carrier, [1; 16], content)).refusal;
-                let setup_or_facility = matches!(carrier, Carrier::Setup | Carrier::Facility);
-                let resume = if setup_or_facility { None } else { Some(Refusal::BadCarrier) };
-                assert_eq!(taken(Content::CcResume), resume);
-                let bad = matches!(carrier, Carrier::Setup | Carrier::Alerting);
-                assert_eq!(taken(Content::CcSuspend), bad.then_some(Refusal::BadCarrier));
-            }
-        }
-    }
-
-    #[test]
-    fn reading_15_starts() {
-        let too_many = (0..17).map(|n| line(&[n / 10, n % 10])).collect();
-        assert_eq!(LineDesk::start(too_many, false, false), Err(Refusal::OutOfRange));
-        let twice = vec![line(&[1, 2]), line(&[1, 2])];
-        assert_eq!(LineDesk::start(twice, false, false), Err(Refusal::OutOfRange));
-        for bad in [&[][..], &[10], &[1; 16]] {
-            assert_eq!(LineDesk::start(vec![line(bad)], false, false), Err(Refusal::OutOfRange));
-        }
-        assert!(LineDesk::start(vec![], false, false).is_ok());
-        assert!(LineDesk::start(vec![line(&[1; 15]), line(&[0]), line(&[0, 0])], false, false).is_ok());
-    }
-}
+mod tests;

@@ -1,5 +1,5 @@
 //! An independent reference program for the desks of document 01 and requests
-//! 2, 5 and 11 of document 02, written from the papers alone: 01-scope.md,
+//! 1, 2, 5 and 11 of document 02, written from the papers alone: 01-scope.md,
 //! READINGS.md, REPLAY.md, STORY.md, 02-change-requests.md, READINGS-02.md,
 //! REPLAY-02.md and H.450.9.
 
@@ -8,6 +8,7 @@ mod codec;
 mod coverage;
 mod line;
 mod make;
+mod meant;
 mod outcome;
 mod script;
 mod story;
@@ -24,7 +25,7 @@ independent make stop DIR
 independent make random SEED ENTRIES DIR
 independent make stored FILE
 independent coverage [--require-all] SCRIPT..
-independent story                         the five scenes of STORY.md on standard output";
+independent story                         the six scenes of STORY.md on standard output";
 
 /// Writes to standard output; a closed one is an error and no panic.
 fn print(text: &str) -> io::Result<()> {

@@ -2,14 +2,16 @@
 
 mod bad_input;
 pub mod clerk;
+mod clerk_meant;
 pub mod codec;
 pub mod line;
+mod line_meant;
 pub mod random;
 pub mod stop;
 pub mod stored;
 
-use crate::codec::{message_bytes, Carrier, Content, Identifier, Message, RequestFields};
-use crate::outcome::Kind;
+use crate::codec::{message_bytes, Carrier, Content, Elements, Identifier, RequestFields};
+use crate::outcome::{message, Kind};
 use crate::script::{take_entry, Answer, Session};
 use std::fs;
 use std::io;
@@ -112,9 +114,39 @@ pub fn spread_identifier(seed: u8) -> Identifier {
     identifier
 }
 
+/// How the makers speak of a record: its identifier, if it has one, and the place
+/// that the host names.
+#[derive(Clone, Copy, PartialEq)]
+pub struct Who {
+    pub identifier: Option<Identifier>,
+    pub place: u8,
+}
+
+/// "255 always is" absent.
+pub const ABSENT: u8 = 255;
+
+impl Who {
+    /// By its identifier. The place that goes with it is the first, of this record
+    /// or of another: "Where the message or the name has an identifier the desk
+    /// ignores it".
+    pub fn seed(seed: u8) -> Who {
+        Who { identifier: Some(spread_identifier(seed)), place: 0 }
+    }
+
+    /// By the place alone.
+    pub fn at(place: u8) -> Who {
+        Who { identifier: None, place }
+    }
+}
+
+/// "a byte 0 or 16 .. and so many bytes".
+fn id_bytes(identifier: &Option<Identifier>) -> Vec<u8> {
+    identifier.map_or(vec![0], |identifier| counted(&identifier))
+}
+
 /// Code 16, ask. `service` goes in as two bytes, in range or not.
 pub struct AskEntry<'a> {
-    pub identifier: Identifier,
+    pub identifier: Option<Identifier>,
     pub kind: Kind,
     pub number_a: &'a [u8],
     pub number_b: &'a [u8],
@@ -126,7 +158,7 @@ pub struct AskEntry<'a> {
 impl AskEntry<'_> {
     pub fn bytes(&self) -> Vec<u8> {
         let mut entry = vec![16];
-        entry.extend_from_slice(&self.identifier);
+        entry.extend(id_bytes(&self.identifier));
         entry.push(self.kind.number() as u8);
         entry.extend(counted(self.number_a));
         entry.extend(counted(self.number_b));
@@ -139,39 +171,41 @@ impl AskEntry<'_> {
 }
 
 /// Code 17, bytes reach the clerk's desk.
-pub fn to_clerk(user_a_busy: bool, bytes: &[u8]) -> Vec<u8> {
-    let mut entry = vec![17, u8::from(user_a_busy)];
+pub fn to_clerk(user_a_busy: bool, place: u8, bytes: &[u8]) -> Vec<u8> {
+    let mut entry = vec![17, u8::from(user_a_busy), place];
     entry.extend(counted(bytes));
     entry
 }
 
 /// Code 32, bytes reach the line desk.
-pub fn to_line(bytes: &[u8]) -> Vec<u8> {
-    let mut entry = vec![32];
+pub fn to_line(place: u8, bytes: &[u8]) -> Vec<u8> {
+    let mut entry = vec![32, place];
     entry.extend(counted(bytes));
     entry
 }
 
-/// Codes 18, 20, 22, 36 and 37: an identifier alone.
+/// Codes 18, 20, 22, 36 and 37: a name alone.
 pub const ACCEPT: u8 = 18;
 pub const USER_CANCELS: u8 = 20;
 pub const FELL_AT_CLERK: u8 = 22;
 pub const GUARD_RUNS_OUT: u8 = 36;
 pub const FELL_AT_LINE: u8 = 37;
 
-pub fn with_identifier(code: u8, identifier: Identifier) -> Vec<u8> {
+/// "name is an id and then a place".
+pub fn with_name(code: u8, who: Who) -> Vec<u8> {
     let mut entry = vec![code];
-    entry.extend_from_slice(&identifier);
+    entry.extend(id_bytes(&who.identifier));
+    entry.push(who.place);
     entry
 }
 
-/// Codes 19, 21 and 35: an identifier and a choice.
+/// Codes 19, 21 and 35: a name and a choice.
 pub const USER_A_FREE: u8 = 19;
 pub const TIMER: u8 = 21;
 pub const ACT: u8 = 35;
 
-pub fn with_choice(code: u8, identifier: Identifier, choice: u8) -> Vec<u8> {
-    let mut entry = with_identifier(code, identifier);
+pub fn with_choice(code: u8, who: Who, choice: u8) -> Vec<u8> {
+    let mut entry = with_name(code, who);
     entry.push(choice);
     entry
 }
@@ -207,9 +241,14 @@ pub const START_CLERK: u8 = 2;
 pub const PRINT_CLERK: u8 = 64;
 pub const PRINT_LINE: u8 = 65;
 
-/// The bytes of a message.
-pub fn bytes_of(carrier: Carrier, identifier: Identifier, content: Content) -> Vec<u8> {
-    message_bytes(&Message { carrier, identifier, content })
+/// The bytes of a message; the elements stand in it where its type and carrier
+/// have them.
+pub fn bytes_of(carrier: Carrier, identifier: Option<Identifier>, content: Content, elements: &Elements) -> Vec<u8> {
+    message_bytes(&message(carrier, identifier, content).with_elements(elements))
+}
+
+pub fn elements(number_a: &[u8], number_b: &[u8], service: u32) -> Elements {
+    Elements { number_a: number_a.to_vec(), number_b: number_b.to_vec(), service }
 }
 
 pub fn request_content(kind: Kind, number_a: &[u8], number_b: &[u8], service: u32, flags: u32) -> Content {
@@ -240,39 +279,57 @@ pub fn contents_without_requests() -> Vec<Content> {
 }
 
 /// A run of entries that begins with a fresh desk and prints the desk after
-/// every step, "so that the whole desk is compared".
+/// every step, "so that the whole desk is compared"; but for steps on the way to a
+/// state, where other cases print the same.
 pub struct Case {
     pub bytes: Vec<u8>,
     print: u8,
+    hushed: bool,
 }
 
 impl Case {
+    fn new(print: u8) -> Case {
+        Case { bytes: Vec::new(), print, hushed: false }
+    }
+
     pub fn at_clerk() -> Case {
-        let mut case = Case { bytes: Vec::new(), print: PRINT_CLERK };
+        let mut case = Case::new(PRINT_CLERK);
         case.step(&[START_CLERK]);
         case
     }
 
     pub fn at_line<D: AsRef<[u8]>>(lines: &[(D, u8)], settings: u8) -> Case {
-        let mut case = Case { bytes: Vec::new(), print: PRINT_LINE };
+        let mut case = Case::new(PRINT_LINE);
         case.step(&start_line(lines, settings));
         case
     }
 
     pub fn step(&mut self, entry: &[u8]) {
         self.bytes.extend_from_slice(entry);
-        self.bytes.push(self.print);
+        if !self.hushed {
+            self.bytes.push(self.print);
+        }
+    }
+
+    /// A step on the way, whose print would only make the script longer.
+    pub fn quiet(&mut self, entry: &[u8]) {
+        self.bytes.extend_from_slice(entry);
+    }
+
+    /// From here on the steps are on the way, or no longer.
+    pub fn hush(&mut self, hushed: bool) {
+        self.hushed = hushed;
     }
 
     /// Of these inputs all that are refused where the case stands: they change
-    /// nothing, so one follows the other.
-    pub fn step_refused(&mut self, inputs: &[Vec<u8>]) {
+    /// nothing, so one follows the other. Gives the rest back.
+    pub fn step_refused<'a>(&mut self, inputs: &'a [Vec<u8>]) -> Vec<&'a Vec<u8>> {
         let session = played(&self.bytes);
-        for input in inputs {
-            if is_refused(&session, input) {
-                self.step(input);
-            }
+        let (refused, taken): (Vec<_>, Vec<_>) = inputs.iter().partition(|input| is_refused(&session, input));
+        for input in refused {
+            self.step(input);
         }
+        taken
     }
 }
 
@@ -295,17 +352,26 @@ fn is_refused(session: &Session, input: &[u8]) -> bool {
 /// The values that are tried in an identifier's bytes, where all are alike.
 const EDGES: [u8; 15] = [0, 1, 2, 3, 5, 6, 9, 10, 12, 13, 15, 16, 127, 128, 255];
 
-/// Where the identifier stands in a message of a one-byte type and carrier.
-const IDENTIFIER: Range<usize> = 2..18;
+/// Where the identifier stands, if there is one, in a message of a one-byte type
+/// and carrier.
+const IDENTIFIER: Range<usize> = 3..19;
+
+/// The values that are tried in the place of a byte.
+pub fn values_at(bytes: &[u8], place: usize) -> Vec<u8> {
+    let raw = bytes.get(2) == Some(&16) && IDENTIFIER.contains(&place);
+    if raw {
+        EDGES.to_vec()
+    } else {
+        (0..=255).collect()
+    }
+}
 
 /// Bytes with a fault, or next to one: every truncation, every byte replaced by
-/// every other value (in the identifier by some; bad_input.rs has them all), and
-/// bytes behind the message.
+/// every other value (in the identifier by some), and bytes behind the message.
 pub fn damaged(bytes: &[u8]) -> Vec<Vec<u8>> {
     let mut damaged: Vec<Vec<u8>> = (0..bytes.len()).map(|length| bytes[..length].to_vec()).collect();
     for place in 0..bytes.len() {
-        let values = if IDENTIFIER.contains(&place) { EDGES.to_vec() } else { (0..=255).collect() };
-        for value in values {
+        for value in values_at(bytes, place) {
             let mut changed = bytes.to_vec();
             changed[place] = value;
             damaged.push(changed);
@@ -323,10 +389,10 @@ pub fn damaged(bytes: &[u8]) -> Vec<Vec<u8>> {
 /// and in numberB, service 16383 against 16384 (three bytes), flags 5 against 6.
 /// Put together by hand, as no writer makes those that are out of range; the
 /// numberB is a line's number of 15 digits, with one more behind it or not.
-pub fn requests_on_edges(type_number: u8, identifier: Identifier, line: &[u8; 15]) -> Vec<Vec<u8>> {
+pub fn requests_on_edges(type_number: u8, identifier: Option<Identifier>, line: &[u8; 15]) -> Vec<Vec<u8>> {
     let request = |number_a: &[u8], number_b: &[u8], service: &[u8], flags: u8| {
         let mut bytes = vec![type_number, 1];
-        bytes.extend_from_slice(&identifier);
+        bytes.extend(id_bytes(&identifier));
         bytes.extend(counted(number_a));
         bytes.extend(counted(number_b));
         bytes.extend_from_slice(service);

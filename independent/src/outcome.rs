@@ -143,7 +143,8 @@ pub const GUARD: u32 = 8;
 
 /// READINGS 12: "An outcome has: refusal or done; at most one message (the
 /// sent one or the reply); at most one notice; timers started; timers stopped;
-/// the clear-the-call word."
+/// the clear-the-call word." REPLAY-02, request 1: "An outcome tells the place of
+/// its record (`at`)".
 #[derive(Clone, PartialEq, Eq, Debug, Default)]
 pub struct Outcome {
     pub refusal: Option<Refusal>,
@@ -152,6 +153,9 @@ pub struct Outcome {
     pub stops: u32,
     pub notice: Option<Notice>,
     pub clear: bool,
+    /// "where it stands now, or stood until this step ended it"; none "for every
+    /// refused step, a denied request, a line report, a start".
+    pub at: Option<usize>,
 }
 
 impl Outcome {
@@ -187,9 +191,15 @@ impl Outcome {
         self.clear = clear;
         self
     }
+
+    /// The step was about the record at this place, unless it was refused.
+    pub fn about(mut self, place: usize) -> Outcome {
+        self.at = self.refusal.is_none().then_some(place);
+        self
+    }
 }
 
-/// A message without fields or with the small one given.
-pub fn message(carrier: Carrier, identifier: Identifier, content: Content) -> Message {
-    Message { carrier, identifier, content }
+/// A message without elements, its small field given.
+pub fn message(carrier: Carrier, identifier: impl Into<Option<Identifier>>, content: Content) -> Message {
+    Message { carrier, identifier: identifier.into(), content, elements: None }
 }

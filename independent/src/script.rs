@@ -1,9 +1,10 @@
 //! Plays a script: entries in, lines out, as REPLAY.md has them, and REPLAY-02.md
-//! in its sections on requests 2, 5 and 11.
+//! in its sections on requests 2, 5, 11 and 1.
 
 use crate::clerk::{Ask, ClerkDesk, FreeChoice, Timer};
 use crate::codec::{message_bytes, read_message, write_message, Fault, Identifier};
 use crate::line::{Act, Line, LineDesk};
+use crate::meant::Name;
 use crate::outcome::{Kind, Notice, Outcome};
 
 /// One entry of a script. Choices that REPLAY.md doesn't list have no entry.
@@ -12,18 +13,18 @@ pub enum Entry {
     StartLine { lines: Vec<Line>, keeps: bool, retains: bool },
     StartClerk,
     Ask(Ask),
-    ToClerk { user_a_busy: bool, bytes: Vec<u8> },
-    Accept(Identifier),
-    UserAFree(Identifier, FreeChoice),
-    UserCancels(Identifier),
-    TimerRunsOut(Identifier, Timer),
-    FellAtClerk(Identifier),
-    ToLine { bytes: Vec<u8> },
+    ToClerk { user_a_busy: bool, place: usize, bytes: Vec<u8> },
+    Accept(Name),
+    UserAFree(Name, FreeChoice),
+    UserCancels(Name),
+    TimerRunsOut(Name, Timer),
+    FellAtClerk(Name),
+    ToLine { place: usize, bytes: Vec<u8> },
     Report { digits: Vec<u8>, busy: bool },
     Look { digits: Vec<u8> },
-    Act(Identifier, Act),
-    GuardRunsOut(Identifier),
-    FellAtLine(Identifier),
+    Act(Name, Act),
+    GuardRunsOut(Name),
+    FellAtLine(Name),
     Write { bytes: Vec<u8>, place: usize, size: usize },
     PrintClerk,
     PrintLine,
@@ -58,13 +59,31 @@ impl Unread<'_> {
         self.raw(usize::from(count))
     }
 
-    /// "id is 16 bytes".
-    fn identifier(&mut self) -> Option<Identifier> {
-        let mut identifier = [0; 16];
-        for byte in identifier.iter_mut() {
-            *byte = self.byte()?;
+    /// Request 1: "id in an entry is a byte 0 or 16 (else it is a choice that is
+    /// not listed) and so many bytes; 0 says that there is none".
+    fn identifier(&mut self) -> Option<Option<Identifier>> {
+        match self.byte()? {
+            0 => Some(None),
+            16 => {
+                let mut identifier = [0; 16];
+                for byte in identifier.iter_mut() {
+                    *byte = self.byte()?;
+                }
+                Some(Some(identifier))
+            }
+            _ => None,
         }
-        Some(identifier)
+    }
+
+    /// "The place counts the desk's records from 0"; "one byte, always there". A
+    /// desk has at most 32 records, so that "255 always is" absent.
+    fn place(&mut self) -> Option<usize> {
+        self.byte().map(usize::from)
+    }
+
+    /// "name is an id and then a place".
+    fn name(&mut self) -> Option<Name> {
+        Some(Name { identifier: self.identifier()?, place: self.place()? })
     }
 
     fn yes_or_no(&mut self) -> Option<bool> {
@@ -117,35 +136,35 @@ impl Unread<'_> {
         Some(Entry::Ask(Ask { identifier, kind, number_a, number_b, service, can_keep, preference }))
     }
 
-    /// "id, 0 resume or 1 go on to recall".
+    /// "name; the choice", 0 resume or 1 go on to recall.
     fn user_a_free(&mut self) -> Option<Entry> {
-        let identifier = self.identifier()?;
+        let name = self.name()?;
         let choice = if self.yes_or_no()? { FreeChoice::Recall } else { FreeChoice::Resume };
-        Some(Entry::UserAFree(identifier, choice))
+        Some(Entry::UserAFree(name, choice))
     }
 
-    /// "id, 1 T1, 2 T2, 3 T3".
+    /// "name; the choice", 1 T1, 2 T2, 3 T3.
     fn timer(&mut self) -> Option<Entry> {
-        let identifier = self.identifier()?;
+        let name = self.name()?;
         let timer = match self.byte()? {
             1 => Timer::T1,
             2 => Timer::T2,
             3 => Timer::T3,
             _ => return None,
         };
-        Some(Entry::TimerRunsOut(identifier, timer))
+        Some(Entry::TimerRunsOut(name, timer))
     }
 
-    /// "id, 1 alerted, 2 call failed, 3 cancel".
+    /// "name; the act", 1 alerted, 2 call failed, 3 cancel.
     fn act(&mut self) -> Option<Entry> {
-        let identifier = self.identifier()?;
+        let name = self.name()?;
         let act = match self.byte()? {
             1 => Act::Alerted,
             2 => Act::CallFailed,
             3 => Act::Cancel,
             _ => return None,
         };
-        Some(Entry::Act(identifier, act))
+        Some(Entry::Act(name, act))
     }
 
     /// "N, N bytes that hold a message, place P, size S".
@@ -161,18 +180,18 @@ impl Unread<'_> {
             1 => self.start_line(),
             2 => Some(Entry::StartClerk),
             16 => self.ask(),
-            17 => Some(Entry::ToClerk { user_a_busy: self.yes_or_no()?, bytes: self.counted()? }),
-            18 => Some(Entry::Accept(self.identifier()?)),
+            17 => Some(Entry::ToClerk { user_a_busy: self.yes_or_no()?, place: self.place()?, bytes: self.counted()? }),
+            18 => Some(Entry::Accept(self.name()?)),
             19 => self.user_a_free(),
-            20 => Some(Entry::UserCancels(self.identifier()?)),
+            20 => Some(Entry::UserCancels(self.name()?)),
             21 => self.timer(),
-            22 => Some(Entry::FellAtClerk(self.identifier()?)),
-            32 => Some(Entry::ToLine { bytes: self.counted()? }),
+            22 => Some(Entry::FellAtClerk(self.name()?)),
+            32 => Some(Entry::ToLine { place: self.place()?, bytes: self.counted()? }),
             33 => Some(Entry::Report { digits: self.counted()?, busy: self.yes_or_no()? }),
             34 => Some(Entry::Look { digits: self.counted()? }),
             35 => self.act(),
-            36 => Some(Entry::GuardRunsOut(self.identifier()?)),
-            37 => Some(Entry::FellAtLine(self.identifier()?)),
+            36 => Some(Entry::GuardRunsOut(self.name()?)),
+            37 => Some(Entry::FellAtLine(self.name()?)),
             48 => self.write(),
             64 => Some(Entry::PrintClerk),
             65 => Some(Entry::PrintLine),
@@ -231,18 +250,18 @@ impl Session {
                 step(Outcome::done())
             }
             Entry::Ask(ask) => step(self.clerk.ask(ask)),
-            Entry::ToClerk { user_a_busy, bytes } => self.clerk_gets(*user_a_busy, bytes),
-            Entry::Accept(identifier) => step(self.clerk.accept(identifier)),
-            Entry::UserAFree(identifier, choice) => step(self.clerk.user_a_free(identifier, *choice)),
-            Entry::UserCancels(identifier) => step(self.clerk.user_cancels(identifier)),
-            Entry::TimerRunsOut(identifier, timer) => step(self.clerk.timer_runs_out(identifier, *timer)),
-            Entry::FellAtClerk(identifier) => step(self.clerk.connection_fell(identifier)),
-            Entry::ToLine { bytes } => self.line_gets(bytes),
+            Entry::ToClerk { user_a_busy, place, bytes } => self.clerk_gets(*user_a_busy, *place, bytes),
+            Entry::Accept(name) => step(self.clerk.accept(name)),
+            Entry::UserAFree(name, choice) => step(self.clerk.user_a_free(name, *choice)),
+            Entry::UserCancels(name) => step(self.clerk.user_cancels(name)),
+            Entry::TimerRunsOut(name, timer) => step(self.clerk.timer_runs_out(name, *timer)),
+            Entry::FellAtClerk(name) => step(self.clerk.connection_fell(name)),
+            Entry::ToLine { place, bytes } => self.line_gets(*place, bytes),
             Entry::Report { digits, busy } => step(self.line.report(digits, *busy)),
             Entry::Look { digits } => step(self.line.look(digits)),
-            Entry::Act(identifier, act) => step(self.line.act(identifier, *act)),
-            Entry::GuardRunsOut(identifier) => step(self.line.guard_runs_out(identifier)),
-            Entry::FellAtLine(identifier) => step(self.line.connection_fell(identifier)),
+            Entry::Act(name, act) => step(self.line.act(name, *act)),
+            Entry::GuardRunsOut(name) => step(self.line.guard_runs_out(name)),
+            Entry::FellAtLine(name) => step(self.line.connection_fell(name)),
             Entry::Write { bytes, place, size } => write(bytes, *place, *size),
             Entry::PrintClerk => Answer::Printed { lines: clerk_lines(&self.clerk) },
             Entry::PrintLine => Answer::Printed { lines: line_lines(&self.line) },
@@ -262,17 +281,18 @@ impl Session {
 
     /// "`left` is, for 17 and 32, how many bytes follow the message that was
     /// read (all of them where the bytes are refused)": a message that the
-    /// desk refuses has been read, so there it is what follows the message.
-    fn clerk_gets(&mut self, user_a_busy: bool, bytes: &[u8]) -> Answer {
+    /// desk refuses has been read, so there it is what follows the message. "The
+    /// place of an entry is handed to the desk with the message".
+    fn clerk_gets(&mut self, user_a_busy: bool, place: usize, bytes: &[u8]) -> Answer {
         match read_message(bytes) {
-            Ok((message, rest)) => heard(self.clerk.take(&message, user_a_busy), rest),
+            Ok((message, rest)) => heard(self.clerk.take(&message, place, user_a_busy), rest),
             Err(fault) => unread(fault, bytes),
         }
     }
 
-    fn line_gets(&mut self, bytes: &[u8]) -> Answer {
+    fn line_gets(&mut self, place: usize, bytes: &[u8]) -> Answer {
         match read_message(bytes) {
-            Ok((message, rest)) => heard(self.line.take(&message), rest),
+            Ok((message, rest)) => heard(self.line.take(&message, place), rest),
             Err(fault) => unread(fault, bytes),
         }
     }
@@ -301,6 +321,11 @@ fn hex(bytes: &[u8]) -> String {
     bytes.iter().map(|b| format!("{b:02x}")).collect()
 }
 
+/// Request 1: an identifier that there is not "prints as `-`".
+fn identifier_text(identifier: &Option<Identifier>) -> String {
+    identifier.map_or("-".to_string(), |identifier| hex(&identifier))
+}
+
 /// "digits as themselves, `-` withheld".
 fn digits_text(digits: &[u8]) -> String {
     if digits.is_empty() {
@@ -320,7 +345,7 @@ fn clerk_record_line(record: &crate::clerk::Record) -> String {
     let connection = record.connection.map_or("-".to_string(), |c| c.number().to_string());
     format!(
         "c {} {} {} {} {} {} {} {} {} {}",
-        hex(&record.identifier),
+        identifier_text(&record.identifier),
         record.kind.number(),
         digits_text(&record.number_a),
         digits_text(&record.number_b),
@@ -345,7 +370,7 @@ fn clerk_lines(desk: &ClerkDesk) -> Vec<String> {
 fn line_record_line(record: &crate::line::Record) -> String {
     format!(
         "r {} {} {} {} {} {} {} {} {} {} {}",
-        hex(&record.identifier),
+        identifier_text(&record.identifier),
         record.kind.number(),
         digits_text(&record.number_a),
         digits_text(&record.number_b),
@@ -371,17 +396,17 @@ fn line_lines(desk: &LineDesk) -> Vec<String> {
     lines
 }
 
-/// The place of a fault in decimal, "`-` for nothing".
-fn place_text(fault_place: Option<usize>) -> String {
-    fault_place.map_or("-".to_string(), |place| place.to_string())
+/// A place in decimal, that of a fault or of a record, "`-` for nothing".
+fn place_text(place: Option<usize>) -> String {
+    place.map_or("-".to_string(), |place| place.to_string())
 }
 
-/// "`N refusal message starts stops notice clear left place`. `refusal` is 0 or
+/// "`N refusal message starts stops notice clear left place at`. `refusal` is 0 or
 /// document 01's number."
 fn step_line(number: usize, outcome: &Outcome, left: usize, fault_place: Option<usize>) -> String {
     let message = outcome.message.as_ref().map_or("-".to_string(), |m| hex(&message_bytes(m)));
     format!(
-        "{} {} {} {} {} {} {} {} {}",
+        "{} {} {} {} {} {} {} {} {} {}",
         number,
         outcome.refusal.map_or(0, |r| r.number()),
         message,
@@ -390,7 +415,8 @@ fn step_line(number: usize, outcome: &Outcome, left: usize, fault_place: Option<
         outcome.notice.map_or(0, Notice::number),
         bit(outcome.clear),
         left,
-        place_text(fault_place)
+        place_text(fault_place),
+        place_text(outcome.at)
     )
 }
 
@@ -427,186 +453,4 @@ pub fn play_script(script: &[u8], mut print: impl FnMut(&str)) {
 }
 
 #[cfg(test)]
-mod tests {
-    use super::*;
-
-    fn played(script: &[u8]) -> String {
-        let mut text = String::new();
-        play_script(script, |part| text.push_str(part));
-        text
-    }
-
-    #[test]
-    fn an_empty_script_prints_nothing() {
-        assert_eq!(played(&[]), "");
-    }
-
-    #[test]
-    fn at_the_start_both_desks_are_empty() {
-        assert_eq!(played(&[64, 65]), "0 c 0\n1 l 0 0\n");
-    }
-
-    #[test]
-    fn stop_names_the_entry() {
-        // "Where the script ends inside an entry, or an entry has a code or a
-        // choice not listed here, the program prints `stop N`".
-        assert_eq!(played(&[2, 3]), "0 0 - 0 0 0 0 0 -\nstop 1\n");
-        assert_eq!(played(&[17, 0]), "stop 0\n");
-        assert_eq!(played(&[17, 2, 0]), "stop 0\n");
-        assert_eq!(played(&[1, 0, 4]), "stop 0\n");
-        assert_eq!(played(&[0]), "stop 0\n");
-    }
-
-    #[test]
-    fn write_prints_refusal_length_and_buffer() {
-        assert_eq!(played(&[48, 0, 0, 2]), "0 1 0 eeee 0\n");
-        assert_eq!(played(&[48, 1, 13, 0, 0]), "0 2 0 - 0\n");
-        let mut script = vec![48, 18, 10, 4];
-        script.extend_from_slice(&[0xAB; 16]);
-        script.extend_from_slice(&[1, 20]);
-        let expected = format!("0 0 18 ee0a04{}ee -\n", "ab".repeat(16));
-        assert_eq!(played(&script), expected);
-    }
-
-    #[test]
-    fn left_counts_what_follows() {
-        let mut script = vec![17, 1, 20, 10, 4];
-        script.extend_from_slice(&[1; 16]);
-        script.extend_from_slice(&[8, 8]);
-        script.extend_from_slice(&[32, 3, 10, 6, 0]);
-        assert_eq!(played(&script), "0 6 - 0 0 0 0 2 -\n1 2 - 0 0 0 0 3 1\n");
-    }
-
-    /// Bytes in hexadecimal as REPLAY-02 has them: "`a0..af` stands for the
-    /// sixteen bytes a0, a1 and so on".
-    fn from_hex(text: &str) -> Vec<u8> {
-        let mut bytes = Vec::new();
-        for word in text.split_whitespace() {
-            match word {
-                "a0..af" => bytes.extend(0xA0..=0xAF),
-                _ => bytes.push(u8::from_str_radix(word, 16).unwrap()),
-            }
-        }
-        bytes
-    }
-
-    #[test]
-    fn the_examples_of_request_2() {
-        let examples = [
-            ("20 01 06", "0 1 - 0 0 0 0 1 1"),
-            ("20 01 0d", "1 2 - 0 0 0 0 1 0"),
-            ("11 00 03 05 80 80", "2 1 - 0 0 0 0 3 1"),
-            ("20 15 01 01 a0..af 02 01 0a", "3 2 - 0 0 0 0 21 20"),
-            ("30 13 03 04 a0..af 02 00 02", "4 2 0 eeee 18"),
-            ("20 12 06 01 a0..af", "5 6 0704a0..af02 0 0 0 0 0 -"),
-        ];
-        let script: Vec<u8> = examples.iter().flat_map(|(entry, _)| from_hex(entry)).collect();
-        let lines: Vec<&str> = examples.iter().map(|(_, line)| *line).collect();
-        let identifier: String = (0xA0..=0xAF).map(|byte| format!("{byte:02x}")).collect();
-        let expected = format!("{}\n", lines.join("\n")).replace("a0..af", &identifier);
-        assert_eq!(played(&script), expected);
-    }
-
-    #[test]
-    fn both_desks_and_the_write_tell_every_truncation() {
-        // A ccbsRequest in Setup: numberA 12, numberB 300, service 300, flags 1.
-        let good = from_hex("01 01 a0..af 02 01 02 03 03 00 00 ac 02 01");
-        for length in 0..good.len() {
-            let counted = [&[length as u8], &good[..length]].concat();
-            let script = [&[17, 1], &counted[..], &[32], &counted, &[48], &counted, &[0, 1, 64, 65]].concat();
-            let step = format!("1 - 0 0 0 0 {length} {length}");
-            let expected = format!("0 {step}\n1 {step}\n2 1 0 ee {length}\n3 c 0\n4 l 0 0\n");
-            assert_eq!(played(&script), expected);
-        }
-    }
-
-    #[test]
-    fn a_place_is_told_for_refused_bytes_alone() {
-        // "`-` in every other line, a 2 of an ask or of a start among them".
-        assert_eq!(played(&from_hex("01 01 00 03 00")), "0 2 - 0 0 0 0 0 -\n");
-        assert_eq!(played(&from_hex("10 a0..af 01 01 0a 01 01 00 00 00 00")), "0 2 - 0 0 0 0 0 -\n");
-        assert_eq!(played(&from_hex("22 00")), "0 10 - 0 0 0 0 0 -\n");
-        // A message that is read and refused, bytes behind it or not.
-        assert_eq!(played(&from_hex("11 00 12 06 01 a0..af")), "0 3 - 0 0 0 0 0 -\n");
-        assert_eq!(played(&from_hex("11 00 14 0a 04 a0..af 80 80")), "0 6 - 0 0 0 0 2 -\n");
-        // "`-` else, and so with 12".
-        assert_eq!(played(&from_hex("30 12 0a 04 a0..af 00 02")), "0 12 0 eeee -\n");
-        assert_eq!(played(&from_hex("30 12 0a 04 a0..af 03 02")), "0 12 0 eeee -\n");
-    }
-
-    /// The lines behind a prefix of entries; `ID` in a line is a0 to af.
-    fn lines_behind(script: &str, count: usize) -> Vec<String> {
-        let identifier: String = (0xA0..=0xAF).map(|byte| format!("{byte:02x}")).collect();
-        let text = played(&from_hex(script)).replace(&identifier, "ID");
-        text.lines().skip(count).map(str::to_string).collect()
-    }
-
-    #[test]
-    fn request_5_the_kind_is_printed_as_it_is_now() {
-        // CCNR, can-keep; the result with keep in Connect; then twice: offered,
-        // accepted, busy again.
-        let again = "11 00 12 05 03 a0..af 12 a0..af 11 00 13 07 04 a0..af 01";
-        let start = "10 a0..af 02 00 01 05 00 00 01 00 11 00 13 03 02 a0..af 01";
-        let lines = lines_behind(&format!("{start} 40 {again} 40 {again} 40"), 2);
-        let expected = [
-            "2 c 1",
-            "c ID 2 - 5 0 1 1 1 2 0",
-            "3 0 - 4 0 4 0 0 -",
-            "4 0 0601ID 0 4 0 0 0 -",
-            "5 0 - 0 0 10 0 0 -",
-            "6 c 1",
-            "c ID 1 - 5 0 1 1 1 2 0",
-            "7 0 - 4 0 4 0 0 -",
-            "8 0 0601ID 0 4 0 0 0 -",
-            "9 0 - 0 0 7 0 0 -",
-            "10 c 1",
-            "c ID 1 - 5 0 1 1 1 2 0",
-        ];
-        assert_eq!(lines, expected);
-        // The line's end: a line that allows CCNR alone, busy at the request.
-        let start = "01 01 01 05 02 03 21 01 05 01 20 17 02 01 a0..af 00 01 05 00 01 21 01 05 00 22 01 05";
-        let lines = lines_behind(&format!("{start} 21 01 05 01 20 12 06 01 a0..af 41"), 5);
-        let expected =
-            ["5 0 - 0 0 0 0 0 -", "6 0 0704ID01 0 0 0 0 0 -", "7 l 1 1", "l 5 2 1", "r ID 1 - 5 0 1 1 1 1 0 0"];
-        assert_eq!(lines, expected);
-    }
-
-    #[test]
-    fn request_11_the_connection_fell_at_both_ends() {
-        // 22 and 37 print a step line: refusal 0, 6 or 7 and nothing else.
-        let nothing = "0 - 0 0 0 0 0 -";
-        assert_eq!(played(&from_hex("16 a0..af 25 a0..af")), "0 6 - 0 0 0 0 0 -\n1 6 - 0 0 0 0 0 -\n");
-        let ask = "10 a0..af 01 00 01 05 00 00 01 00";
-        let lines = lines_behind(&format!("{ask} 16 a0..af 11 00 13 03 02 a0..af 01 16 a0..af 16 a0..af 40"), 1);
-        let expected = [
-            "1 7 - 0 0 0 0 0 -".to_string(),
-            "2 0 - 2 1 1 0 0 -".to_string(),
-            format!("3 {nothing}"),
-            format!("4 {nothing}"),
-            "5 c 1".to_string(),
-            "c ID 1 - 5 0 1 1 1 2 1".to_string(),
-        ];
-        assert_eq!(lines, expected);
-        // A desk that keeps and retains; the offer then goes in Setup.
-        let start = "01 01 01 05 03 03 20 17 01 01 a0..af 00 01 05 00 01";
-        let lines = lines_behind(&format!("{start} 25 a0..af 22 01 05 41"), 2);
-        let expected = [
-            format!("2 {nothing}"),
-            "3 0 0501ID 0 0 0 0 0 -".to_string(),
-            "4 l 1 1".to_string(),
-            "l 5 3 0".to_string(),
-            "r ID 1 - 5 0 1 1 2 0 0 1".to_string(),
-        ];
-        assert_eq!(lines, expected);
-    }
-
-    #[test]
-    fn an_ask_and_a_print() {
-        let mut script = vec![16];
-        script.extend_from_slice(&[0x0F; 16]);
-        script.extend_from_slice(&[1, 2, 4, 2, 1, 9, 0x2C, 0x01, 1, 2, 64]);
-        let id = "0f".repeat(16);
-        let expected = format!("0 0 0101{id}0204020109ac0205 1 0 0 0 0 -\n1 c 1\nc {id} 1 42 9 300 1 - - 1 0\n");
-        assert_eq!(played(&script), expected);
-    }
-}
+mod tests;

@@ -1,4 +1,4 @@
-//! The story of STORY.md: five scenes, each on two desks of its own with two
+//! The story of STORY.md: six scenes, each on two desks of its own with two
 //! wires between them, printed as ladders.
 
 mod ladder;
@@ -6,17 +6,38 @@ mod scenes;
 mod words;
 
 use self::ladder::End;
-use self::scenes::{Event, House, Scene, Tag};
+use self::scenes::{Event, House, Place, Scene, Tag};
+use self::words::About;
 use crate::clerk::{Ask, Timer};
 use crate::codec::{message_bytes, read_message, Carrier, Content, Identifier, Message};
 use crate::line::{Act, Line, LineDesk};
+use crate::meant::Name;
 use crate::outcome::{message, Kind, Outcome};
 use crate::script::Session;
 use std::collections::VecDeque;
 
-/// "sixteen bytes, each of the tag's value".
-fn identifier(tag: Tag) -> Identifier {
-    [tag; 16]
+/// "sixteen bytes, each of the tag's value"; none for the tag `--`.
+fn identifier(tag: Tag) -> Option<Identifier> {
+    match tag {
+        Tag::Id(tag) => Some([tag; 16]),
+        Tag::Nameless | Tag::At(_) => None,
+    }
+}
+
+/// "255 always is" absent.
+const NO_PLACE: usize = 255;
+
+fn place_number(place: Place) -> usize {
+    place.map_or(NO_PLACE, usize::from)
+}
+
+/// How an act or a timer report names its record.
+fn name(tag: Tag) -> Name {
+    let place = match tag {
+        Tag::At(place) => Some(place),
+        _ => None,
+    };
+    Name { identifier: identifier(tag), place: place_number(place) }
 }
 
 fn digits(text: &str) -> Vec<u8> {
@@ -78,27 +99,32 @@ impl Stage {
         match event {
             Event::Say(number) => scenes::narration(number).into_iter().map(str::to_string).collect(),
             Event::Records => self.records(),
-            Event::Stray(tag) => self.stray(event, tag),
-            Event::ClerkHears | Event::LineHears => match self.wire_to(event.end()).pop_front() {
-                Some(bytes) => self.hear(event, &bytes),
-                // "no desk steps; one row, whose middle is a name row with
-                // `nothing is under way` in place of the name (no tag)".
-                None => ladder::block(event.end(), &[], &[ladder::name_row(event.end(), "nothing is under way")]),
-            },
+            // "a result (type 3) with keep 1 in Connect and the identifier of tag T".
+            Event::Stray(tag) => {
+                self.stray(event, message(Carrier::Connect, identifier(tag), Content::RequestResult { keep: 1 }))
+            }
+            // "a ccCancel (type 10) in Release Complete without an identifier".
+            Event::StrayCancel => self.stray(event, message(Carrier::ReleaseComplete, None, Content::CcCancel)),
+            Event::ClerkHears | Event::LineHears | Event::ClerkHearsAt(_) | Event::LineHearsAt(_) => {
+                match self.wire_to(event.end()).pop_front() {
+                    Some(bytes) => self.hear(event, &bytes),
+                    // "no desk steps; one row, whose middle is a name row with
+                    // `nothing is under way` in place of the name (no tag)".
+                    None => ladder::block(event.end(), &[], &[ladder::name_row(event.end(), "nothing is under way")]),
+                }
+            }
             _ => self.step(event),
         }
     }
 
     fn records(&self) -> Vec<String> {
-        let clerk = self.desks.clerk.records.iter().map(words::clerk_record).collect();
-        let line = self.desks.line.records.iter().map(words::line_record).collect();
+        let clerk = self.desks.clerk.records.iter().enumerate().map(words::clerk_record).collect();
+        let line = self.desks.line.records.iter().enumerate().map(words::line_record).collect();
         ladder::records(clerk, line)
     }
 
-    /// "no desk steps: a result (type 3) with keep 1 in Connect and the
-    /// identifier of tag T goes behind the last message of the wire to the clerk".
-    fn stray(&mut self, event: Event, tag: Tag) -> Vec<String> {
-        let stray = message(Carrier::Connect, identifier(tag), Content::RequestResult { keep: 1 });
+    /// "no desk steps: .. goes behind the last message of the wire to the clerk".
+    fn stray(&mut self, event: Event, stray: Message) -> Vec<String> {
         self.to_clerk.push_back(message_bytes(&stray));
         ladder::block(event.end(), &words::of_step(event, &Outcome::done(), None), &ladder::stray(&stray))
     }
@@ -109,18 +135,20 @@ impl Stage {
         let before = self.desks.clone();
         match read_message(bytes) {
             Ok((heard, _)) => {
-                let outcome = self.take(event.end(), &heard);
+                let outcome = self.take(event, &heard);
                 self.tell(event, &before, Some(&heard), outcome)
             }
             Err(fault) => self.tell(event, &before, None, Outcome::refused(fault.refusal)),
         }
     }
 
-    /// "The host's word on User A is always "not busy"."
-    fn take(&mut self, end: End, heard: &Message) -> Outcome {
-        match end {
-            End::Clerk => self.desks.clerk.take(heard, false),
-            End::Line => self.desks.line.take(heard),
+    /// "The host's word on User A is always "not busy"." It names a place in the
+    /// events that say so.
+    fn take(&mut self, event: Event, heard: &Message) -> Outcome {
+        let place = place_number(event.place());
+        match event.end() {
+            End::Clerk => self.desks.clerk.take(heard, place, false),
+            End::Line => self.desks.line.take(heard, place),
         }
     }
 
@@ -138,18 +166,18 @@ impl Stage {
         let Session { clerk, line } = &mut self.desks;
         Some(match event {
             Event::Ask(tag) => clerk.ask(&ask_of(tag, self.preference)?),
-            Event::Accept(tag) => clerk.accept(&identifier(tag)),
-            Event::Cancel(tag) => clerk.user_cancels(&identifier(tag)),
-            Event::T2(tag) => clerk.timer_runs_out(&identifier(tag), Timer::T2),
-            Event::ClerkFell(tag) => clerk.connection_fell(&identifier(tag)),
+            Event::Accept(tag) => clerk.accept(&name(tag)),
+            Event::Cancel(tag) => clerk.user_cancels(&name(tag)),
+            Event::T2(tag) => clerk.timer_runs_out(&name(tag), Timer::T2),
+            Event::ClerkFell(tag) => clerk.connection_fell(&name(tag)),
             Event::Busy(number) => line.report(&digits(number), true),
             Event::Free(number) => line.report(&digits(number), false),
             Event::Look(number) => line.look(&digits(number)),
-            Event::Alerted(tag) => line.act(&identifier(tag), Act::Alerted),
-            Event::Withdraw(tag) => line.act(&identifier(tag), Act::Cancel),
-            Event::LineFell(tag) => line.connection_fell(&identifier(tag)),
-            Event::ClerkHears | Event::LineHears => return None,
-            Event::Stray(_) | Event::Records | Event::Say(_) => return None,
+            Event::Alerted(tag) => line.act(&name(tag), Act::Alerted),
+            Event::Withdraw(tag) => line.act(&name(tag), Act::Cancel),
+            Event::LineFell(tag) => line.connection_fell(&name(tag)),
+            Event::ClerkHears | Event::LineHears | Event::ClerkHearsAt(_) | Event::LineHearsAt(_) => return None,
+            Event::Stray(_) | Event::StrayCancel | Event::Records | Event::Say(_) => return None,
         })
     }
 
@@ -172,24 +200,30 @@ impl Stage {
         if let Some(sent) = &sent {
             self.wire_to(end.other()).push_back(message_bytes(sent));
         }
-        let request = request_of(event, heard, sent.as_ref());
-        let states = request.map(|r| (words::state(before, end, &r), words::state(&self.desks, end, &r)));
+        let about = self.about(event, before, heard, &outcome);
         let mut middle = Vec::new();
         middle.extend(heard.into_iter().flat_map(|m| ladder::arrived(end, m)));
         middle.extend(sent.iter().flat_map(|m| ladder::sent(end, m)));
-        ladder::block(end, &words::of_step(event, &outcome, states), &middle)
+        ladder::block(end, &words::of_step(event, &outcome, about), &middle)
     }
-}
 
-/// "The step's request is the event's tag; for `clerk hears` and `line hears`
-/// the identifier of the message that arrived; for `look` the identifier of the
-/// message that is sent, and no row 7 if none is sent. `busy`, `free` and
-/// `stray` have no row 7."
-fn request_of(event: Event, heard: Option<&Message>, sent: Option<&Message>) -> Option<Identifier> {
-    match event {
-        Event::ClerkHears | Event::LineHears => heard.map(|m| m.identifier),
-        Event::Look(_) => sent.map(|m| m.identifier),
-        _ => event.tag().map(identifier),
+    /// "The step's request is the event's tag; for a hearing the identifier of the
+    /// message that arrived; for `look` that of the message that is sent, and no row
+    /// 7 if none is sent. .. Without an identifier it is the record that the outcome
+    /// tells the place of; where it tells none, the record at the place that the
+    /// event names; no row 7 if there is neither."
+    fn about(&self, event: Event, before: &Session, heard: Option<&Message>, outcome: &Outcome) -> Option<About> {
+        let end = event.end();
+        let identifier = match event {
+            Event::Look(_) => outcome.message.as_ref()?.identifier,
+            Event::Busy(_) | Event::Free(_) => return None,
+            _ => heard.map_or_else(|| event.tag().and_then(identifier), |heard| heard.identifier),
+        };
+        if let Some(identifier) = identifier {
+            return Some(words::about_identifier(before, &self.desks, end, &identifier));
+        }
+        let place = outcome.at.or_else(|| event.place().map(usize::from))?;
+        Some(words::about_place(before, &self.desks, end, place))
     }
 }
 
@@ -294,7 +328,7 @@ mod tests {
     }
 
     #[test]
-    fn five_scenes_each_with_its_title() {
+    fn six_scenes_each_with_its_title() {
         let text = text();
         let titles: Vec<&str> = text.lines().filter(|line| line.starts_with("Scene ")).collect();
         let expected = [
@@ -303,9 +337,10 @@ mod tests {
             "Scene 3. A cancel meets a ring-back",
             "Scene 4. A stray reply",
             "Scene 5. The connection falls",
+            "Scene 6. Two callers without a name",
         ];
         assert_eq!(titles, expected);
-        assert!(text.starts_with("TOLLHERRING: THREE LESSONS IN FIVE SCENES\n"));
+        assert!(text.starts_with("TOLLHERRING: THREE LESSONS IN SIX SCENES\n"));
     }
 
     /// Each line of the narration is told, and none that there is not.
@@ -320,15 +355,15 @@ mod tests {
         }
         told.sort();
         told.dedup();
-        assert_eq!(told, (1..=16).collect::<Vec<_>>());
-        assert_eq!(scenes::narration(17), None);
+        assert_eq!(told, (1..=22).collect::<Vec<_>>());
+        assert_eq!(scenes::narration(23), None);
     }
 
     /// Scene 5: the mark goes up at the house's end, then at the clerk's, and
     /// goes with the record.
     #[test]
     fn the_marks_of_scene_5() {
-        let [.., falls] = scenes::SCENES;
+        let [.., falls, _] = scenes::SCENES;
         let lines = scene_lines(5, &falls);
         let records: Vec<&String> = lines.iter().filter(|line| line.contains("(records)")).collect();
         let row = |left, right| ladder::row(left, "              (records)", right);
@@ -339,6 +374,28 @@ mod tests {
             row("no record", "no record"),
         ];
         assert_eq!(records, expected.iter().collect::<Vec<_>>());
+    }
+
+    /// Scene 6: no place keeps the stray ccCancel off, a wrong one ends the second
+    /// request at the clerk's desk alone; both are let go in the end.
+    #[test]
+    fn the_records_of_scene_6() {
+        let [.., nameless] = scenes::SCENES;
+        let mut stage = Stage::of(&nameless);
+        let mut counts = Vec::new();
+        for event in nameless.prelude.iter().copied().chain(nameless.events()) {
+            stage.play(event);
+            if matches!(event, Event::StrayCancel | Event::Records) {
+                counts.push((stage.desks.clerk.records.len(), stage.desks.line.records.len()));
+            }
+        }
+        assert_eq!(counts, [(2, 2), (2, 2), (2, 2), (2, 2), (1, 2), (0, 0)]);
+        assert!(stage.to_clerk.is_empty() && stage.to_line.is_empty());
+        let lines = scene_lines(6, &nameless);
+        let told = |text: &str| lines.iter().filter(|line| line.contains(text)).count();
+        assert_eq!((told("the host names no place"), told("refused with 6"), told("notice \"failed\"")), (2, 2, 1));
+        // No message and no record of this scene has a tag.
+        assert_eq!(told("#34") + told("#12"), 0);
     }
 
     #[test]

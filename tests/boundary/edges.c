@@ -1,6 +1,6 @@
 /* What a script's lines cannot show. Plays a script from standard input, and before each entry is played for good it is tried on copies of the desks, everything
- * fenced: with no room, one byte too little, just enough and more; with each plain number out of its range; and on desks that hold garbage. Whole memories are
- * compared. Then bytes are spoilt in known places, and desks are filled. With the word `short` one byte less is lent than is said, and a fence has to end the program. */
+ * fenced: with no room, one byte too little, just enough and more; with each plain number out of its range; with other named places; and on desks that hold
+ * garbage. Whole memories are compared. Then bytes are spoilt in known places, and desks are filled. With the word `short` one byte less is lent than is said, and a fence has to end the program. */
 #include <stdio.h>
 #include <stdlib.h>
 #include <string.h>
@@ -47,14 +47,14 @@ static uint64_t on_things(const void *numbers, void *const at[])
 /* one call between fences: it must leave what is told, and answer the outcome's refusal */
 static void try_fenced(const struct entry *e, const struct desks *before, const struct told *after, size_t room, int at_end)
 {
-    static const tollherring_outcome never = {99, 99, 99, 99, 99, 99, 99, 99, 99};
+    static const tollherring_outcome never = {99, 99, 99, 99, 99, 99, 99, 99, 99, 99, 99};
     struct with_room w;
     uint8_t fresh[64];
     struct thing things[] = {
         {&before->clerk, &after->desks.clerk, sizeof before->clerk},
-        {e->identifier, e->identifier, 16},
-        {e->number_a, e->number_a, 16},
-        {e->number_b, e->number_b, 16},
+        {&e->identifier, &e->identifier, sizeof e->identifier},
+        {&e->number_a, &e->number_a, sizeof e->number_a},
+        {&e->number_b, &e->number_b, sizeof e->number_b},
         {e->bytes, e->bytes, 0},
         {e->lines, e->lines, 0},
         {NULL, NULL, 0},
@@ -86,16 +86,26 @@ static void told_nothing(struct told *t, const struct desks *before, uint64_t re
 }
 
 /* a place is told exactly where the bytes could not be read, and it is the reader's own: of a script's numbers none is out of range beside bytes */
-static void placed(const struct entry *e, const tollherring_outcome *o)
+static void faulty(const struct entry *e, const tollherring_outcome *o)
 {
-    uint8_t identifier[16], number_a[16], number_b[16];
+    tollherring_identifier identifier;
+    tollherring_number number_a, number_b;
     tollherring_message message;
     uint64_t taken, place = 0, refusal = 0;
     if (e->code == TO_CLERK || e->code == TO_LINE)
-        refusal = tollherring_message_read(e->bytes, e->length, identifier, number_a, number_b, &message, &taken, &place);
-    EXPECT(o->unread == (refusal != 0) && o->place == place && place <= e->length);
+        refusal = tollherring_message_read(e->bytes, e->length, &identifier, &number_a, &number_b, &message, &taken, &place);
+    EXPECT(o->unread == (refusal != 0) && o->fault_at == place && place <= e->length);
     if (refusal != 0)
         EXPECT(o->refusal == refusal && o->next == 0 && o->length == 0 && (refusal == TOLLHERRING_BYTES_END || place < e->length));
+}
+
+/* the place of a record is told exactly where a step is about one: it was taken, and was no start, no line report and no request that is denied */
+static void placed(const struct entry *e, const struct told *t)
+{
+    const tollherring_outcome *o = &t->outcome;
+    int started = e->code == START_LINE || e->code == START_CLERK, denied = e->code == TO_LINE && o->length > 0 && t->out[0] == TOLLHERRING_REQUEST_ERROR;
+    EXPECT(o->has_record == (o->refusal == 0 && !started && e->code != LINE_REPORT && !denied));
+    EXPECT(o->record_at < (on_clerk(e) ? 16u : 32u) && (o->has_record || o->record_at == 0));
 }
 
 /* what is so of every outcome, whatever the desk */
@@ -112,7 +122,8 @@ static void sane(const struct entry *e, const struct desks *before, const struct
     }
     for (i = (size_t)o->length; i < sizeof t->out; i++)
         EXPECT(t->out[i] == 0xEE);
-    placed(e, o);
+    faulty(e, o);
+    placed(e, t);
 }
 
 /* the call in plain memory with more room than any message takes */
@@ -124,9 +135,9 @@ static void tell(const struct entry *e, const struct desks *before, struct told 
     memset(&t->outcome, 99, sizeof t->outcome);
     l.clerk = &t->desks.clerk;
     l.line = &t->desks.line;
-    l.identifier = e->identifier;
-    l.number_a = e->number_a;
-    l.number_b = e->number_b;
+    l.identifier = &e->identifier;
+    l.number_a = &e->number_a;
+    l.number_b = &e->number_b;
     l.bytes = e->bytes ? e->bytes : t->out;
     l.lines = e->lines;
     l.out = t->out;
@@ -193,6 +204,68 @@ static void try_numbers(const struct entry *e, const struct desks *before)
     }
 }
 
+/* the length of an identifier is 0 or 16 */
+static void try_lengths(const struct entry *e, const struct desks *before)
+{
+    static const uint8_t lengths[] = {1, 8, 15, 17, 32, 128, 144, 255};
+    static struct entry wrong;
+    static struct told none;
+    size_t k;
+    if (e->code != ASK && !has_name(e->code))
+        return;
+    told_nothing(&none, before, TOLLHERRING_OUT_OF_RANGE);
+    wrong = *e;
+    for (k = 0; k < sizeof lengths; k++) {
+        wrong.identifier.length = lengths[k];
+        try_fenced(&wrong, before, &none, k % 2 ? 0 : TOLLHERRING_MESSAGE_MOST, k % 2 == 0);
+    }
+}
+
+/* whether the place that the host names is not looked at: there is an identifier, or a message's own numbers say which record is meant */
+static int place_ignored(const struct entry *e)
+{
+    tollherring_identifier identifier;
+    tollherring_number number_a, number_b;
+    tollherring_message m;
+    uint64_t taken, place;
+    if (has_name(e->code))
+        return e->identifier.length == 16;
+    if (tollherring_message_read(e->bytes, e->length, &identifier, &number_a, &number_b, &m, &taken, &place) != 0)
+        return 1;
+    return identifier.length == 16 || m.type <= TOLLHERRING_CCNR_REQUEST ||
+           (m.carrier == TOLLHERRING_SETUP && (m.type == TOLLHERRING_CC_EXEC_POSSIBLE || m.type == TOLLHERRING_CC_RINGOUT ||
+                                               m.type == TOLLHERRING_CC_RESUME || m.type == TOLLHERRING_CC_CANCEL));
+}
+
+/* other named places: where the place is not looked at, the same step; else one where no record stands, which is 6, or for a type of the other end 3 */
+static void try_named(const struct entry *e, const struct desks *before)
+{
+    static const uint64_t near[] = {0, 1, 15, 31}, none[] = {32, 255, 256, (uint64_t)1 << 32, (uint64_t)1 << 61, TOLLHERRING_NO_PLACE};
+    static struct entry other;
+    static struct told whole, there;
+    size_t k;
+    int ignored;
+    if (!has_name(e->code) && e->code != TO_CLERK && e->code != TO_LINE)
+        return;
+    ignored = place_ignored(e);
+    tell(e, before, &whole);
+    other = *e;
+    for (k = 0; ignored && k < sizeof near / sizeof near[0]; k++) {
+        other.named = near[k];
+        try_fenced(&other, before, &whole, TOLLHERRING_MESSAGE_MOST, k % 2 == 0);
+    }
+    for (k = 0; k < sizeof none / sizeof none[0]; k++) {
+        other.named = none[k];
+        if (ignored) {
+            try_fenced(&other, before, &whole, TOLLHERRING_MESSAGE_MOST, k % 2 == 0);
+            continue;
+        }
+        tell(&other, before, &there);
+        EXPECT(there.outcome.refusal == TOLLHERRING_NO_RECORD || there.outcome.refusal == TOLLHERRING_OTHER_END);
+        try_fenced(&other, before, &there, TOLLHERRING_MESSAGE_MOST, k % 2 == 0);
+    }
+}
+
 /* splitmix64: the same garbage in each run */
 static uint64_t any(void)
 {
@@ -223,6 +296,45 @@ static void spoil_desks(struct desks *desks)
     spoil(desks->line.words, TOLLHERRING_LINE_WORDS, sort);
 }
 
+/* a record of a sound desk as it is shown; zeros where there is none */
+struct shown {
+    tollherring_identifier identifier;
+    tollherring_number number_a, number_b;
+    tollherring_record record;
+};
+
+static int show(const struct desks *desks, int clerk, uint64_t place, struct shown *s)
+{
+    memset(s, 0, sizeof *s);
+    if (clerk)
+        return tollherring_clerk_record(&desks->clerk, place, &s->identifier, &s->number_a, &s->number_b, &s->record) == 0;
+    return tollherring_line_record(&desks->line, place, &s->identifier, &s->number_a, &s->number_b, &s->record) == 0;
+}
+
+/* what a host that keeps places goes by: a step stores its record behind all others (T1, or the guard, starts), or ends it and moves those behind it forward by
+ * one (a notice that says so, or the guard stops), or changes it where it stands; no other record changes */
+static void kept_in_order(const struct entry *e, const struct desks *before, const struct told *t)
+{
+    static const int over[] = {0, 0, 1, 1, 0, 1, 1, 0, 1, 1, 0}; /* by notice */
+    const tollherring_outcome *o = &t->outcome;
+    int clerk = on_clerk(e), stored = (o->starts & (clerk ? TOLLHERRING_T1 : TOLLHERRING_GUARD)) != 0;
+    int ended = clerk ? over[o->notice] : (o->stops & TOLLHERRING_GUARD) != 0;
+    struct shown was, is;
+    uint64_t place, count = 0;
+    if (!o->has_record)
+        return;
+    while (show(before, clerk, count, &was))
+        count++;
+    EXPECT(stored ? o->record_at == count && !ended : o->record_at < count);
+    for (place = 0; place < count + (uint64_t)stored; place++) {
+        if (place == o->record_at)
+            continue;
+        EXPECT(show(before, clerk, place, &was) && show(&t->desks, clerk, place - (uint64_t)(ended && place > o->record_at), &is));
+        EXPECT(memcmp(&was, &is, sizeof was) == 0);
+    }
+    EXPECT(show(&t->desks, clerk, count + (uint64_t)stored - (uint64_t)ended, &is) == 0);
+}
+
 /* a step in every way, and for good */
 static void play_step(const struct entry *e, struct desks *now)
 {
@@ -230,10 +342,13 @@ static void play_step(const struct entry *e, struct desks *now)
     static struct told next;
     try_rooms(e, now);
     try_numbers(e, now);
+    try_lengths(e, now);
+    try_named(e, now);
     spoilt = *now;
     spoil_desks(&spoilt);
     try_rooms(e, &spoilt);
     tell(e, now, &next);
+    kept_in_order(e, now, &next);
     *now = next.desks;
 }
 
@@ -272,6 +387,7 @@ int main(int argc, char **argv)
     try_places();
     printf("%lu entries, %lu calls between fences\n", entry_number, fenced_calls);
     fill_clerk();
+    fill_nameless();
     start_line();
     fill_line();
     return 0;

@@ -21,6 +21,7 @@ void try_message(const struct entry *entry);
 void try_places(void);
 
 void fill_clerk(void);
+void fill_nameless(void);
 void start_line(void);
 void fill_line(void);
 

@@ -1,5 +1,6 @@
-//! What a script's lines cannot show of the Rust module: each step of an evening at both desks in every room, a connection that falls, refusals that have a reply, full desks, the
-//! numbers that are lists, messages at every place, and bytes that are spoilt in known places. What Rust's types exclude (a busy of 2, an act that is not listed) cannot be written here.
+//! What a script's lines cannot show of the Rust module: each step of an evening at both desks in every room, with an identifier and without, a connection that falls, refusals that
+//! have a reply, full desks, the numbers that are lists, messages at every place, and bytes that are spoilt in known places. What Rust's types exclude (a busy of 2, an act that is not
+//! listed, an identifier of eight bytes or in place of a number) cannot be written here.
 
 #[path = "../../rust/tollherring.rs"]
 mod tollherring;
@@ -41,7 +42,8 @@ struct Told {
     stops: u64,
     notice: Option<Notice>,
     clear: bool,
-    place: Option<usize>,
+    fault_at: Option<usize>,
+    record_at: Option<usize>,
 }
 
 impl Told {
@@ -56,7 +58,8 @@ impl Told {
             stops: outcome.stops.number(),
             notice: outcome.notice,
             clear: outcome.clear,
-            place: outcome.place,
+            fault_at: outcome.fault_at,
+            record_at: outcome.record_at,
         }
     }
 
@@ -64,13 +67,18 @@ impl Told {
         self.refusal.is_none() && self.kind == Some((message_type, carrier))
     }
 
-    /// Not for a fault of the bytes: there is no place.
+    /// Not for a fault of the bytes: there is no place of one. Nor is there one of a record.
     fn refuses(&self, refusal: Refusal) -> bool {
         *self == Told { refusal: Some(refusal), next: self.next, ..Told::default() }
     }
 
     fn refuses_at(&self, fault: Fault) -> bool {
-        *self == Told { refusal: Some(fault.refusal), place: Some(fault.place), ..Told::default() }
+        *self == Told { refusal: Some(fault.refusal), fault_at: Some(fault.at), ..Told::default() }
+    }
+
+    /// Done, about the record at a place, and nothing else to be said.
+    fn only_done(&self, place: usize) -> bool {
+        *self == Told { record_at: Some(place), ..Told::default() }
     }
 }
 
@@ -81,7 +89,11 @@ fn number(text: &str) -> Number {
 fn identifier(n: u8) -> Identifier {
     let mut identifier = [7; 16];
     identifier[15] = n;
-    identifier
+    Identifier(identifier)
+}
+
+fn name(n: u8) -> Name {
+    Name::Identifier(identifier(n))
 }
 
 const KEPT: Ask = Ask { kind: Kind::Ccbs, service: 16383, can_keep: true, preference: Preference::Retain };
@@ -89,7 +101,7 @@ const KEPT: Ask = Ask { kind: Kind::Ccbs, service: 16383, can_keep: true, prefer
 /// Request n, from a number of its own, about a line: what a clerk's desk sends.
 fn request(n: u8, line: &str) -> Vec<u8> {
     let caller = number(&format!("{:015}", n));
-    step(&mut ClerkDesk::start(), |desk, out| desk.ask(&identifier(n), &caller, &number(line), &KEPT, out)).message
+    step(&mut ClerkDesk::start(), |desk, out| desk.ask(Some(identifier(n)), &caller, &number(line), &KEPT, out)).message
 }
 
 fn desk_of(lines: &[&str]) -> Result<LineDesk, Refusal> {
@@ -97,63 +109,112 @@ fn desk_of(lines: &[&str]) -> Result<LineDesk, Refusal> {
     LineDesk::start(&given, true, false)
 }
 
-/// Both ends, with the longest message that there is: asked, acknowledged, offered, suspended, resumed, offered again, busy again, offered, rung, alerted.
-fn evening() {
+/// Both ends, with the longest message that there is: asked, acknowledged, offered, suspended, resumed, offered again, busy again, offered, rung, alerted. With an identifier the
+/// host names no place; without one it is the first record at both ends, and the rung one is found by its numbers.
+fn evening(id: Option<Identifier>) {
     let (mut clerk, mut line) = (ClerkDesk::start(), desk_of(&["801234567890123"]).expect("one line"));
-    let (id, b) = (identifier(1), number("801234567890123"));
+    let b = number("801234567890123");
+    let longest = MESSAGE_MOST - if id.is_some() { 0 } else { 16 };
+    let (place, name) = id.map_or((Some(0), Name::Place(0)), |id| (None, Name::Identifier(id)));
     assert!(line.report(&b, true).result().is_ok() && line.report(&number("1"), true).refusal == Some(Refusal::NoLine));
-    let asked = step(&mut clerk, |desk, out| desk.ask(&id, &number("499999999999999"), &b, &KEPT, out));
+    let asked = step(&mut clerk, |desk, out| desk.ask(id, &number("499999999999999"), &b, &KEPT, out));
     assert!(
-        asked.sends(MessageType::CcbsRequest, Carrier::Setup)
-            && asked.message.len() == MESSAGE_MOST
-            && asked.starts == 1
+        asked.sends(MessageType::CcbsRequest, Carrier::Setup) && asked.message.len() == longest && asked.starts == 1
     );
-    let accepted = step(&mut line, |desk, out| desk.receive(&asked.message, out));
-    assert!(
-        accepted.sends(MessageType::Result, Carrier::Connect) && accepted.starts == 8 && accepted.next == MESSAGE_MOST
-    );
-    assert!(step(&mut clerk, |desk, out| desk.receive(&accepted.message, false, out)).notice == Some(Notice::Accepted));
+    assert!(asked.record_at == Some(0));
+    let accepted = step(&mut line, |desk, out| desk.receive(None, &asked.message, out));
+    assert!(accepted.sends(MessageType::Result, Carrier::Connect) && accepted.starts == 8 && accepted.next == longest);
+    assert!(accepted.record_at == Some(0));
+    let known = step(&mut clerk, |desk, out| desk.receive(place, &accepted.message, false, out));
+    assert!(known.notice == Some(Notice::Accepted) && known.record_at == Some(0));
     assert!(step(&mut line, |desk, out| desk.look(&b, out)).refuses(Refusal::NothingToOffer));
     assert!(line.report(&b, false).result().is_ok());
     let offered = step(&mut line, |desk, out| desk.look(&b, out));
-    let suspended = step(&mut clerk, |desk, out| desk.receive(&offered.message, true, out));
+    let suspended = step(&mut clerk, |desk, out| desk.receive(place, &offered.message, true, out));
     assert!(suspended.sends(MessageType::CcSuspend, Carrier::Facility));
-    assert!(step(&mut clerk, |desk, out| desk.report(&id, Timer::T3, out)).refuses(Refusal::NotRunning));
-    assert!(step(&mut line, |desk, out| desk.receive(&suspended.message, out)).refusal.is_none());
-    let resumed = step(&mut clerk, |desk, out| desk.act(&id, Act::Resume, out));
-    assert!(step(&mut line, |desk, out| desk.receive(&resumed.message, out)).refusal.is_none());
-    ring(&mut clerk, &mut line, &id, &b, true);
-    ring(&mut clerk, &mut line, &id, &b, false);
+    assert!(step(&mut clerk, |desk, out| desk.report(name, Timer::T3, out)).refuses(Refusal::NotRunning));
+    assert!(step(&mut line, |desk, out| desk.receive(place, &suspended.message, out)).refusal.is_none());
+    let resumed = step(&mut clerk, |desk, out| desk.act(name, Act::Resume, out));
+    assert!(step(&mut line, |desk, out| desk.receive(place, &resumed.message, out)).refusal.is_none());
+    ring(&mut clerk, &mut line, name, place, &b, true);
+    ring(&mut clerk, &mut line, name, place, &b, false);
     assert!(clerk.records().count() == 0 && line.records().count() == 0 && clerk == ClerkDesk::start());
 }
 
 /// Offered and rung: the line is busy again and the request is kept, or the call alerts.
-fn ring(clerk: &mut ClerkDesk, line: &mut LineDesk, id: &Identifier, b: &Number, busy: bool) {
+fn ring(clerk: &mut ClerkDesk, line: &mut LineDesk, name: Name, place: Option<usize>, b: &Number, busy: bool) {
     assert!(line.report(b, false).result().is_ok());
     let offered = step(line, |desk, out| desk.look(b, out));
-    assert!(offered.sends(MessageType::CcExecPossible, Carrier::Facility));
-    let recall = step(clerk, |desk, out| desk.receive(&offered.message, false, out));
+    assert!(offered.sends(MessageType::CcExecPossible, Carrier::Facility) && offered.record_at == Some(0));
+    let recall = step(clerk, |desk, out| desk.receive(place, &offered.message, false, out));
     assert!(recall.notice == Some(Notice::Recall) && recall.starts == 4);
-    let ringing = step(clerk, |desk, out| desk.act(id, Act::Accept, out));
+    let ringing = step(clerk, |desk, out| desk.act(name, Act::Accept, out));
     assert!(ringing.sends(MessageType::CcRingout, Carrier::Setup) && ringing.stops == 4);
-    assert!(step(clerk, |desk, out| desk.act(id, Act::GoOn, out)).refuses(Refusal::NoRow));
+    assert!(step(clerk, |desk, out| desk.act(name, Act::GoOn, out)).refuses(Refusal::NoRow));
     assert!(line.report(b, busy).result().is_ok());
-    let rung = step(line, |desk, out| desk.receive(&ringing.message, out));
-    let answer = if busy { rung } else { step(line, |desk, out| desk.act(id, LineAct::Alerted, out)) };
-    let end = step(clerk, |desk, out| desk.receive(&answer.message, false, out));
+    let rung = step(line, |desk, out| desk.receive(None, &ringing.message, out));
+    assert!(rung.record_at == Some(0));
+    let answer = if busy { rung } else { step(line, |desk, out| desk.act(name, LineAct::Alerted, out)) };
+    let end = step(clerk, |desk, out| desk.receive(place, &answer.message, false, out));
     assert!(end.notice == Some(if busy { Notice::BusyAgainKept } else { Notice::Completed }) && !end.clear);
+}
+
+/// Three requests of one end that tells no identifier, all about one line, and one that has one: places name them, move forward when one ends, and are not looked at where there is an
+/// identifier. A ccCancel in Setup without an identifier is of the oldest that fits.
+fn places_named() {
+    let (mut clerk, mut line) = (ClerkDesk::start(), desk_of(&["80", "81"]).expect("two lines"));
+    let release = Ask { preference: Preference::Release, ..KEPT };
+    for (place, (id, caller)) in [(None, "1"), (Some(identifier(9)), "2"), (None, "3"), (None, "4")].iter().enumerate()
+    {
+        let asked = step(&mut clerk, |desk, out| desk.ask(*id, &number(caller), &number("80"), &release, out));
+        let accepted = step(&mut line, |desk, out| desk.receive(Some(31), &asked.message, out));
+        assert!(asked.record_at == Some(place) && accepted.record_at == Some(place));
+        let known = step(&mut clerk, |desk, out| desk.receive(Some(place), &accepted.message, false, out));
+        assert!(known.notice == Some(Notice::Accepted) && known.record_at == Some(place));
+    }
+    let callers = |desk: &LineDesk| desk.records().map(|record| record.number_a.to_string()).collect::<String>();
+    assert!(callers(&line) == "1234" && line.record(1).map(|r| r.identifier) == Some(Some(identifier(9))));
+    assert!(line.record(0).map(|r| r.identifier) == Some(None));
+    // the third, by its place: its ccCancel has its numbers, and ends the third at the other end whatever place is named
+    let cancelled = step(&mut clerk, |desk, out| desk.act(Name::Place(2), Act::Cancel, out));
+    assert!(cancelled.sends(MessageType::CcCancel, Carrier::Setup) && cancelled.record_at == Some(2));
+    let ended = step(&mut line, |desk, out| desk.receive(Some(0), &cancelled.message, out));
+    assert!(ended.stops == 8 && ended.record_at == Some(2) && callers(&line) == "124");
+    assert!(step(&mut clerk, |desk, out| desk.act(Name::Place(3), Act::Cancel, out)).refuses(Refusal::NoRecord));
+    // with an identifier the place is not looked at; a record that has one may be named by its place
+    assert!(step(&mut line, |desk, out| desk.guard(name(8), out)).refuses(Refusal::NoRecord));
+    assert!(
+        step(&mut line, |desk, out| desk.guard(Name::Place(1), out)).record_at == Some(1) && callers(&line) == "14"
+    );
+    assert!(step(&mut line, |desk, out| desk.act(Name::Place(1), LineAct::Cancel, out)).record_at == Some(1));
+    assert!(callers(&line) == "1");
+    let stray = Message {
+        message_type: MessageType::CcCancel,
+        carrier: Carrier::Setup,
+        identifier: None,
+        number_a: Number::WITHHELD,
+        number_b: number("80"),
+        service: 16383,
+        field: 0,
+    };
+    let mut bytes = [0; MESSAGE_MOST];
+    let length = stray.write(&mut bytes, 0).expect("room");
+    let told = step(&mut clerk, |desk, out| desk.receive(None, &bytes[..length], false, out));
+    assert!(told.notice == Some(Notice::Failed) && told.record_at == Some(0) && clerk.records().count() == 2);
+    let other = Message { service: 1, ..stray }.write(&mut bytes, 0).expect("room");
+    assert!(step(&mut clerk, |desk, out| desk.receive(Some(0), &bytes[..other], false, out)).refuses(Refusal::NoRecord));
 }
 
 /// The retained connection falls: the line's end sees it first, and the clerk's takes its Setup all the same. Each end has its own mark, and the choice stays.
 fn fall() {
     let (mut clerk, mut line) = (ClerkDesk::start(), desk_of(&["80"]).expect("one line"));
-    let (id, b) = (identifier(1), number("80"));
-    let asked = step(&mut clerk, |desk, out| desk.ask(&id, &number("1"), &b, &KEPT, out));
-    assert!(step(&mut clerk, |desk, out| desk.act(&id, Act::Fell, out)).refuses(Refusal::NoRow));
-    assert!(step(&mut line, |desk, out| desk.act(&id, LineAct::Fell, out)).refuses(Refusal::NoRecord));
-    let accepted = step(&mut line, |desk, out| desk.receive(&asked.message, out));
-    assert!(step(&mut clerk, |desk, out| desk.receive(&accepted.message, false, out)).refusal.is_none());
-    assert_eq!(step(&mut line, |desk, out| desk.act(&id, LineAct::Fell, out)), Told::default());
+    let (id, b) = (name(1), number("80"));
+    let asked = step(&mut clerk, |desk, out| desk.ask(Some(identifier(1)), &number("1"), &b, &KEPT, out));
+    assert!(step(&mut clerk, |desk, out| desk.act(id, Act::Fell, out)).refuses(Refusal::NoRow));
+    assert!(step(&mut line, |desk, out| desk.act(id, LineAct::Fell, out)).refuses(Refusal::NoRecord));
+    let accepted = step(&mut line, |desk, out| desk.receive(None, &asked.message, out));
+    assert!(step(&mut clerk, |desk, out| desk.receive(None, &accepted.message, false, out)).refusal.is_none());
+    assert!(step(&mut line, |desk, out| desk.act(id, LineAct::Fell, out)).only_done(0));
     let marks = |clerk: &ClerkDesk, line: &LineDesk| {
         let (c, l) = (clerk.record(0).expect("a record"), line.record(0).expect("a record"));
         assert!(c.connection == Some(Connection::Retained) && l.connection == Connection::Retained);
@@ -162,15 +223,15 @@ fn fall() {
     assert_eq!(marks(&clerk, &line), (false, true));
     let offered = step(&mut line, |desk, out| desk.look(&b, out));
     assert!(offered.sends(MessageType::CcExecPossible, Carrier::Setup));
-    assert_eq!(step(&mut clerk, |desk, out| desk.act(&id, Act::Fell, out)), Told::default());
-    let suspended = step(&mut clerk, |desk, out| desk.receive(&offered.message, true, out));
+    assert!(step(&mut clerk, |desk, out| desk.act(id, Act::Fell, out)).only_done(0));
+    let suspended = step(&mut clerk, |desk, out| desk.receive(None, &offered.message, true, out));
     assert!(suspended.sends(MessageType::CcSuspend, Carrier::ReleaseComplete));
-    assert!(step(&mut line, |desk, out| desk.receive(&suspended.message, out)).refusal.is_none());
-    let resumed = step(&mut clerk, |desk, out| desk.act(&id, Act::Resume, out));
+    assert!(step(&mut line, |desk, out| desk.receive(None, &suspended.message, out)).refusal.is_none());
+    let resumed = step(&mut clerk, |desk, out| desk.act(id, Act::Resume, out));
     assert!(resumed.sends(MessageType::CcResume, Carrier::Setup));
-    assert!(step(&mut line, |desk, out| desk.receive(&resumed.message, out)).refusal.is_none());
+    assert!(step(&mut line, |desk, out| desk.receive(None, &resumed.message, out)).refusal.is_none());
     assert_eq!(marks(&clerk, &line), (true, true));
-    assert!(step(&mut clerk, |desk, out| desk.act(&id, Act::Cancel, out)).sends(MessageType::CcCancel, Carrier::Setup));
+    assert!(step(&mut clerk, |desk, out| desk.act(id, Act::Cancel, out)).sends(MessageType::CcCancel, Carrier::Setup));
 }
 
 /// A refusal that has a reply: it stands in the outcome beside the refusal, and needs its room too.
@@ -179,31 +240,35 @@ fn replies() {
     let stray = Message {
         message_type: MessageType::CcRingout,
         carrier: Carrier::Setup,
-        identifier: identifier(9),
+        identifier: Some(identifier(9)),
         number_a: Number::WITHHELD,
-        number_b: Number::WITHHELD,
+        number_b: number("8"),
         service: 0,
         field: 0,
     };
-    let mut bytes = [0; 20];
-    assert_eq!(stray.write(&mut bytes, 0), Ok(18));
-    let told = step(&mut line, |desk, out| desk.receive(&bytes, out));
+    let mut bytes = [0; 26];
+    assert_eq!(stray.write(&mut bytes, 0), Ok(23));
+    let told = step(&mut line, |desk, out| desk.receive(None, &bytes, out));
     assert!(
         told.refusal == Some(Refusal::NoRecord)
             && told.kind == Some((MessageType::RingoutError, Carrier::ReleaseComplete))
-            && told.next == 18
-            && told.place.is_none()
+            && told.next == 23
+            && told.message.len() == 20
+            && told.fault_at.is_none()
+            && told.record_at.is_none()
     );
-    assert!(step(&mut clerk, |desk, out| desk.receive(&bytes, false, out)).refuses(Refusal::OtherEnd));
-    unread(&bytes[..17], Refusal::BytesEnd, 17);
+    assert!(step(&mut clerk, |desk, out| desk.receive(None, &bytes, false, out)).refuses(Refusal::OtherEnd));
+    unread(&bytes[..18], Refusal::BytesEnd, 18);
     unread(&[], Refusal::BytesEnd, 0);
-    assert!(step(&mut line, |desk, out| desk.guard(&identifier(9), out)).refuses(Refusal::NoRecord));
-    let execute = Message { message_type: MessageType::CcExecPossible, ..stray };
-    assert_eq!(execute.write(&mut bytes, 2), Ok(18));
-    let told = step(&mut clerk, |desk, out| desk.receive(&bytes[2..], false, out));
+    assert!(step(&mut line, |desk, out| desk.guard(name(9), out)).refuses(Refusal::NoRecord));
+    let execute = Message { message_type: MessageType::CcExecPossible, identifier: None, ..stray };
+    assert_eq!(execute.write(&mut bytes, 2), Ok(7));
+    let told = step(&mut clerk, |desk, out| desk.receive(None, &bytes[2..], false, out));
     assert!(
         told.refusal == Some(Refusal::NoRecord) && told.kind == Some((MessageType::CcCancel, Carrier::ReleaseComplete))
     );
+    // the reply has no identifier either
+    assert_eq!(told.message, [10, 4, 0]);
 }
 
 /// 16 asks and not 17; 16 lines and not 17; 5 requests of a line and not 6; 32 in all and not 33.
@@ -211,12 +276,13 @@ fn full_desks() {
     let mut clerk = ClerkDesk::start();
     let ask = |n| {
         move |desk: &mut ClerkDesk| {
-            Told::of(desk.ask(&identifier(n), &Number::WITHHELD, &number("8"), &KEPT, &mut [0; MESSAGE_MOST]))
+            Told::of(desk.ask(Some(identifier(n)), &Number::WITHHELD, &number("8"), &KEPT, &mut [0; MESSAGE_MOST]))
         }
     };
     (0..16).for_each(|n| assert!(ask(n)(&mut clerk).starts == 1));
     assert!(ask(16)(&mut clerk).refuses(Refusal::Full) && ask(15)(&mut clerk).refuses(Refusal::Live));
-    assert!(clerk.records().map(|record| record.identifier).eq((0..16).map(identifier)) && clerk.record(16).is_none());
+    let own = |n| Some(identifier(n));
+    assert!(clerk.records().map(|record| record.identifier).eq((0..16).map(own)) && clerk.record(16).is_none());
 
     let names: Vec<String> = (10..27).map(|n| n.to_string()).collect();
     let names: Vec<&str> = names.iter().map(String::as_str).collect();
@@ -228,15 +294,13 @@ fn full_desks() {
         line.lines().map(|status| status.number.to_string()).eq(names[..16].iter().copied()) && line.line(16).is_none()
     );
     let mut result = |n: u8, name: &str| {
-        step(&mut line, |desk, out| desk.receive(&request(n, name), out)).kind.expect("an answer").0
+        step(&mut line, |desk, out| desk.receive(None, &request(n, name), out)).kind.expect("an answer").0
     };
     (0..5).for_each(|n| assert_eq!(result(n, "10"), MessageType::Result));
     assert_eq!(result(5, "10"), MessageType::RequestError);
     (5..32).for_each(|n| assert_eq!(result(n, names[usize::from(n / 5)]), MessageType::Result));
     assert_eq!(result(32, "25"), MessageType::RequestError);
-    assert!(
-        line.records().map(|record| record.identifier).eq((0..32).map(identifier)) && line.record(usize::MAX).is_none()
-    );
+    assert!(line.records().map(|record| record.identifier).eq((0..32).map(own)) && line.record(usize::MAX).is_none());
 }
 
 /// Plain numbers of an ask out of range are 2, and nothing changes.
@@ -260,7 +324,7 @@ fn numbers_out_of_range() {
         let ask = |desk: &mut ClerkDesk, [kind, service, can_keep, preference]: [u64; 4]| {
             let mut out = [0; MESSAGE_MOST];
             Told::of(desk.ask_numbers(
-                &identifier(0),
+                Some(identifier(0)),
                 kind,
                 &Number::WITHHELD,
                 &number("8"),
@@ -277,7 +341,7 @@ fn numbers_out_of_range() {
     let bad = [Number([16; 16]), Number([0; 16]), Number([1, 10, 0, 0, 0, 0, 0, 0, 0, 0, 0, 0, 0, 0, 0, 0])];
     for number_b in bad {
         assert!(step(&mut ClerkDesk::start(), |desk, out| desk.ask(
-            &identifier(0),
+            Some(identifier(0)),
             &number("1"),
             &number_b,
             &KEPT,
@@ -339,13 +403,13 @@ fn messages() {
 }
 
 /// Bytes that cannot be read: the reader and both desks tell the same refusal at the same place, and nothing else.
-fn unread(bytes: &[u8], refusal: Refusal, place: usize) {
-    let fault = Fault { refusal, place };
+fn unread(bytes: &[u8], refusal: Refusal, at: usize) {
+    let fault = Fault { refusal, at };
     let (mut clerk, mut line) = (ClerkDesk::start(), desk_of(&["80"]).expect("one line"));
     assert_eq!(Message::read(bytes), Err(fault));
-    assert!(step(&mut line, |desk, out| desk.receive(bytes, out)).refuses_at(fault));
+    assert!(step(&mut line, |desk, out| desk.receive(None, bytes, out)).refuses_at(fault));
     for busy in [false, true] {
-        assert!(step(&mut clerk, |desk, out| desk.receive(bytes, busy, out)).refuses_at(fault));
+        assert!(step(&mut clerk, |desk, out| desk.receive(Some(0), bytes, busy, out)).refuses_at(fault));
     }
 }
 
@@ -361,39 +425,51 @@ fn spoilt(good: &[u8], place: usize, put: &[u8], refusal: Refusal) {
     }
 }
 
-/// Where the bytes went wrong: messages of every type cut short at every length, and spoilt in known places.
+/// Where the bytes went wrong: messages of every type, in Setup and in Facility, with an identifier and without, cut short at every length and spoilt in known places.
 fn places() {
-    let (mut good, number) = ([0; MESSAGE_MOST], number("123456789012349"));
     for message_type in (1..=12).filter_map(MessageType::from_number) {
-        let (carrier, identifier) = (Carrier::Setup, identifier(0x80));
-        let message =
-            Message { message_type, carrier, identifier, number_a: number, number_b: number, service: 300, field: 1 };
-        let length = message.write(&mut good, 0).expect("room");
-        let good = &good[..length];
-        (0..length).for_each(|length| unread(&good[..length], Refusal::BytesEnd, length));
-        // each number of the message: its place, and a value of one byte that is out of its range; every readable service is in range
-        let numbers: &[(usize, Option<u8>)] = match length {
-            MESSAGE_MOST => &[(0, Some(13)), (1, Some(6)), (18, Some(16)), (34, Some(16)), (50, None), (52, Some(6))],
-            MESSAGE_LEAST => &[(0, Some(13)), (1, Some(6))],
-            _ => &[(0, Some(13)), (1, Some(6)), (18, Some(3))],
-        };
-        for (place, beside) in numbers.iter().copied() {
-            for put in [[0x80, 0x80], [0xFF, 0xFF], [0x80, 0x00]] {
-                spoilt(good, place, &put, Refusal::BytesEnd);
-            }
-            if let Some(value) = beside {
-                spoilt(good, place, &[value], Refusal::OutOfRange);
-                spoilt(good, place, &[0x80, 0x01], Refusal::OutOfRange);
-            }
+        for carrier in [Carrier::Setup, Carrier::Facility] {
+            spoil(message_type, carrier, Some(identifier(0x80)));
+            spoil(message_type, carrier, None);
         }
-        if length == MESSAGE_MOST {
-            (19..34).chain(35..50).for_each(|digit| spoilt(good, digit, &[10], Refusal::OutOfRange));
+    }
+}
+
+fn spoil(message_type: MessageType, carrier: Carrier, identifier: Option<Identifier>) {
+    let (mut good, number) = ([0; MESSAGE_MOST], number("123456789012349"));
+    let message =
+        Message { message_type, carrier, identifier, number_a: number, number_b: number, service: 300, field: 1 };
+    let length = message.write(&mut good, 0).expect("room");
+    let (good, head) = (&good[..length], if identifier.is_some() { 19 } else { 3 });
+    (0..length).for_each(|length| unread(&good[..length], Refusal::BytesEnd, length));
+    // each number of the message: its place, and a value of one byte that is out of its range; every readable service is in range
+    let mut numbers = vec![(0, Some(13)), (1, Some(6)), (2, Some(8)), (2, Some(17))];
+    match length - head {
+        0 => (),
+        1 => numbers.push((head, Some(3))),
+        behind => {
+            numbers.extend([(head, Some(16)), (head + 16, Some(16)), (head + 32, None)]);
+            numbers.extend((behind == 35).then(|| (head + 34, Some(6))));
+            (head + 1..head + 16)
+                .chain(head + 17..head + 32)
+                .for_each(|digit| spoilt(good, digit, &[10], Refusal::OutOfRange));
+        }
+    }
+    for (place, beside) in numbers {
+        for put in [[0x80, 0x80], [0xFF, 0xFF], [0x80, 0x00]] {
+            spoilt(good, place, &put, Refusal::BytesEnd);
+        }
+        if let Some(value) = beside {
+            spoilt(good, place, &[value], Refusal::OutOfRange);
+            spoilt(good, place, &[0x80, 0x01], Refusal::OutOfRange);
         }
     }
 }
 
 fn main() {
-    evening();
+    evening(Some(identifier(1)));
+    evening(None);
+    places_named();
     fall();
     replies();
     full_desks();
@@ -401,5 +477,5 @@ fn main() {
     lists();
     messages();
     places();
-    println!("an evening in every room, a fall, replies, full desks, numbers, messages, places");
+    println!("an evening in every room, with an identifier and without, places, a fall, replies, full desks, numbers, messages, faults");
 }

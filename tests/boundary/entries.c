@@ -36,21 +36,26 @@ static const uint8_t *run_of(struct unread *u, size_t count)
     return first;
 }
 
-static void identifier_of(struct unread *u, uint8_t identifier[16])
+/* 0, or 16 and so many bytes */
+static void identifier_of(struct unread *u, tollherring_identifier *identifier)
 {
-    const uint8_t *bytes = run_of(u, 16);
-    if (bytes)
-        memcpy(identifier, bytes, 16);
+    const uint8_t *bytes;
+    identifier->length = byte_of(u);
+    if (identifier->length != 0 && identifier->length != 16)
+        u->stopped = 1;
+    bytes = run_of(u, identifier->length);
+    if (bytes && !u->stopped)
+        memcpy(identifier->bytes, bytes, identifier->length);
 }
 
 /* the length, in range or not, and at most the first 15 of the bytes */
-static void number_of(struct unread *u, uint8_t number[16])
+static void number_of(struct unread *u, tollherring_number *number)
 {
-    uint8_t count = byte_of(u);
-    const uint8_t *digits = run_of(u, count);
-    number[0] = count;
+    const uint8_t *digits;
+    number->length = byte_of(u);
+    digits = run_of(u, number->length);
     if (digits)
-        memcpy(number + 1, digits, count < 15 ? count : 15);
+        memcpy(number->digits, digits, number->length < 15 ? number->length : 15);
 }
 
 static void message_of(struct unread *u, struct entry *e)
@@ -64,7 +69,7 @@ static void lines_of(struct unread *u, struct entry *e)
     size_t count = byte_of(u), k;
     uint8_t settings;
     for (k = 0; k < count && !u->stopped; k++) {
-        number_of(u, e->lines[k].number);
+        number_of(u, &e->lines[k].number);
         e->lines[k].kinds = listed(u, 0, 3);
     }
     e->lines_bytes = count * sizeof e->lines[0];
@@ -77,39 +82,39 @@ static void ask_of(struct unread *u, struct entry *e)
 {
     unsigned low;
     e->kind = listed(u, 1, 2);
-    number_of(u, e->number_a);
-    number_of(u, e->number_b);
+    number_of(u, &e->number_a);
+    number_of(u, &e->number_b);
     low = byte_of(u);
     e->service = low + 256u * byte_of(u);
     e->can_keep = listed(u, 0, 1);
     e->preference = byte_of(u);
 }
 
-/* what stands behind the code, and for most codes behind an identifier */
+/* what stands behind the code, and behind the identifier of an ask or the name of an act or a report */
 static void fields_of(struct unread *u, struct entry *e)
 {
     switch (e->code) {
     case START_LINE: lines_of(u, e); break;
     case ASK: ask_of(u, e); break;
-    case TO_CLERK: e->choice = listed(u, 0, 1); message_of(u, e); break;
+    case TO_CLERK: e->choice = listed(u, 0, 1); e->named = byte_of(u); message_of(u, e); break;
     case ACCEPT: e->choice = TOLLHERRING_CLERK_ACT_ACCEPT; break;
     case USER_A_FREE: e->choice = listed(u, 0, 1) ? TOLLHERRING_CLERK_ACT_GO_ON : TOLLHERRING_CLERK_ACT_RESUME; break;
     case USER_CANCELS: e->choice = TOLLHERRING_CLERK_ACT_CANCEL; break;
     case CLERK_FELL: e->choice = TOLLHERRING_CLERK_ACT_FELL; break;
     case TIMER: case LINE_ACT: e->choice = listed(u, 1, 3); break;
     case LINE_FELL: e->choice = TOLLHERRING_LINE_ACT_FELL; break;
-    case TO_LINE: message_of(u, e); break;
-    case LINE_REPORT: number_of(u, e->number_b); e->choice = listed(u, 0, 1); break;
-    case LOOK: number_of(u, e->number_b); break;
+    case TO_LINE: e->named = byte_of(u); message_of(u, e); break;
+    case LINE_REPORT: number_of(u, &e->number_b); e->choice = listed(u, 0, 1); break;
+    case LOOK: number_of(u, &e->number_b); break;
     case WRITE: message_of(u, e); e->place = byte_of(u); e->size = byte_of(u); break;
     case START_CLERK: case GUARD: case PRINT_CLERK: case PRINT_LINE: break;
     default: u->stopped = 1;
     }
 }
 
-static int has_identifier(unsigned code)
+int has_name(unsigned code)
 {
-    return code == ASK || (code >= ACCEPT && code <= CLERK_FELL) || (code >= LINE_ACT && code <= LINE_FELL);
+    return (code >= ACCEPT && code <= CLERK_FELL) || (code >= LINE_ACT && code <= LINE_FELL);
 }
 
 const uint8_t *read_entry(struct entry *entry, const uint8_t *at, const uint8_t *end)
@@ -117,8 +122,10 @@ const uint8_t *read_entry(struct entry *entry, const uint8_t *at, const uint8_t 
     struct unread u = {at, end, 0};
     memset(entry, 0, sizeof *entry);
     entry->code = byte_of(&u);
-    if (has_identifier(entry->code))
-        identifier_of(&u, entry->identifier);
+    if (entry->code == ASK || has_name(entry->code))
+        identifier_of(&u, &entry->identifier);
+    if (has_name(entry->code))
+        entry->named = byte_of(&u);
     fields_of(&u, entry);
     return u.stopped ? NULL : u.at;
 }
@@ -139,15 +146,15 @@ uint64_t call(const struct entry *e, const struct lent *l)
     case ASK:
         return tollherring_clerk_ask(l->clerk, l->identifier, e->kind, l->number_a, l->number_b, e->service, e->can_keep, e->preference,
                                      l->out, l->room, l->outcome);
-    case TO_CLERK: return tollherring_clerk_receive(l->clerk, l->bytes, e->length, e->choice, l->out, l->room, l->outcome);
+    case TO_CLERK: return tollherring_clerk_receive(l->clerk, e->named, l->bytes, e->length, e->choice, l->out, l->room, l->outcome);
     case ACCEPT: case USER_A_FREE: case USER_CANCELS: case CLERK_FELL:
-        return tollherring_clerk_act(l->clerk, l->identifier, e->choice, l->out, l->room, l->outcome);
-    case TIMER: return tollherring_clerk_report(l->clerk, l->identifier, e->choice, l->out, l->room, l->outcome);
-    case TO_LINE: return tollherring_line_receive(l->line, l->bytes, e->length, l->out, l->room, l->outcome);
+        return tollherring_clerk_act(l->clerk, e->named, l->identifier, e->choice, l->out, l->room, l->outcome);
+    case TIMER: return tollherring_clerk_report(l->clerk, e->named, l->identifier, e->choice, l->out, l->room, l->outcome);
+    case TO_LINE: return tollherring_line_receive(l->line, e->named, l->bytes, e->length, l->out, l->room, l->outcome);
     case LINE_REPORT: return tollherring_line_report(l->line, l->number_b, e->choice, l->out, l->room, l->outcome);
     case LOOK: return tollherring_line_look(l->line, l->number_b, l->out, l->room, l->outcome);
-    case LINE_ACT: case LINE_FELL: return tollherring_line_act(l->line, l->identifier, e->choice, l->out, l->room, l->outcome);
-    case GUARD: return tollherring_line_guard(l->line, l->identifier, l->out, l->room, l->outcome);
+    case LINE_ACT: case LINE_FELL: return tollherring_line_act(l->line, e->named, l->identifier, e->choice, l->out, l->room, l->outcome);
+    case GUARD: return tollherring_line_guard(l->line, e->named, l->identifier, l->out, l->room, l->outcome);
     default: return start(e, l);
     }
 }

@@ -13,7 +13,9 @@ struct entry {
     uint64_t kind, service, can_keep, preference; /* of an ask */
     uint64_t choice;                              /* the act, the timer, or whether User A or the line is busy */
     uint64_t keep, retain;                        /* of a line desk's start */
-    uint8_t identifier[16], number_a[16], number_b[16]; /* number_b: also the number of a line */
+    tollherring_identifier identifier;
+    uint64_t named;                               /* the place that the host names */
+    tollherring_number number_a, number_b;        /* number_b: also the number of a line */
     tollherring_line_given lines[255];
     size_t lines_bytes;
     const uint8_t *bytes; /* of a message: they stand in the script */
@@ -25,7 +27,9 @@ struct entry {
 struct lent {
     tollherring_clerk *clerk;
     tollherring_line *line;
-    const uint8_t *identifier, *number_a, *number_b, *bytes;
+    const tollherring_identifier *identifier;
+    const tollherring_number *number_a, *number_b;
+    const uint8_t *bytes;
     const tollherring_line_given *lines;
     uint8_t *out;
     size_t room;
@@ -34,6 +38,9 @@ struct lent {
 
 /* Where the next entry begins; NULL where the script ends inside this one, or a code or a choice is not listed. */
 const uint8_t *read_entry(struct entry *entry, const uint8_t *at, const uint8_t *end);
+
+/* whether an entry names a request, as acts and reports do */
+int has_name(unsigned code);
 
 /* The call of an entry with a code of 1 to 37: what it answers. A start has no outcome of its own: its answer is put into one. */
 uint64_t call(const struct entry *entry, const struct lent *lent);

@@ -5,9 +5,12 @@
 #define HOLDS(name, condition) typedef char holds_##name[(condition) ? 1 : -1]
 #define WORD(type, field, k) HOLDS(type##_##field, offsetof(tollherring_##type, field) == 8 * (k) && sizeof ((tollherring_##type *)0)->field == 8)
 
-HOLDS(clerk_size, sizeof(tollherring_clerk) == 1664 && offsetof(tollherring_clerk, words) == 0);
-HOLDS(line_size, sizeof(tollherring_line) == 4240 && offsetof(tollherring_line, words) == 0);
-HOLDS(outcome_size, sizeof(tollherring_outcome) == 72);
+HOLDS(clerk_size, sizeof(tollherring_clerk) == 1792 && offsetof(tollherring_clerk, words) == 0);
+HOLDS(line_size, sizeof(tollherring_line) == 4496 && offsetof(tollherring_line, words) == 0);
+HOLDS(identifier_size, sizeof(tollherring_identifier) == 17 && offsetof(tollherring_identifier, length) == 0 && offsetof(tollherring_identifier, bytes) == 1);
+HOLDS(number_size, sizeof(tollherring_number) == 16 && offsetof(tollherring_number, length) == 0 && offsetof(tollherring_number, digits) == 1);
+HOLDS(no_place, TOLLHERRING_NO_PLACE == UINT64_MAX);
+HOLDS(outcome_size, sizeof(tollherring_outcome) == 88);
 HOLDS(record_size, sizeof(tollherring_record) == 72);
 HOLDS(status_size, sizeof(tollherring_line_status) == 16);
 HOLDS(message_size, sizeof(tollherring_message) == 32);
@@ -24,7 +27,9 @@ WORD(outcome, stops, 4);
 WORD(outcome, notice, 5);
 WORD(outcome, clear, 6);
 WORD(outcome, unread, 7);
-WORD(outcome, place, 8);
+WORD(outcome, fault_at, 8);
+WORD(outcome, has_record, 9);
+WORD(outcome, record_at, 10);
 
 WORD(record, kind, 0);
 WORD(record, service, 1);
@@ -44,15 +49,27 @@ WORD(message, carrier, 1);
 WORD(message, service, 2);
 WORD(message, field, 3);
 
-/* one ask, so that the names are linked too: as C++ they have to be the C names */
+/* With this word the identifier and numberB change places in the calls: no compiler may take that. */
+#ifdef SWAPPED
+#define IDENTIFIER &number_b
+#define NUMBER_B &identifier
+#else
+#define IDENTIFIER &identifier
+#define NUMBER_B &number_b
+#endif
+
+/* one ask and one act, so that the names are linked too: as C++ they have to be the C names */
 int main(void)
 {
-    const uint8_t identifier[16] = {7}, number_a[16] = {3, 4, 1, 1}, number_b[16] = {2, 8, 0};
+    const tollherring_identifier identifier = {16, {7}};
+    const tollherring_number number_a = {3, {4, 1, 1}}, number_b = {2, {8, 0}};
     tollherring_clerk desk;
     tollherring_outcome outcome;
     uint8_t out[TOLLHERRING_MESSAGE_MOST];
     tollherring_clerk_start(&desk);
-    if (tollherring_clerk_ask(&desk, identifier, TOLLHERRING_CCBS, number_a, number_b, 1, 1, TOLLHERRING_PREFER_RETAIN, out, sizeof out, &outcome) != 0)
+    if (tollherring_clerk_ask(&desk, IDENTIFIER, TOLLHERRING_CCBS, &number_a, NUMBER_B, 1, 1, TOLLHERRING_PREFER_RETAIN, out, sizeof out, &outcome) != 0)
         return 1;
-    return outcome.length == 27 && out[0] == TOLLHERRING_CCBS_REQUEST && out[1] == TOLLHERRING_SETUP && outcome.starts == TOLLHERRING_T1 ? 0 : 1;
+    if (outcome.length != 28 || out[0] != TOLLHERRING_CCBS_REQUEST || out[1] != TOLLHERRING_SETUP || out[2] != 16 || outcome.starts != TOLLHERRING_T1)
+        return 1;
+    return tollherring_clerk_act(&desk, TOLLHERRING_NO_PLACE, IDENTIFIER, TOLLHERRING_CLERK_ACT_CANCEL, out, sizeof out, &outcome) == 0 ? 0 : 1;
 }

@@ -21,11 +21,14 @@ static uint64_t line_at(const void *place, void *const at[])
 }
 
 /* whatever the desk holds, a record that is shown has numbers of its lists */
-static int record_in_range(const uint64_t words[9], uint64_t states)
+static int record_in_range(const uint64_t name[9], const uint64_t words[9], uint64_t states)
 {
+    static const tollherring_identifier none;
+    tollherring_identifier identifier;
     tollherring_record r;
+    memcpy(&identifier, name, sizeof identifier);
     memcpy(&r, words, sizeof r);
-    return r.kind >= 1 && r.kind <= 2 && r.can_keep <= 1 && r.keep <= 2 && r.connection <= 2 && r.state >= 1 && r.state <= states &&
+    return (identifier.length == 16 || memcmp(&identifier, &none, sizeof none) == 0) && r.kind >= 1 && r.kind <= 2 && r.can_keep <= 1 && r.keep <= 2 && r.connection <= 2 && r.state >= 1 && r.state <= states &&
            r.active <= 1 && r.suspended <= 1 && r.down <= 1;
 }
 
@@ -38,8 +41,8 @@ struct look {
 };
 
 static const struct look looks[] = {
-    {clerk_record, sizeof(tollherring_clerk), TOLLHERRING_NO_RECORD, 16, 4, {16, 16, 16, sizeof(tollherring_record)}},
-    {line_record, sizeof(tollherring_line), TOLLHERRING_NO_RECORD, 32, 4, {16, 16, 16, sizeof(tollherring_record)}},
+    {clerk_record, sizeof(tollherring_clerk), TOLLHERRING_NO_RECORD, 16, 4, {sizeof(tollherring_identifier), 16, 16, sizeof(tollherring_record)}},
+    {line_record, sizeof(tollherring_line), TOLLHERRING_NO_RECORD, 32, 4, {sizeof(tollherring_identifier), 16, 16, sizeof(tollherring_record)}},
     {line_at, sizeof(tollherring_line), TOLLHERRING_NO_LINE, 16, 2, {16, sizeof(tollherring_line_status), 0, 0}},
 };
 
@@ -65,7 +68,7 @@ static int try_place(const struct look *look, void *desk, uint64_t place)
     EXPECT(answer == 0 || answer == look->refusal);
     for (k = 0; answer != 0 && k < look->count; k++)
         EXPECT(memcmp(made[k], fresh, sizeof fresh) == 0);
-    EXPECT(answer != 0 || look->count < 4 || record_in_range(made[3], look->call == clerk_record ? 5 : 3));
+    EXPECT(answer != 0 || look->count < 4 || record_in_range(made[0], made[3], look->call == clerk_record ? 5 : 3));
     EXPECT(fenced(look->call, &place, things, look->count + 1, 1) == answer);
     EXPECT(fenced(look->call, &place, things, look->count + 1, 0) == answer);
     return answer == 0;
@@ -94,7 +97,8 @@ void try_looks(struct desks *desks, int sound)
 
 /* a message as it is read: each number of digits behind its length, and the fields */
 struct parts {
-    uint8_t identifier[16], number_a[16], number_b[16];
+    tollherring_identifier identifier;
+    tollherring_number number_a, number_b;
     tollherring_message message;
     uint64_t taken;
     uint64_t place; /* of the fault, where there is one */
@@ -119,14 +123,14 @@ static uint64_t write_message(const void *numbers, void *const at[])
 static uint64_t try_read(const struct entry *e, struct parts *parts)
 {
     static struct parts fresh, kept;
-    struct thing things[] = {{e->bytes, e->bytes, 0}, {fresh.identifier, parts->identifier, 16}, {fresh.number_a, parts->number_a, 16},
-                             {fresh.number_b, parts->number_b, 16}, {&fresh.message, &parts->message, sizeof fresh.message},
+    struct thing things[] = {{e->bytes, e->bytes, 0}, {&fresh.identifier, &parts->identifier, sizeof fresh.identifier}, {&fresh.number_a, &parts->number_a, 16},
+                             {&fresh.number_b, &parts->number_b, 16}, {&fresh.message, &parts->message, sizeof fresh.message},
                              {&fresh.taken, &parts->taken, sizeof fresh.taken}, {&fresh.place, &parts->place, sizeof fresh.place}};
     uint64_t answer;
     memset(&fresh, 0x99, sizeof fresh);
     *parts = fresh;
     things[0].size = e->length;
-    answer = tollherring_message_read(e->bytes, e->length, parts->identifier, parts->number_a, parts->number_b, &parts->message, &parts->taken,
+    answer = tollherring_message_read(e->bytes, e->length, &parts->identifier, &parts->number_a, &parts->number_b, &parts->message, &parts->taken,
                                       &parts->place);
     EXPECT(answer <= TOLLHERRING_OUT_OF_RANGE);
     kept = answer == 0 ? *parts : fresh;
@@ -143,8 +147,8 @@ static void try_write(const struct parts *parts, const uint8_t *bytes, size_t ro
 {
     static const uint64_t never = 99;
     uint8_t fresh[640], made[640];
-    struct thing things[] = {{parts->identifier, parts->identifier, 16}, {parts->number_a, parts->number_a, 16}, {parts->number_b, parts->number_b, 16},
-                             {&parts->message, &parts->message, sizeof parts->message}, {NULL, NULL, 0}, {&never, NULL, sizeof never}};
+    struct thing things[] = {{&parts->identifier, &parts->identifier, sizeof parts->identifier}, {&parts->number_a, &parts->number_a, 16},
+                             {&parts->number_b, &parts->number_b, 16}, {&parts->message, &parts->message, sizeof parts->message}, {NULL, NULL, 0}, {&never, NULL, sizeof never}};
     struct place at;
     at.room = room;
     at.place = place;
@@ -180,6 +184,14 @@ static void try_unused(const struct parts *parts, const uint8_t *bytes, size_t f
     try_write(&other, bytes, 64, 3, 0);
 }
 
+/* whether a message has two numbers of digits and a service: a request, and types 5, 6, 9 and 10 in Setup */
+static int has_elements(const tollherring_message *m)
+{
+    return m->type <= TOLLHERRING_CCNR_REQUEST ||
+           (m->carrier == TOLLHERRING_SETUP && (m->type == TOLLHERRING_CC_EXEC_POSSIBLE || m->type == TOLLHERRING_CC_RINGOUT ||
+                                                m->type == TOLLHERRING_CC_RESUME || m->type == TOLLHERRING_CC_CANCEL));
+}
+
 static void try_fields(const struct parts *parts, const uint8_t *bytes)
 {
     static const uint64_t far[] = {257, 65537, UINT64_MAX};
@@ -189,7 +201,7 @@ static void try_fields(const struct parts *parts, const uint8_t *bytes)
         try_wrong(parts, bytes, offsetof(tollherring_message, type), far[k]);
         try_wrong(parts, bytes, offsetof(tollherring_message, carrier), far[k]);
         (most > 0 ? try_wrong : try_unused)(parts, bytes, offsetof(tollherring_message, field), far[k]);
-        (type <= TOLLHERRING_CCNR_REQUEST ? try_wrong : try_unused)(parts, bytes, offsetof(tollherring_message, service), k == 0 ? 16384 : far[k]);
+        (has_elements(&parts->message) ? try_wrong : try_unused)(parts, bytes, offsetof(tollherring_message, service), k == 0 ? 16384 : far[k]);
     }
     for (k = 0; k < 2; k++) {
         try_wrong(parts, bytes, offsetof(tollherring_message, type), k == 0 ? 0 : 13);
@@ -201,23 +213,43 @@ static void try_fields(const struct parts *parts, const uint8_t *bytes)
         try_wrong(parts, bytes, offsetof(tollherring_message, field), 0);
 }
 
-/* a request's numbers of digits: too many, none, and a digit that is none */
+/* numbers of digits: too many, none, and a digit that is none. Where a message has none they are not looked at */
 static void try_digits(const struct parts *parts, const uint8_t *bytes)
 {
+    uint64_t refusal = has_elements(&parts->message) ? TOLLHERRING_OUT_OF_RANGE : 0;
     struct parts wrong = *parts;
-    wrong.number_a[0] = 16;
-    try_write(&wrong, bytes, 64, 0, TOLLHERRING_OUT_OF_RANGE);
+    wrong.number_a.length = 16;
+    try_write(&wrong, bytes, 64, 0, refusal);
     wrong = *parts;
-    wrong.number_b[0] = 0;
-    try_write(&wrong, bytes, 64, 0, TOLLHERRING_OUT_OF_RANGE);
+    wrong.number_b.length = 0;
+    try_write(&wrong, bytes, 64, 0, refusal);
     wrong = *parts;
-    wrong.number_b[wrong.number_b[0]] = 10;
-    try_write(&wrong, bytes, 64, 0, TOLLHERRING_OUT_OF_RANGE);
+    wrong.number_b.length = 1;
+    wrong.number_b.digits[0] = 10;
+    try_write(&wrong, bytes, 64, 0, refusal);
+}
+
+/* an identifier: a length that is neither 0 nor 16, also where nothing fits; of one that is not there the bytes don't count */
+static void try_identifier(const struct parts *parts, const uint8_t *bytes)
+{
+    static const uint8_t lengths[] = {1, 8, 15, 17, 128, 255};
+    struct parts wrong = *parts;
+    size_t k;
+    for (k = 0; k < sizeof lengths; k++) {
+        wrong.identifier.length = lengths[k];
+        try_write(&wrong, bytes, k % 2 ? 0 : 64, 0, TOLLHERRING_OUT_OF_RANGE);
+    }
+    if (parts->identifier.length == 0) {
+        wrong = *parts;
+        memset(wrong.identifier.bytes, 0x5A, sizeof wrong.identifier.bytes);
+        try_write(&wrong, bytes, 64, 0, 0);
+    }
 }
 
 void try_message(const struct entry *e)
 {
-    static const uint8_t zeros[16];
+    static const tollherring_identifier no_identifier;
+    static const tollherring_number no_number;
     static struct parts parts;
     size_t taken;
     if (try_read(e, &parts) != 0)
@@ -225,8 +257,9 @@ void try_message(const struct entry *e)
     taken = (size_t)parts.taken;
     EXPECT(taken >= TOLLHERRING_MESSAGE_LEAST && taken <= TOLLHERRING_MESSAGE_MOST && taken <= e->length);
     EXPECT(parts.message.type >= 1 && parts.message.type <= 12 && parts.message.field <= field_most[parts.message.type]);
-    if (parts.message.type > TOLLHERRING_CCNR_REQUEST)
-        EXPECT(parts.message.service == 0 && memcmp(parts.number_a, zeros, 16) == 0 && memcmp(parts.number_b, zeros, 16) == 0);
+    EXPECT(parts.identifier.length == 16 || memcmp(&parts.identifier, &no_identifier, sizeof no_identifier) == 0);
+    if (!has_elements(&parts.message))
+        EXPECT(parts.message.service == 0 && memcmp(&parts.number_a, &no_number, 16) == 0 && memcmp(&parts.number_b, &no_number, 16) == 0);
     try_write(&parts, e->bytes, e->place + taken, e->place, 0);
     try_write(&parts, e->bytes, e->place + taken + e->size, e->place, 0);
     try_write(&parts, e->bytes, e->place + taken - 1, e->place, TOLLHERRING_NO_ROOM);
@@ -236,6 +269,6 @@ void try_message(const struct entry *e)
     try_write(&parts, e->bytes, 64, SIZE_MAX, TOLLHERRING_NO_ROOM);
     try_write(&parts, e->bytes, 64, SIZE_MAX - taken + 1, TOLLHERRING_NO_ROOM);
     try_fields(&parts, e->bytes);
-    if (parts.message.type <= TOLLHERRING_CCNR_REQUEST)
-        try_digits(&parts, e->bytes);
+    try_digits(&parts, e->bytes);
+    try_identifier(&parts, e->bytes);
 }

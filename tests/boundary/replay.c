@@ -1,5 +1,5 @@
 /* Plays a script from standard input on the library and prints the lines of docs/REPLAY.md. Everything that is lent stands in a heap block of just
- * its own size, so that a checker sees a byte too far. With the word `short` it lends 17 bytes as 53, with `sum` it adds to the greatest int:
+ * its own size, so that a checker sees a byte too far. With the word `short` it lends two bytes as 54, with `sum` it adds to the greatest int:
  * faults that a checker has to find. */
 #include <limits.h>
 #include <stdio.h>
@@ -50,22 +50,21 @@ static void print_field(uint64_t value)
     printf(" %llu", (unsigned long long)value);
 }
 
-/* the last field of a step and of a write: only bytes that cannot be read have a place */
-static void print_place(int unread, uint64_t place)
+/* the last fields of a step and of a write: only bytes that cannot be read have the place of a fault, and only some steps are about a record */
+static void print_place(int there, uint64_t place)
 {
-    if (unread)
+    if (there)
         print_field(place);
     else
         fputs(" -", stdout);
-    putchar('\n');
 }
 
-static void print_digits(const uint8_t number[16])
+static void print_digits(const tollherring_number *number)
 {
     size_t i;
-    fputs(number[0] ? " " : " -", stdout);
-    for (i = 1; i <= number[0]; i++)
-        putchar('0' + number[i]);
+    fputs(number->length ? " " : " -", stdout);
+    for (i = 0; i < number->length; i++)
+        putchar('0' + number->digits[i]);
 }
 
 static void print_outcome(unsigned long number, const tollherring_outcome *o, const uint8_t *out, size_t left)
@@ -79,14 +78,17 @@ static void print_outcome(unsigned long number, const tollherring_outcome *o, co
     print_field(o->notice);
     print_field(o->clear);
     print_field(left);
-    print_place(o->unread == 1, o->place);
+    print_place(o->unread == 1, o->fault_at);
+    print_place(o->has_record == 1, o->record_at);
+    putchar('\n');
 }
 
 /* a step, and what it has to leave alone: the answer is the outcome's, and behind the message nothing is written */
 static void play_step(unsigned long number, const struct entry *e, const struct lent *desks, size_t room_held)
 {
     struct lent l = *desks;
-    void *held[] = {copy(e->bytes, e->length), copy(e->lines, e->lines_bytes), copy(e->identifier, 16), copy(e->number_a, 16), copy(e->number_b, 16)};
+    void *held[] = {copy(e->bytes, e->length), copy(e->lines, e->lines_bytes), copy(&e->identifier, sizeof e->identifier),
+                    copy(&e->number_a, sizeof e->number_a), copy(&e->number_b, sizeof e->number_b)};
     size_t i;
     l.bytes = held[0];
     l.lines = held[1];
@@ -108,33 +110,42 @@ static void play_step(unsigned long number, const struct entry *e, const struct 
 
 static void play_write(unsigned long number, const struct entry *e)
 {
-    uint8_t identifier[16], number_a[16], number_b[16];
+    tollherring_identifier identifier;
+    tollherring_number number_a, number_b;
     uint8_t *bytes = copy(e->bytes, e->length), *buffer = block(e->size);
     tollherring_message message;
     uint64_t taken, written = 0, place = 0, unread, refusal;
     memset(buffer, 0xEE, e->size);
-    refusal = unread = tollherring_message_read(bytes, e->length, identifier, number_a, number_b, &message, &taken, &place);
+    refusal = unread = tollherring_message_read(bytes, e->length, &identifier, &number_a, &number_b, &message, &taken, &place);
     if (refusal == 0)
-        refusal = tollherring_message_write(identifier, number_a, number_b, &message, buffer, e->size, e->place, &written);
+        refusal = tollherring_message_write(&identifier, &number_a, &number_b, &message, buffer, e->size, e->place, &written);
     printf("%lu", number);
     print_field(refusal);
     print_field(written);
     putchar(' ');
     print_bytes(buffer, e->size);
     print_place(unread != 0, place);
+    putchar('\n');
     free(bytes);
     free(buffer);
 }
 
+/* a record as it is shown */
+struct shown {
+    tollherring_identifier identifier;
+    tollherring_number number_a, number_b;
+    tollherring_record record;
+};
+
 /* how both desks' records begin: identifier, kind, A, B, service */
-static void print_record(const char *mark, const uint8_t *identifier, const uint8_t *number_a, const uint8_t *number_b, const tollherring_record *r)
+static void print_record(const char *mark, const struct shown *s)
 {
     fputs(mark, stdout);
-    print_bytes(identifier, 16);
-    print_field(r->kind);
-    print_digits(number_a);
-    print_digits(number_b);
-    print_field(r->service);
+    print_bytes(s->identifier.bytes, s->identifier.length);
+    print_field(s->record.kind);
+    print_digits(&s->number_a);
+    print_digits(&s->number_b);
+    print_field(s->record.service);
 }
 
 /* a choice that may be open: keep is one less in the script's lines */
@@ -148,36 +159,35 @@ static void print_choice(uint64_t value, uint64_t less)
 
 static void print_clerk(unsigned long number, const tollherring_clerk *desk)
 {
-    uint8_t identifier[16], number_a[16], number_b[16];
-    tollherring_record r;
+    struct shown s;
     uint64_t count = 0, place;
-    while (tollherring_clerk_record(desk, count, identifier, number_a, number_b, &r) == 0)
+    while (tollherring_clerk_record(desk, count, &s.identifier, &s.number_a, &s.number_b, &s.record) == 0)
         count++;
     printf("%lu c", number);
     print_field(count);
     putchar('\n');
     for (place = 0; place < count; place++) {
-        tollherring_clerk_record(desk, place, identifier, number_a, number_b, &r);
-        print_record("c ", identifier, number_a, number_b, &r);
-        print_field(r.can_keep);
-        print_choice(r.keep, 1);
-        print_choice(r.connection, 0);
-        print_field(r.state);
-        print_field(r.down);
+        tollherring_clerk_record(desk, place, &s.identifier, &s.number_a, &s.number_b, &s.record);
+        print_record("c ", &s);
+        print_field(s.record.can_keep);
+        print_choice(s.record.keep, 1);
+        print_choice(s.record.connection, 0);
+        print_field(s.record.state);
+        print_field(s.record.down);
         putchar('\n');
     }
 }
 
 static uint64_t print_lines(const tollherring_line *desk, int silent)
 {
-    uint8_t digits[16];
+    tollherring_number digits;
     tollherring_line_status status;
     uint64_t count = 0;
-    for (; tollherring_line_at(desk, count, digits, &status) == 0; count++) {
+    for (; tollherring_line_at(desk, count, &digits, &status) == 0; count++) {
         if (silent)
             continue;
         putchar('l');
-        print_digits(digits);
+        print_digits(&digits);
         print_field(status.kinds);
         print_field(status.busy);
         putchar('\n');
@@ -187,19 +197,18 @@ static uint64_t print_lines(const tollherring_line *desk, int silent)
 
 static uint64_t print_requests(const tollherring_line *desk, int silent)
 {
-    uint8_t identifier[16], number_a[16], number_b[16];
-    tollherring_record r;
+    struct shown s;
     uint64_t count = 0;
-    for (; tollherring_line_record(desk, count, identifier, number_a, number_b, &r) == 0; count++) {
+    for (; tollherring_line_record(desk, count, &s.identifier, &s.number_a, &s.number_b, &s.record) == 0; count++) {
         if (silent)
             continue;
-        print_record("r ", identifier, number_a, number_b, &r);
-        print_choice(r.keep, 1);
-        print_choice(r.connection, 0);
-        print_field(r.state);
-        print_field(r.active);
-        print_field(r.suspended);
-        print_field(r.down);
+        print_record("r ", &s);
+        print_choice(s.record.keep, 1);
+        print_choice(s.record.connection, 0);
+        print_field(s.record.state);
+        print_field(s.record.active);
+        print_field(s.record.suspended);
+        print_field(s.record.down);
         putchar('\n');
     }
     return count;

@@ -1,5 +1,5 @@
 //! Plays a script from standard input on the library, through the Rust module, and prints the lines of docs/REPLAY.md. With the word `short` it lends a heap
-//! block of 17 bytes as one of 53: a fault that a checker has to find.
+//! block of two bytes as one of 54: a fault that a checker has to find.
 
 #[path = "../../rust/tollherring.rs"]
 mod tollherring;
@@ -32,8 +32,24 @@ impl<'s> Unread<'s> {
         self.run(usize::from(count))
     }
 
-    fn identifier(&mut self) -> Option<Identifier> {
-        self.run(16)?.try_into().ok()
+    /// A length, 0 or 16, and so many bytes: None within where there is no identifier.
+    fn identifier(&mut self) -> Option<Option<Identifier>> {
+        match self.byte()? {
+            0 => Some(None),
+            16 => Some(Some(Identifier(self.run(16)?.try_into().ok()?))),
+            _ => None,
+        }
+    }
+
+    /// The place that the host names.
+    fn place(&mut self) -> Option<usize> {
+        self.byte().map(usize::from)
+    }
+
+    /// An identifier or none, and a place, which is there either way.
+    fn name(&mut self) -> Option<Name> {
+        let (identifier, place) = (self.identifier()?, self.place()?);
+        Some(identifier.map_or(Name::Place(place), Name::Identifier))
     }
 
     /// The length, in range or not, and at most the first 15 of the bytes.
@@ -61,14 +77,18 @@ fn hex(bytes: &[u8]) -> String {
     bytes.iter().flat_map(|byte| [digit(byte / 16), digit(byte % 16)]).collect()
 }
 
-/// The last field of a step and of a write: only bytes that cannot be read have a place.
+/// The last fields of a step and of a write: only bytes that cannot be read have the place of a fault, and only some steps are about a record.
 fn place_text(place: Option<usize>) -> String {
     place.map_or("-".to_string(), |place| place.to_string())
 }
 
+fn identifier_text(identifier: Option<Identifier>) -> String {
+    hex(identifier.as_ref().map_or(&[], |identifier| &identifier.0))
+}
+
 fn outcome_text(number: usize, outcome: &Outcome, left: usize) -> String {
     format!(
-        "{} {} {} {} {} {} {} {} {}\n",
+        "{} {} {} {} {} {} {} {} {} {}\n",
         number,
         outcome.refusal.map_or(0, Refusal::number),
         hex(outcome.message.unwrap_or(&[])),
@@ -77,13 +97,14 @@ fn outcome_text(number: usize, outcome: &Outcome, left: usize) -> String {
         outcome.notice.map_or(0, Notice::number),
         u8::from(outcome.clear),
         left,
-        place_text(outcome.place)
+        place_text(outcome.fault_at),
+        place_text(outcome.record_at)
     )
 }
 
 /// A desk's start has no outcome of its own.
 fn start_text(number: usize, refusal: Option<Refusal>) -> String {
-    format!("{} {} - 0 0 0 0 0 -\n", number, refusal.map_or(0, Refusal::number))
+    format!("{} {} - 0 0 0 0 0 - -\n", number, refusal.map_or(0, Refusal::number))
 }
 
 impl Session {
@@ -111,12 +132,12 @@ impl Session {
         let outcome = match Preference::from_number(preference) {
             Some(preference) => {
                 let ask = Ask { kind, service, can_keep, preference };
-                self.clerk.ask(&identifier, &number_a, &number_b, &ask, &mut self.out)
+                self.clerk.ask(identifier, &number_a, &number_b, &ask, &mut self.out)
             }
             None => {
                 let (kind, service, can_keep) = (kind.number(), u64::from(service), u64::from(can_keep));
                 self.clerk.ask_numbers(
-                    &identifier,
+                    identifier,
                     kind,
                     &number_a,
                     &number_b,
@@ -132,30 +153,31 @@ impl Session {
 
     fn clerk_entry(&mut self, code: u8, number: usize, unread: &mut Unread) -> Option<String> {
         if code == 17 {
-            let busy = unread.listed(0, 1)? == 1;
+            let (busy, place) = (unread.listed(0, 1)? == 1, Some(unread.place()?));
             // a block of the bytes' own size, so that a checker sees one that is read too far
             let bytes = unread.counted()?.to_vec().into_boxed_slice();
-            let outcome = self.clerk.receive(&bytes, busy, &mut self.out);
+            let outcome = self.clerk.receive(place, &bytes, busy, &mut self.out);
             return Some(outcome_text(number, &outcome, bytes.len() - outcome.next));
         }
-        let identifier = unread.identifier()?;
+        let name = unread.name()?;
         let outcome = match code {
-            18 => self.clerk.act(&identifier, Act::Accept, &mut self.out),
+            18 => self.clerk.act(name, Act::Accept, &mut self.out),
             19 => {
                 let act = if unread.listed(0, 1)? == 1 { Act::GoOn } else { Act::Resume };
-                self.clerk.act(&identifier, act, &mut self.out)
+                self.clerk.act(name, act, &mut self.out)
             }
-            20 => self.clerk.act(&identifier, Act::Cancel, &mut self.out),
-            22 => self.clerk.act(&identifier, Act::Fell, &mut self.out),
-            _ => self.clerk.report(&identifier, Timer::from_number(u64::from(unread.byte()?))?, &mut self.out),
+            20 => self.clerk.act(name, Act::Cancel, &mut self.out),
+            22 => self.clerk.act(name, Act::Fell, &mut self.out),
+            _ => self.clerk.report(name, Timer::from_number(u64::from(unread.byte()?))?, &mut self.out),
         };
         Some(outcome_text(number, &outcome, 0))
     }
 
     fn line_entry(&mut self, code: u8, number: usize, unread: &mut Unread) -> Option<String> {
         if code == 32 {
+            let place = Some(unread.place()?);
             let bytes = unread.counted()?.to_vec().into_boxed_slice();
-            let outcome = self.line.receive(&bytes, &mut self.out);
+            let outcome = self.line.receive(place, &bytes, &mut self.out);
             return Some(outcome_text(number, &outcome, bytes.len() - outcome.next));
         }
         let outcome = match code {
@@ -165,11 +187,11 @@ impl Session {
             }
             34 => self.line.look(&unread.number()?, &mut self.out),
             35 => {
-                let identifier = unread.identifier()?;
-                self.line.act(&identifier, LineAct::from_number(u64::from(unread.listed(1, 3)?))?, &mut self.out)
+                let name = unread.name()?;
+                self.line.act(name, LineAct::from_number(u64::from(unread.listed(1, 3)?))?, &mut self.out)
             }
-            37 => self.line.act(&unread.identifier()?, LineAct::Fell, &mut self.out),
-            _ => self.line.guard(&unread.identifier()?, &mut self.out),
+            37 => self.line.act(unread.name()?, LineAct::Fell, &mut self.out),
+            _ => self.line.guard(unread.name()?, &mut self.out),
         };
         Some(outcome_text(number, &outcome, 0))
     }
@@ -179,7 +201,7 @@ impl Session {
         for r in self.clerk.records() {
             let keep = r.keep.map_or("-".to_string(), |keep| u8::from(keep).to_string());
             let connection = r.connection.map_or("-".to_string(), |connection| connection.number().to_string());
-            let (id, kind, can_keep) = (hex(&r.identifier), r.kind.number(), u8::from(r.can_keep));
+            let (id, kind, can_keep) = (identifier_text(r.identifier), r.kind.number(), u8::from(r.can_keep));
             let (state, down) = (r.state.number(), u8::from(r.down));
             let _ = writeln!(
                 text,
@@ -197,7 +219,7 @@ impl Session {
         }
         for r in self.line.records() {
             let (id, kind, keep, connection) =
-                (hex(&r.identifier), r.kind.number(), u8::from(r.keep), r.connection.number());
+                (identifier_text(r.identifier), r.kind.number(), u8::from(r.keep), r.connection.number());
             let (state, active, suspended, down) =
                 (r.state.number(), u8::from(r.active), u8::from(r.suspended), u8::from(r.down));
             let _ = write!(text, "r {} {} {} {} {}", id, kind, r.number_a, r.number_b, r.service);
@@ -246,7 +268,7 @@ fn written_text(number: usize, unread: &mut Unread) -> Option<String> {
     let mut buffer = vec![0xEE; usize::from(unread.byte()?)].into_boxed_slice();
     let (written, fault) = match Message::read(&bytes) {
         Ok((message, _)) => (message.write(&mut buffer, place), None),
-        Err(fault) => (Err(fault.refusal), Some(fault.place)),
+        Err(fault) => (Err(fault.refusal), Some(fault.at)),
     };
     let refusal = written.err().map_or(0, Refusal::number);
     Some(format!("{} {} {} {} {}\n", number, refusal, written.unwrap_or(0), hex(&buffer), place_text(fault)))

@@ -4,15 +4,16 @@ use mathlib.Core.Bool.{Bool}
 use mathlib.Core.List.{List}
 use lib.Dec.{ltb}
 use Rattle.lists.specs.Choice.{pick}
-use Rattle.lists.specs.Words.{wordsOf}
 use Rattle.lists.specs.declared.Found.the-variants.{At, Nothing}
 use Rattle.message.specs.Reading.{Read, took, refused}
 use Rattle.message.specs.Format.{requestBody, inRange}
 use Rattle.message.specs.Wire.{messageAt}
 use Rattle.message.specs.declared.Carrier.the-variants.{Setup}
+use Rattle.message.specs.declared.Service.the-variants.{Absent}
 use Rattle.message.specs.declared.Message.{Message}
 use Rattle.desk.specs.Letter.{letterOf}
 use Rattle.terms.specs.Request.{letterNames}
+use Rattle.terms.specs.declared.request.Name.{Name}
 use Rattle.terms.specs.declared.request.Names.{Names}
 use Rattle.terms.specs.declared.request.Request.{Request}
 use Rattle.clerk_table.specs.declared.table.Timer.{Timer}
@@ -36,9 +37,11 @@ abbrev pub requestMessage : Asking → Request → Message
 requestMessage a q =
     record {
       carrier = Setup;
+      identified = a .identified;
       identifier = a .identifier;
       numberA = a .numberA;
       numberB = a .numberB;
+      service = Absent;
       body = requestBody (q .kind) (q .service) (q .flags);
     }
 
@@ -52,21 +55,21 @@ askNames a = letterNames (letterOf (askMessage a))
 unfoldable pub askEntry : Asking → Entry
 askEntry a = pick (ltb (a .preference) 3) (pick (inRange (askMessage a)) (Given (Input.Ask (askNames a) (askRequest a))) (Refused 2)) (Refused 2)
 
--- ---- a message received, with the host's word on User A: 2
-unfoldable pub messageEntry : Message → Bool → Entry
-messageEntry m busy = pick (inRange m) (Given (Input.Message (letterOf m) busy)) (Refused 2)
+-- ---- a message received, with the host's word on User A and the place that the host names for it: 2
+unfoldable pub messageEntry : Message → Bool → ℕ → Entry
+messageEntry m busy place = pick (inRange m) (Given (Input.Message (letterOf m) busy place)) (Refused 2)
 
 -- ---- acts and timers
-unfoldable pub actEntry : List ℕ → Act → Entry
-actEntry identifier act = Given (Input.Act (wordsOf identifier) act)
+abbrev pub actEntry : Name → Act → Entry
+actEntry name act = Given (Input.Act name act)
 
-unfoldable pub timerEntry : List ℕ → Timer → Entry
-timerEntry identifier timer = Given (Input.Timer (wordsOf identifier) timer)
+abbrev pub timerEntry : Name → Timer → Entry
+timerEntry name timer = Given (Input.Timer name timer)
 
 -- ---- raw bytes: the reader's 1 and 2, with the place of the fault
-abbrev pub readEntry : Bool → Read Message → BytesEntry
-readEntry busy (took m next) = record { entry = messageEntry m busy; next = next; fault = Nothing }
-readEntry busy (refused fault) = record { entry = Refused (fault .number); next = 0; fault = At (fault .place) }
+abbrev pub readEntry : Bool → ℕ → Read Message → BytesEntry
+readEntry busy place (took m next) = record { entry = messageEntry m busy place; next = next; fault = Nothing }
+readEntry busy place (refused fault) = record { entry = Refused (fault .number); next = 0; fault = At (fault .place) }
 
-unfoldable pub bytesEntry : List ℕ → Bool → BytesEntry
-bytesEntry bytes busy = readEntry busy (messageAt bytes)
+unfoldable pub bytesEntry : List ℕ → Bool → ℕ → BytesEntry
+bytesEntry bytes busy place = readEntry busy place (messageAt bytes)

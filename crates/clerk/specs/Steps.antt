@@ -9,6 +9,7 @@ use Rattle.desk.specs.Outcome.{refusedWith}
 use Rattle.desk.specs.declared.outcome.Outcome.{Outcome}
 use Rattle.desk.specs.declared.outcome.BytesOutcome.{BytesOutcome}
 use Rattle.desk.specs.declared.outcome.Sending.the-variants as Sending
+use Rattle.terms.specs.declared.request.Name.{Name}
 use Rattle.clerk_table.specs.declared.table.Timer.{Timer}
 use Rattle.clerk_table.specs.declared.record.Plan.{Plan}
 use Rattle.clerk_table.specs.declared.inputs.Act.{Act}
@@ -68,18 +69,18 @@ readStep d read = withNext (entered d (read .entry)) (read .next) (read .fault)
 abbrev pub asked : Desk → Asking → Stepped
 asked d a = entered d (askEntry a)
 
--- a message received, with the host's word on User A: 2, 3, 6, 7, 8
-abbrev pub received : Desk → Message → Bool → Stepped
-received d m busy = entered d (messageEntry m busy)
+-- a message received, with the host's word on User A and the place that the host names for it: 2, 3, 6, 7, 8
+abbrev pub received : Desk → Message → Bool → ℕ → Stepped
+received d m busy place = entered d (messageEntry m busy place)
 
 -- User A's act: 6, 7
-abbrev pub acted : Desk → List ℕ → Act → Stepped
-acted d identifier act = entered d (actEntry identifier act)
+abbrev pub acted : Desk → Name → Act → Stepped
+acted d name act = entered d (actEntry name act)
 
 -- a timer that ran out at the host: 6, 9
-abbrev pub reported : Desk → List ℕ → Timer → Stepped
-reported d identifier timer = entered d (timerEntry identifier timer)
+abbrev pub reported : Desk → Name → Timer → Stepped
+reported d name timer = entered d (timerEntry name timer)
 
 -- raw bytes: the reader's 1 and 2 change nothing, and tell the place of the fault
-unfoldable pub receivedBytes : Desk → List ℕ → Bool → SteppedBytes
-receivedBytes d bytes busy = readStep d (bytesEntry bytes busy)
+unfoldable pub receivedBytes : Desk → List ℕ → Bool → ℕ → SteppedBytes
+receivedBytes d bytes busy place = readStep d (bytesEntry bytes busy place)

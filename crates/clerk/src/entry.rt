@@ -6,21 +6,23 @@ use clerk_table::table::Timer;
 use desk::letter::letter_of;
 use desk::letter::read_letter;
 use lists::Found;
-use lists::words::words_of;
 use message::Carrier;
 use message::Kind;
 use message::Message;
+use message::Service;
 use message::digits::PlaceRead;
 use message::range::in_range;
 use message::request_body;
+use terms::request::Name;
 use terms::request::Request;
 use terms::request::letter_names;
 ghost use mathlib.Core.Path.{_≡_};
 ghost use Prim.Native.Nat.{_<_};
 ghost use Rattle.clerk.specs.Entry.{askFlags, askRequest, requestMessage, askEntry, messageEntry, actEntry, timerEntry, bytesEntry};
 
-// What User A asks for: the data of the failed call, whether it can keep, and its preference (0 none, 1 retain, 2 release).
+// What User A asks for: the data of the failed call, its identifier where there is one, whether it can keep, and its preference (0 none, 1 retain, 2 release).
 pub struct Asking {
+    pub identified: bool,
     pub identifier: [u8; 16],
     pub kind: Kind,
     pub numberA: [u8; 16],
@@ -77,9 +79,11 @@ fn request_message(a: Asking, q: Request) -> Message
     let body = request_body(kind, q.service, q.flags);
     Message {
         carrier: Carrier::Setup,
+        identified: a.identified,
         identifier,
         numberA,
         numberB,
+        service: Service::Absent,
         body,
     }
 }
@@ -100,33 +104,33 @@ pub fn ask_entry(a: Asking) -> Entry
     Entry::Refused(2)
 }
 
-// A message received, with the host's word on User A: 2.
-pub fn message_entry(m: Message, busy: bool) -> Entry
-    ensures { λ r. ⌜ r ≡ messageEntry m busy ⌝ }
+// A message received, with the host's word on User A and the place that the host names for it: 2.
+pub fn message_entry(m: Message, busy: bool, place: usize) -> Entry
+    ensures { λ r. ⌜ r ≡ messageEntry m busy place ⌝ }
 {
     if in_range(m) {
-        return Entry::Given(Input::Message(letter_of(m), busy));
+        return Entry::Given(Input::Message(letter_of(m), busy, place));
     }
     Entry::Refused(2)
 }
 
-// User A's act: accept, resume, go on to recall, cancel.
-pub fn act_entry(identifier: [u8; 16], act: Act) -> Entry
-    ensures { λ r. ⌜ r ≡ actEntry identifier act ⌝ }
+// User A's act: accept, resume, go on to recall, cancel; or that the connection fell.
+pub fn act_entry(name: Name, act: Act) -> Entry
+    ensures { λ r. ⌜ r ≡ actEntry name act ⌝ }
 {
-    Entry::Given(Input::Act(words_of(identifier), act))
+    Entry::Given(Input::Act(name, act))
 }
 
 // A timer that ran out at the host.
-pub fn timer_entry(identifier: [u8; 16], timer: Timer) -> Entry
-    ensures { λ r. ⌜ r ≡ timerEntry identifier timer ⌝ }
+pub fn timer_entry(name: Name, timer: Timer) -> Entry
+    ensures { λ r. ⌜ r ≡ timerEntry name timer ⌝ }
 {
-    Entry::Given(Input::Timer(words_of(identifier), timer))
+    Entry::Given(Input::Timer(name, timer))
 }
 
 // Raw bytes received: the reader's 1 and 2. What was read is in range and its own normal form, so neither is tested or made again.
-pub fn bytes_entry(s: &[u8], busy: bool) -> BytesEntry
-    ensures { λ r. ⌜ r ≡ bytesEntry (now (s .entry)) busy ⌝ }
+pub fn bytes_entry(s: &[u8], busy: bool, place: usize) -> BytesEntry
+    ensures { λ r. ⌜ r ≡ bytesEntry (now (s .entry)) busy place ⌝ }
 {
     let answer = reader::read(s);
     let verdict = answer.verdict;
@@ -140,7 +144,7 @@ pub fn bytes_entry(s: &[u8], busy: bool) -> BytesEntry
             let m = answer.message;
             let l = read_letter(m);
             BytesEntry {
-                entry: Entry::Given(Input::Message(l, busy)),
+                entry: Entry::Given(Input::Message(l, busy, place)),
                 next,
                 fault: Found::Nothing,
             }

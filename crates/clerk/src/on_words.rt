@@ -35,10 +35,10 @@ pub fn step(words: &mut [u64; WORDS], entry: Entry) -> Outcome
 }
 
 // Raw bytes received: the reader's 1 and 2, which change nothing, with the place of the fault; else the message's step, and the first unread place.
-pub fn step_bytes(words: &mut [u64; WORDS], s: &[u8], busy: bool) -> BytesOutcome
-    ensures { λ r. ⌜ answeredBytes (deskOf (now (words .exit))) r ≡ receivedBytes (deskOf (now (words .entry))) (now (s .entry)) busy ⌝ }
+pub fn step_bytes(words: &mut [u64; WORDS], s: &[u8], busy: bool, place: usize) -> BytesOutcome
+    ensures { λ r. ⌜ answeredBytes (deskOf (now (words .exit))) r ≡ receivedBytes (deskOf (now (words .entry))) (now (s .entry)) busy place ⌝ }
 {
-    let read = bytes_entry(s, busy);
+    let read = bytes_entry(s, busy, place);
     let entry = read.entry;
     let fault = read.fault;
     let outcome = step(words, entry);

@@ -42,11 +42,11 @@ pub fn step(d: Desk, entry: Entry) -> Stepped
 }
 
 // Raw bytes received: the reader's 1 and 2, which change nothing, with the place of the fault; else the message's step, and the first unread place.
-pub fn step_bytes(d: Desk, s: &[u8], busy: bool) -> SteppedBytes
-    ensures { λ r. ⌜ r ≡ receivedBytes d (now (s .entry)) busy ⌝ }
+pub fn step_bytes(d: Desk, s: &[u8], busy: bool, place: usize) -> SteppedBytes
+    ensures { λ r. ⌜ r ≡ receivedBytes d (now (s .entry)) busy place ⌝ }
 {
     let mut e = d;
-    let answer = on_words::step_bytes(&mut e.words, s, busy);
+    let answer = on_words::step_bytes(&mut e.words, s, busy, place);
     let outcome = answer.outcome;
     let fault = answer.fault;
     SteppedBytes {

@@ -1,7 +1,7 @@
 // What the clerk's desk decides about an input, on words that are lent for reading: the refusals in document 01's order, then the row of the table. The change and the
 // outcome are made of the decision in one place. An inner room of the clerk's desk: its functions are no public operations.
 use clerk_records::WORDS;
-use clerk_records::places::find_meant;
+use clerk_records::meaning::find_meant;
 use clerk_records::places::find_place;
 use clerk_records::places::load;
 use clerk_table::inputs::Input;
@@ -36,6 +36,7 @@ use desk::outcome::no_timers;
 use desk::sends::Sends;
 use desk::sends::answer_with;
 use lists::Found;
+use terms::means::Means;
 use terms::request::Names;
 use terms::request::Request;
 use terms::request::can_keep_sent;
@@ -43,8 +44,10 @@ use terms::request::request_letter;
 use terms::request::request_terms;
 ghost use mathlib.Core.Path.{_≡_};
 ghost use Rattle.clerk_records.specs.Records.{records};
-ghost use Rattle.clerk_table.specs.Inputs.{messageFor};
-ghost use Rattle.clerk_plan.specs.Plan.{holdsFor, askFound, rowDecision, recordDecision, messageMeant, ownFound, decided, newRecord, storedPlan, planOf, planFor};
+ghost use Rattle.clerk_table.specs.Inputs.{messageFor, namesOf};
+ghost use Rattle.clerk_table.specs.Record.{refusedPlan};
+ghost use Rattle.desk.specs.Sends.{answered};
+ghost use Rattle.clerk_plan.specs.Plan.{holdsFor, askMeant, rowDecision, recordDecision, messageMeant, ownFound, decided, newRecord, storedPlan, takenPlan, planOf, planFor};
 
 // Whether a row is taken for a record.
 fn holds_for(row: Row, r: Record) -> bool
@@ -56,13 +59,14 @@ fn holds_for(row: Row, r: Record) -> bool
     holds_in(home_of(row), state, connection)
 }
 
-// An ask, by the record with its identifier: 4, 5.
-fn decide_ask(words: &[u64; WORDS], q: Request, found: Found) -> Decision
-    ensures { λ r. ⌜ r ≡ askFound (records (now (words .entry))) q found ⌝ }
+// An ask, by the record that it means, which is one with its identifier: 4, 5.
+fn decide_ask(words: &[u64; WORDS], q: Request, means: Means) -> Decision
+    ensures { λ r. ⌜ r ≡ askMeant (records (now (words .entry))) q means ⌝ }
 {
-    match found {
-        Found::At(_) => Decision::Refuse(4, Sends::Nothing),
-        Found::Nothing => match find_place(words) {
+    match means {
+        Means::At(_) => Decision::Refuse(4, Sends::Nothing),
+        Means::NotNow => Decision::Refuse(4, Sends::Nothing),
+        Means::Nothing => match find_place(words) {
             Found::Nothing => Decision::Refuse(5, Sends::Nothing),
             Found::At(place) => Decision::Store(place, q),
         },
@@ -96,50 +100,71 @@ fn decide_record(place: usize, r: Record, l: Letter, busy: bool, message: Record
     decide_row(place, r, l, message, row_for(message, busy, keep, kind))
 }
 
-// A message, by the record with its identifier: 3, 6, 7, 8.
-fn decide_message(words: &[u64; WORDS], l: Letter, busy: bool, found: Found) -> Decision
-    ensures { λ r. ⌜ r ≡ messageMeant (records (now (words .entry))) l busy found (messageFor (l .body)) ⌝ }
+// A message, by the record that it means: 3, 6, 7, 8.
+fn decide_message(words: &[u64; WORDS], l: Letter, busy: bool, means: Means) -> Decision
+    ensures { λ r. ⌜ r ≡ messageMeant (records (now (words .entry))) l busy means (messageFor (l .body)) ⌝ }
 {
     let body = l.body;
     match message_for(body) {
         Meant::NotHere => Decision::Refuse(3, Sends::Nothing),
-        Meant::Record(message) => match found {
-            Found::Nothing => Decision::Refuse(6, reply_unmatched(message)),
-            Found::At(place) => decide_record(place, load(words, place), l, busy, message),
+        Meant::Record(message) => match means {
+            Means::Nothing => Decision::Refuse(6, reply_unmatched(message)),
+            Means::NotNow => {
+                let carrier = l.carrier;
+                Decision::Refuse(7, reply_unfit(message, carrier))
+            }
+            Means::At(place) => decide_record(place, load(words, place), l, busy, message),
         },
     }
 }
 
-// User A's own row, of an act or a timer, by the record with its identifier: 6, or the number given.
-fn decide_own(words: &[u64; WORDS], row: Row, refusal: u8, found: Found) -> Decision
-    ensures { λ r. ⌜ r ≡ ownFound (records (now (words .entry))) row refusal found ⌝ }
+// User A's own row, of an act or a timer, by the record that is named: 6, or the number given.
+fn decide_own(words: &[u64; WORDS], row: Row, refusal: u8, means: Means) -> Decision
+    ensures { λ r. ⌜ r ≡ ownFound (records (now (words .entry))) row refusal means ⌝ }
 {
-    let Found::At(place) = found else {
-        return Decision::Refuse(6, Sends::Nothing);
-    };
-    if holds_for(row, load(words, place)) {
-        return Decision::Take(place, row);
+    match means {
+        Means::Nothing => Decision::Refuse(6, Sends::Nothing),
+        Means::NotNow => Decision::Refuse(refusal, Sends::Nothing),
+        Means::At(place) => {
+            if holds_for(row, load(words, place)) {
+                return Decision::Take(place, row);
+            }
+            Decision::Refuse(refusal, Sends::Nothing)
+        }
     }
-    Decision::Refuse(refusal, Sends::Nothing)
 }
 
-// What the desk decides. Every input names a request, so its record is looked for once, here.
-fn decide(words: &[u64; WORDS], input: Input) -> Decision
+// What the desk decides.
+pub fn decide(words: &[u64; WORDS], input: Input) -> Decision
     ensures { λ r. ⌜ r ≡ decided (records (now (words .entry))) input ⌝ }
+{
+    let means = find_meant(words, input);
+    match input {
+        Input::Ask(_, q) => decide_ask(words, q, means),
+        Input::Message(l, busy, _) => decide_message(words, l, busy, means),
+        Input::Act(_, act) => decide_own(words, row_of_act(act), 7, means),
+        Input::Timer(_, timer) => decide_own(words, row_of_timer(timer), 9, means),
+    }
+}
+
+// A refusal with its reply: the identifier that the input names, or none.
+pub fn plan_refused(input: Input, refusal: u8, reply: Sends) -> Plan
+    ensures { λ r. ⌜ r ≡ refusedPlan refusal (answered (namesOf input .identifier) reply) ⌝ }
 {
     let names = names_of(input);
     let identifier = names.identifier;
-    let found = find_meant(words, identifier);
-    match input {
-        Input::Ask(_, q) => decide_ask(words, q, found),
-        Input::Message(l, busy) => decide_message(words, l, busy, found),
-        Input::Act(_, act) => decide_own(words, row_of_act(act), 7, found),
-        Input::Timer(_, timer) => decide_own(words, row_of_timer(timer), 9, found),
-    }
+    refused_plan(refusal, answer_with(identifier, reply))
+}
+
+// A row taken for the record of a place.
+pub fn plan_taken(words: &[u64; WORDS], input: Input, place: usize, row: Row) -> Plan
+    ensures { λ r. ⌜ r ≡ takenPlan (records (now (words .entry))) input place row ⌝ }
+{
+    take_row(place, settle_by(input, load(words, place)), row)
 }
 
 // In Wait-Ack, its choices empty, with the can-keep that is sent.
-fn new_record(names: Names, q: Request) -> Record
+pub fn new_record(names: Names, q: Request) -> Record
     ensures { λ r. ⌜ r ≡ newRecord names q ⌝ }
 {
     let terms = request_terms(names, q, Keep::Empty, Connection::Empty);
@@ -152,7 +177,7 @@ fn new_record(names: Names, q: Request) -> Record
 }
 
 // The request is sent and T1 starts.
-fn plan_stored(place: usize, names: Names, q: Request) -> Plan
+pub fn plan_stored(place: usize, names: Names, q: Request) -> Plan
     ensures { λ r. ⌜ r ≡ storedPlan place names q ⌝ }
 {
     let record = new_record(names, q);
@@ -164,7 +189,7 @@ fn plan_stored(place: usize, names: Names, q: Request) -> Plan
         guard: false,
     };
     let none = no_timers();
-    let outcome = done(Sending::Send(letter), started, none);
+    let outcome = done(Sending::Send(letter), started, none, Found::At(place));
     Plan {
         change: Change::Put(place, record),
         outcome,
@@ -176,12 +201,8 @@ fn plan_of(words: &[u64; WORDS], input: Input, decision: Decision) -> Plan
     ensures { λ r. ⌜ r ≡ planOf (records (now (words .entry))) input decision ⌝ }
 {
     match decision {
-        Decision::Refuse(refusal, reply) => {
-            let names = names_of(input);
-            let identifier = names.identifier;
-            refused_plan(refusal, answer_with(identifier, reply))
-        }
-        Decision::Take(place, row) => take_row(place, settle_by(input, load(words, place)), row),
+        Decision::Refuse(refusal, reply) => plan_refused(input, refusal, reply),
+        Decision::Take(place, row) => plan_taken(words, input, place, row),
         Decision::Store(place, q) => plan_stored(place, names_of(input), q),
     }
 }

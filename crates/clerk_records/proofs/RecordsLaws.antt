@@ -11,17 +11,25 @@ use borrow.Author.Tests.{ne-eqb, lt-ltb, lt-leb, ltb-true, ltb-false}
 use Rattle.lists.specs.Choice.{pick}
 use Rattle.lists.specs.Lists.{both, without}
 use Rattle.lists.specs.Parts.{over}
-use Rattle.lists.specs.Words.{sameWords}
 use Rattle.lists.specs.declared.words.Words.{Words}
 use Rattle.lists.proofs.Choice.{pick-elim}
 use Rattle.lists.proofs.Lists.{without-past}
-use Rattle.store.specs.Rows.{stateWord, live, free, hasIdentifier, rows, blankRow, rowsFit, found, removedRow}
+use Rattle.message.specs.declared.Body.{Body}
+use Rattle.message.specs.declared.Body.the-variants.{CcbsRequest, CcnrRequest, RequestResult, RequestError, CcExecPossible, CcRingout, RingoutError, CcSuspend, CcResume, CcCancel, CallAlerts, CallFailed}
+use Rattle.desk.specs.declared.letter.Letter.{Letter}
+use Rattle.store.specs.Rows as Rows
+use Rattle.store.specs.Rows.{stateWord, live, free, hasIdentifier, fitsRow, rows, blankRow, rowsFit, found, foundFitting, liveAt, removedRow}
+use Rattle.store.specs.declared.For.{For}
+use Rattle.store.specs.declared.For.the-variants.{Every, State as InState}
 use Rattle.store.proofs.RowsLaws.{fit-from, put-length, turn-length, drop-length}
-use Rattle.store.proofs.Decoded.{identified-live, free-live, decoded-length, decoded-past, decoded-found, decoded-at, decoded-put, decoded-turn, decoded-drop}
+use Rattle.store.proofs.Decoded.{identified-live, fits-live, free-live, decoded-length, decoded-past, decoded-found, decoded-oldest, decoded-live, decoded-at, decoded-put, decoded-turn, decoded-drop}
 use Rattle.terms.specs.Terms as Terms
 use Rattle.terms.specs.Terms.{choicesAt, termsOf}
+use Rattle.terms.specs.Request.{letterNames}
+use Rattle.terms.specs.declared.request.Names.{Names}
 use Rattle.terms.proofs.CodesLaws.{flag-back}
 use Rattle.terms.proofs.TermsLaws.{terms-back, terms-front, word-from, terms-chosen}
+use Rattle.clerk_table.specs.Table.{inUse}
 use Rattle.clerk_table.specs.declared.table.State.{State}
 use Rattle.clerk_table.specs.declared.table.State.the-variants.{Free, WaitAck, Invoked, WaitAnswer, Ringout, Suspended}
 use Rattle.clerk_table.specs.declared.record.Record.{Record}
@@ -30,7 +38,8 @@ use Rattle.clerk_table.specs.declared.record.Change.{Change}
 use Rattle.clerk_table.specs.declared.record.Change.the-variants.{Stay, Put, Turn, Remove}
 use Rattle.clerk_records.specs.Codes.{stateOf, stateCode}
 use Rattle.clerk_records.specs.Layout.{width, downAt, canKeepAt, places, words, lastState}
-use Rattle.clerk_records.specs.Records.{recordOf, recordWords, turnedWords, blank, records, inUse, used, unused, identified, meant, place, turned, recordsAfter, applied}
+use Rattle.clerk_records.specs.Records.{recordOf, recordWords, turnedWords, blank, records, used, unused, identified, meant, place, turned, recordsAfter, applied}
+use Rattle.clerk_records.specs.Meaning.{statesFor, inStates, fitting, isFor, elementsMean}
 
 -- ---- codes: what is stored is read back
 state-back : (s : State) → stateOf (stateCode s) ≡ s
@@ -78,6 +87,47 @@ identified-row : (identifier : Words) (row : List ℕ) → hasIdentifier lastSta
 unfolding recordOf termsOf
 identified-row identifier row = identified-live lastState identifier row (used (recordOf row)) (used-row row)
 
+fitting-row : (names : Names) (row : List ℕ) → fitsRow lastState names row ≡ fitting names (recordOf row)
+unfolding recordOf
+fitting-row names row = fits-live lastState names row (used (recordOf row)) (used-row row)
+
+-- a state word of no record is not the one of Invoked
+invoked-word : (w : ℕ) → eqb w 2 ≡ eqb (stateCode (stateOf w)) 2
+unfolding stateOf
+invoked-word zero = refl
+invoked-word (suc zero) = refl
+invoked-word (suc (suc zero)) = refl
+invoked-word (suc (suc (suc zero))) = refl
+invoked-word (suc (suc (suc (suc zero)))) = refl
+invoked-word (suc (suc (suc (suc (suc zero))))) = refl
+invoked-word (suc (suc (suc (suc (suc (suc w)))))) =
+    let n : ℕ = suc (suc (suc (suc (suc (suc w))))) in
+    let past : (k : ℕ) → k ≤ lastState → eqb n k ≡ false = λ k h. ne-eqb n k (λ e. omega (arith, e)) in
+    rw (past 1 (omega arith), past 2 (omega arith), past 3 (omega arith), past 4 (omega arith), past 5 (omega arith))
+
+for-word : (body : Body) (w : ℕ) → inStates (statesFor body) w ≡ inStates (statesFor body) (stateCode (stateOf w))
+for-word (CcbsRequest flags service) w = refl
+for-word (CcnrRequest flags service) w = refl
+for-word (RequestResult keep) w = refl
+for-word (RequestError error) w = refl
+for-word CcExecPossible w = invoked-word w
+for-word CcRingout w = refl
+for-word (RingoutError error) w = refl
+for-word CcSuspend w = refl
+for-word CcResume w = refl
+for-word CcCancel w = refl
+for-word CallAlerts w = refl
+for-word CallFailed w = refl
+
+for-states : (states : For) (row : List ℕ) → Rows.isFor states row ≡ inStates states (stateWord row)
+unfolding Rows.isFor
+for-states Every row = refl
+for-states (InState word) row = refl
+
+for-row : (body : Body) (row : List ℕ) → Rows.isFor (statesFor body) row ≡ isFor body (recordOf row)
+unfolding recordOf
+for-row body row = for-states (statesFor body) row ∙ for-word body (stateWord row)
+
 unused-row : (row : List ℕ) → free lastState row ≡ unused (recordOf row)
 unused-row row = free-live lastState row (used (recordOf row)) (used-row row)
 
@@ -109,6 +159,16 @@ pub meant-found : (identifier : Words) (ws : List ℕ) → words ≤ length ws �
 unfolding meant records
 meant-found identifier ws l =
     decoded-found width places recordOf (hasIdentifier lastState identifier) (identified identifier) (identified-row identifier) ws (rows-room ws l)
+
+pub elements-found :
+    (l : Letter) (ws : List ℕ) → words ≤ length ws → foundFitting (statesFor (l .body)) lastState (letterNames l) width places ws ≡ elementsMean l (records ws)
+unfolding elementsMean records
+elements-found l ws room =
+    decoded-oldest width places recordOf (statesFor (l .body)) lastState (letterNames l) (fitting (letterNames l)) (isFor (l .body)) (fitting-row (letterNames l)) (for-row (l .body)) ws (rows-room ws room)
+
+pub used-found : (i : ℕ) (ws : List ℕ) → words ≤ length ws → liveAt lastState width places ws i ≡ used (getD (records ws) i blank)
+unfolding records
+used-found i ws room = decoded-live width places recordOf lastState used used-row ws i (rows-room ws room)
 
 pub place-found : (ws : List ℕ) → words ≤ length ws → found (free lastState) width places ws ≡ place (records ws)
 unfolding place records

@@ -2,6 +2,7 @@
 use Prim.Native.Nat.{ℕ}
 use lib.Dec.{eqb}
 use Rattle.lists.specs.Choice.{pick}
+pub use Rattle.clerk_table.specs.Table.{stateCode}
 use Rattle.clerk_table.specs.declared.table.State.{State}
 use Rattle.clerk_table.specs.declared.table.State.the-variants.{Free, WaitAck, Invoked, WaitAnswer, Ringout, Suspended}
 
@@ -13,11 +14,3 @@ stateOf code =
     (pick (eqb code 4) Ringout
     (pick (eqb code 5) Suspended
     Free))))
-
-abbrev pub stateCode : State → ℕ
-stateCode Free = 0
-stateCode WaitAck = 1
-stateCode Invoked = 2
-stateCode WaitAnswer = 3
-stateCode Ringout = 4
-stateCode Suspended = 5

@@ -1,3 +1,4 @@
 pub mod Layout
 pub mod Codes
 pub mod Records
+pub mod Meaning

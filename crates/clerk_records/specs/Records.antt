@@ -6,15 +6,15 @@ use lib.ListN.{getD, set}
 use lib.Dec.{ltb, eqb}
 use Rattle.lists.specs.Choice.{pick}
 use Rattle.lists.specs.Lists.{both, first, without}
-use Rattle.lists.specs.Words.{sameWords}
 use Rattle.lists.specs.declared.Found.{Found}
 use Rattle.lists.specs.declared.words.Words.{Words}
+use Rattle.desk.specs.Letter.{sameIdentifier}
+use Rattle.desk.specs.declared.letter.Identifier.the-variants.{Is}
 use Rattle.store.specs.Rows.{stateWord, rows, putRow, turnRow, removedRow}
 use Rattle.terms.specs.Codes.{flagCode}
 use Rattle.terms.specs.Terms.{choicesAt, termsOf, choiceWords, termsWords, withChoices, withKind}
+use Rattle.clerk_table.specs.Table.{inUse}
 use Rattle.clerk_table.specs.Record.{withState, withTerms, withDown}
-use Rattle.clerk_table.specs.declared.table.State.{State}
-use Rattle.clerk_table.specs.declared.table.State.the-variants.{Free, WaitAck, Invoked, WaitAnswer, Ringout, Suspended}
 use Rattle.clerk_table.specs.declared.record.Record.{Record}
 use Rattle.clerk_table.specs.declared.record.Turned.{Turned}
 use Rattle.clerk_table.specs.declared.record.Change.{Change}
@@ -44,23 +44,15 @@ unfoldable pub records : List ℕ → List Record
 records words = map recordOf (rows width places words)
 
 -- a place is used if its record has a state
-abbrev pub inUse : State → Bool
-inUse Free = false
-inUse WaitAck = true
-inUse Invoked = true
-inUse WaitAnswer = true
-inUse Ringout = true
-inUse Suspended = true
-
 abbrev pub used : Record → Bool
 used r = inUse (r .state)
 
 abbrev pub unused : Record → Bool
 unused r = pick (used r) false true
 
--- which record is meant: the one in use with that identifier
+-- the record in use with that identifier
 abbrev pub identified : Words → Record → Bool
-identified identifier r = both (sameWords (r .terms .identifier) identifier) (used r)
+identified identifier r = both (sameIdentifier (r .terms .identifier) (Is identifier)) (used r)
 
 unfoldable pub meant : Words → List Record → Found
 meant identifier rs = first (identified identifier) rs

@@ -1,7 +1,8 @@
 // State words and what they stand for. A word that is no code reads as the first case: an unknown state is no record.
 use clerk_table::table::State;
+pub use clerk_table::table::state_code;
 ghost use mathlib.Core.Path.{_≡_};
-ghost use Rattle.clerk_records.specs.Codes.{stateOf, stateCode};
+ghost use Rattle.clerk_records.specs.Codes.{stateOf};
 
 pub fn state_of(code: u64) -> State
     ensures { λ r. ⌜ r ≡ stateOf code ⌝ }
@@ -13,18 +14,5 @@ pub fn state_of(code: u64) -> State
         4 => State::Ringout,
         5 => State::Suspended,
         _ => State::Free,
-    }
-}
-
-pub fn state_code(state: State) -> u64
-    ensures { λ r. ⌜ r ≡ stateCode state ⌝ }
-{
-    match state {
-        State::Free => 0,
-        State::WaitAck => 1,
-        State::Invoked => 2,
-        State::WaitAnswer => 3,
-        State::Ringout => 4,
-        State::Suspended => 5,
     }
 }

@@ -1,6 +1,7 @@
 // The clerk's records at rest: sixteen places, each with a record's terms, its state, its mark and the can-keep that was sent. Only this crate touches words; what stands
 // above it speaks of the list of records. An inner room of the clerk's desk: its functions are no public operations.
 pub mod codes;
+pub mod meaning;
 pub mod places;
 
 // A record's words: its terms, the state and the mark "connection down" behind them, can-keep last.

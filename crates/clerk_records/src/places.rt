@@ -1,4 +1,4 @@
-// The places of a clerk's desk: a record is found, loaded, put, turned and removed, in words that the caller lends.
+// The places of a clerk's desk: the first free one, and a record loaded, put, turned and removed, in words that the caller lends.
 use crate::CAN_KEEP_AT;
 use crate::DOWN_AT;
 use crate::LAST_STATE;
@@ -12,7 +12,6 @@ use clerk_table::record::Record;
 use clerk_table::record::Turned;
 use clerk_table::table::State;
 use lists::Found;
-use lists::words::Words;
 use terms::codes::connection_code;
 use terms::codes::flag_code;
 use terms::codes::keep_code;
@@ -26,8 +25,9 @@ ghost use lib.ListN.{length, getD};
 ghost use Rattle.lists.specs.Parts.{over};
 ghost use Rattle.store.specs.Rows.{putRow, turnRow};
 ghost use Rattle.terms.specs.Terms.{choicesAt};
+ghost use Rattle.clerk_table.specs.declared.record.Change.the-variants.{Put};
 ghost use Rattle.clerk_records.specs.Layout as Layout;
-ghost use Rattle.clerk_records.specs.Records.{recordOf, recordWords, turnedWords, blank, records, meant, place, applied};
+ghost use Rattle.clerk_records.specs.Records.{recordOf, recordWords, turnedWords, blank, records, place, applied};
 
 // The record of a row.
 fn record_of(row: &[u64]) -> Record
@@ -55,13 +55,6 @@ fn put_words(row: &mut [u64], r: Record)
     row[terms::WIDTH] = state_code(state);
     row[DOWN_AT] = flag_code(r.down);
     row[CAN_KEEP_AT] = flag_code(r.canKeep);
-}
-
-// The place of the record in use with that identifier.
-pub fn find_meant(words: &[u64; WORDS], identifier: Words) -> Found
-    ensures { λ r. ⌜ r ≡ meant identifier (records (now (words .entry))) ⌝ }
-{
-    store::find(words, WIDTH, PLACES, identifier, LAST_STATE)
 }
 
 // The first place that is not used.
@@ -133,17 +126,22 @@ fn turn_in(words: &mut [u64], i: usize, t: Turned)
     turn_words(&mut words[at..], t);
 }
 
+// A record put at a place; past the last place, nothing changes.
+pub fn put(words: &mut [u64; WORDS], i: usize, r: Record)
+    ensures { λ q. ⌜ now (words .exit) ≡ applied (now (words .entry)) (Put i r) ⌝ }
+{
+    if i < PLACES {
+        put_in(words, i, r);
+    }
+}
+
 // A planned change, made in place.
 pub fn apply(words: &mut [u64; WORDS], change: Change)
     ensures { λ r. ⌜ now (words .exit) ≡ applied (now (words .entry)) change ⌝ }
 {
     match change {
         Change::Stay => {}
-        Change::Put(i, r) => {
-            if i < PLACES {
-                put_in(words, i, r);
-            }
-        }
+        Change::Put(i, r) => put(words, i, r),
         Change::Turn(i, t) => {
             if i < PLACES {
                 turn_in(words, i, t);

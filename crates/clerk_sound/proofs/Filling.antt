@@ -20,7 +20,8 @@ use Rattle.clerk_table.specs.declared.record.Decision.the-variants.{Refuse, Sto
 use Rattle.clerk_table.specs.declared.inputs.Input.{Input}
 use Rattle.clerk_table.specs.declared.inputs.Input.the-variants as Input
 use Rattle.clerk_records.specs.Layout.{places}
-use Rattle.clerk_records.specs.Records.{blank, records, used, meant, place}
+use Rattle.clerk_records.specs.Records.{blank, records, used, place}
+use Rattle.clerk_records.specs.Meaning.{identifierMeans}
 use Rattle.clerk_records.proofs.RecordsLaws.{records-length, records-applied}
 use Rattle.clerk_plan.specs.Plan.{decided, planOf, planFor}
 use Rattle.clerk.specs.Entry.{askRequest, askNames, askEntry}
@@ -62,7 +63,7 @@ sixteen =
     }
 
 -- ---- asks
-module _ (rs : List Record) (names : Names) (q : Request) (sound : Sound rs) (n : length rs ≡ places) (new : meant (names .identifier) rs ≡ Nothing) where
+module _ (rs : List Record) (names : Names) (q : Request) (sound : Sound rs) (n : length rs ≡ places) (new : identifierMeans (names .identifier) rs ≡ Nothing) where
   ask-taken : stored clerkView rs < places → decided rs (Input.Ask names q) ≡ Store (stored clerkView rs) q
   unfolding decided
   ask-taken h = rw (new, place-at rs sound n h)
@@ -91,7 +92,7 @@ module _ (d : Desk) (reached : Reached d) (a : Asking) (proper : Proper d a) whe
   abbrev rs : List Record
   rs = records (d .words)
 
-  new : meant (askNames a .identifier) rs ≡ Nothing
+  new : identifierMeans (askNames a .identifier) rs ≡ Nothing
   unfolding letterOf
   new = proper .new
 
@@ -113,10 +114,15 @@ module _ (d : Desk) (reached : Reached d) (a : Asking) (proper : Proper d a) whe
   unfolding planOf
   asked-accepted h = ap (λ (x : Stepped). x .outcome .refusal) (asked-taken h)
 
+  asked-told : stored clerkView rs < places → asked d a .outcome .at ≡ At (stored clerkView rs)
+  unfolding planOf
+  asked-told h = ap (λ (x : Stepped). x .outcome .at) (asked-taken h)
+
 pub asked-behind : AskedBehind
 asked-behind =
     record {
       taken = λ d reached a proper h. (asked-accepted d reached a proper h, asked-records d reached a proper h);
+      told = λ d reached a proper h. asked-told d reached a proper h;
       refused = λ d reached a proper h. asked-full d reached a proper h;
       again = λ d after i u e reached a proper.
           let n : suc (stored clerkView (without blank (records (d .words)) i)) ≡ stored clerkView (records (d .words)) = stored-fewer clerkView (records (d .words)) i blank-unused u in

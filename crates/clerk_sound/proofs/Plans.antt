@@ -1,4 +1,4 @@
--- Every plan is about the request that its input names, and keeps its record whole: what is found is used and keeps its identifier, no row leads to Free, only a result leaves Wait-Ack and it brings both choices, and an ask is stored under a new identifier.
+-- Every plan is about the record at the place that its outcome tells, and keeps it whole: what is meant is used and keeps its identifier, no row leads to Free, only a result leaves Wait-Ack and it brings both choices, and an ask is stored under a new identifier or none.
 use Prim.Native.Nat.{ℕ}
 use mathlib.Core.Path.{_≡_, refl, sym, ap, _∙_, subst}
 use mathlib.Core.Bool.{Bool, true, false}
@@ -7,8 +7,7 @@ use lib.ListN.{getD}
 use lib.Dec.{eqb}
 use native.Mathlib.Omega.{arith}
 use Rattle.lists.specs.declared.Found.{Found}
-use Rattle.lists.specs.declared.Found.the-variants.{At, Nothing}
-use Rattle.lists.specs.declared.words.Words.{Words}
+use Rattle.lists.specs.declared.Found.the-variants as Found
 use Rattle.lists.proofs.Choice.{pick-elim, no-true}
 use Rattle.message.specs.declared.Kind.{Kind}
 use Rattle.message.specs.declared.Kind.the-variants.{Ccbs, Ccnr}
@@ -21,19 +20,23 @@ use Rattle.desk.proofs.CarriersLaws.{retained-holds}
 use Rattle.desk.specs.declared.Keep.{Keep}
 use Rattle.desk.specs.declared.Keep.the-variants as Keep
 use Rattle.desk.specs.declared.letter.Letter.{Letter}
+use Rattle.terms.specs.declared.means.Means as M
+use Rattle.terms.specs.declared.means.Means.the-variants.{Nothing, NotNow, At}
+use Rattle.terms.specs.declared.request.Name.{Name}
 use Rattle.terms.specs.declared.request.Names.{Names}
 use Rattle.terms.specs.declared.request.Request.{Request}
-use Rattle.places.specs.Places.{Moved, stays, turns, stores, removes}
-use Rattle.places.proofs.Holding.{meant-its}
-use Rattle.clerk_table.specs.Table.{holdsIn, behind}
+use Rattle.desk.specs.declared.letter.Identifier.{Identifier}
+use Rattle.desk.specs.declared.letter.Identifier.the-variants.{Absent, Is}
+use Rattle.places.specs.Places.{knownIn, Moved, stays, turns, stores, removes}
+use Rattle.clerk_table.specs.Table.{holdsIn, behind, inUse}
 use Rattle.terms.specs.Terms.{withKind}
 use Rattle.clerk_table.specs.Record.{withState, withTerms, withDown}
 use Rattle.clerk_table.specs.Step.{rowTaken}
-use Rattle.clerk_table.specs.Inputs.{namesOf, messageFor, rowFor, rowOfAct, rowOfTimer, errorRow, possibleRow, busyAgainRow, ringoutErrorRow, keepChosen, connectionMeant, acknowledged, settled}
+use Rattle.clerk_table.specs.Inputs.{messageFor, rowFor, rowOfAct, rowOfTimer, errorRow, possibleRow, busyAgainRow, ringoutErrorRow, keepChosen, connectionMeant, acknowledged, settled}
 use Rattle.clerk_table.specs.declared.table.State.{State}
 use Rattle.clerk_table.specs.declared.table.State.the-variants.{Free, WaitAck, Invoked, WaitAnswer, Ringout, Suspended}
 use Rattle.clerk_table.specs.declared.table.Home.{Home}
-use Rattle.clerk_table.specs.declared.table.Home.the-variants.{InWaitAck, InInvoked, InWaitAnswer, InRingout, InSuspended}
+use Rattle.clerk_table.specs.declared.table.Home.the-variants.{In}
 use Rattle.clerk_table.specs.declared.table.Row.{Row}
 use Rattle.clerk_table.specs.declared.table.Row.the-variants.{Accepted, DeniedShort, DeniedLong, Recalls, Suspends, RingsOut, Resumes, GoesOn, Completes, CallFails, BusyAgainKept, BusyAgainWaiting, BusyAgainEnded, NotMatched, LineCancels, UserCancels, Falls, T1RunsOut, T2RunsOut, T3RunsOut}
 use Rattle.clerk_table.specs.declared.table.Timer.{Timer}
@@ -50,7 +53,9 @@ use Rattle.clerk_table.specs.declared.inputs.RecordMessage.{RecordMessage}
 use Rattle.clerk_table.specs.declared.inputs.RecordMessage.the-variants as Message
 use Rattle.clerk_table.specs.declared.inputs.Meant.{Meant}
 use Rattle.clerk_table.specs.declared.inputs.Meant.the-variants as Meant
-use Rattle.clerk_records.specs.Records.{blank, inUse, used, meant, place, recordsAfter}
+use Rattle.clerk_records.specs.Records.{blank, used, meant, place, recordsAfter}
+use Rattle.clerk_records.specs.Meaning.{identifierMeans, meaning, named}
+use Rattle.clerk_records.proofs.MeaningLaws.{meaning-used, named-used}
 use Rattle.clerk_plan.specs.Plan.{holdsFor, askPlace, askFound, rowDecision, messageFound, messageMeant, ownFound, decided, newRecord, planOf, planFor}
 use Rattle.clerk_sound.specs.Sound.{clerkView, Whole, Sound, Fair}
 use Rattle.clerk_sound.proofs.Ranges.{fair-whole}
@@ -59,9 +64,9 @@ use Rattle.clerk_sound.proofs.Ranges.{fair-whole}
 abbrev pub Turned : Record → Record → Type 0
 Turned a b = Whole b
 
--- a plan about the request of an identifier
-abbrev pub Goes : Words → List Record → Plan → Type 0
-Goes identifier rs plan = Moved clerkView Turned Whole identifier rs (recordsAfter rs (plan .change))
+-- a plan, about the record at its outcome's place
+abbrev pub Goes : List Record → Plan → Type 0
+Goes rs plan = Moved clerkView Turned Whole (plan .outcome .at) rs (recordsAfter rs (plan .change))
 
 -- ---- states: only Wait-Ack is before the acknowledgment
 behind-used : (s : State) → behind s ≡ true → inUse s ≡ true
@@ -75,7 +80,7 @@ behind-used Suspended e = e
 not-waiting : (s : State) → behind s ≡ true → s ≡ WaitAck → ⊥
 not-waiting s a e = no-true (sym (ap behind e) ∙ a)
 
-waits : (s : State) (c : Connection) → holdsIn InWaitAck s c ≡ true → s ≡ WaitAck
+waits : (s : State) (c : Connection) → holdsIn (In WaitAck) s c ≡ true → s ≡ WaitAck
 waits Free c e = absurd (no-true e)
 waits WaitAck c e = refl
 waits Invoked c e = absurd (no-true e)
@@ -159,7 +164,7 @@ timer-later T2 = refl
 timer-later T3 = refl
 
 -- ---- a row taken for the record of a place
-module _ (identifier : Words) (rs : List Record) (i : ℕ) (sound : Sound rs) (u : used (getD rs i blank) ≡ true) (own : getD rs i blank .terms .identifier ≡ identifier) where
+module _ (rs : List Record) (i : ℕ) (sound : Sound rs) (u : used (getD rs i blank) ≡ true) where
   abbrev r : Record
   r = getD rs i blank
 
@@ -170,10 +175,10 @@ module _ (identifier : Words) (rs : List Record) (i : ℕ) (sound : Sound rs) (u
   -- from state to state behind the acknowledgment
   turned :
       (kind : Kind) (s : State) (down : Bool) → (down ≡ true → r .terms .connection ≡ Connection.Ret) → (r .state ≡ WaitAck → ⊥) → behind s ≡ true →
-      Moved clerkView Turned Whole identifier rs
+      Moved clerkView Turned Whole (Found.At i) rs
       (recordsAfter rs (Turn i (record { keep = r .terms .keep; connection = r .terms .connection; kind = kind; state = s; down = down })))
   turned kind s down fell away b =
-      turns i (withDown (withState (withTerms r (withKind (r .terms) kind)) s) down) u own (behind-used s b) own
+      turns i (withDown (withState (withTerms r (withKind (r .terms) kind)) s) down) refl u (behind-used s b) refl
       (record {
         before = λ e. absurd (not-waiting s b e);
         behind = λ n. sound .each i u .behind away;
@@ -184,14 +189,14 @@ module _ (identifier : Words) (rs : List Record) (i : ℕ) (sound : Sound rs) (u
       })
       refl
 
-  gone : Moved clerkView Turned Whole identifier rs (recordsAfter rs (Remove i))
-  gone = removes i u own refl
+  gone : Moved clerkView Turned Whole (Found.At i) rs (recordsAfter rs (Remove i))
+  gone = removes i refl u refl
 
-  row-accepted : (keep : ℕ) (carrier : Carrier) → holdsFor Accepted r ≡ true → Goes identifier rs (rowTaken i (acknowledged r keep carrier) Accepted)
+  row-accepted : (keep : ℕ) (carrier : Carrier) → holdsFor Accepted r ≡ true → Goes rs (rowTaken i (acknowledged r keep carrier) Accepted)
   unfolding rowTaken
   row-accepted keep carrier h =
       let whole = sound .each i u in
-      turns i (withState (acknowledged r keep carrier) Invoked) u own refl own
+      turns i (withState (acknowledged r keep carrier) Invoked) refl u refl refl
       (record {
         before = λ e. absurd (not-waiting Invoked refl e);
         behind = λ n. (keep-chosen (r .canKeep) keep, connection-chosen carrier);
@@ -202,20 +207,20 @@ module _ (identifier : Words) (rs : List Record) (i : ℕ) (sound : Sound rs) (u
       })
       refl
 
-  row-later : (row : Row) → later row ≡ true → holdsFor row r ≡ true → Goes identifier rs (rowTaken i r row)
+  row-later : (row : Row) → later row ≡ true → holdsFor row r ≡ true → Goes rs (rowTaken i r row)
   unfolding rowTaken
   row-later Accepted b h = absurd (no-true b)
   row-later DeniedShort b h = gone
   row-later DeniedLong b h = gone
-  row-later Recalls b h = turned (r .terms .kind) WaitAnswer (r .down) (sound .each i u .fell) (away InInvoked refl h) refl
-  row-later Suspends b h = turned (r .terms .kind) Suspended (r .down) (sound .each i u .fell) (away InInvoked refl h) refl
-  row-later RingsOut b h = turned (r .terms .kind) Ringout (r .down) (sound .each i u .fell) (away InWaitAnswer refl h) refl
-  row-later Resumes b h = turned (r .terms .kind) Invoked (r .down) (sound .each i u .fell) (away InSuspended refl h) refl
-  row-later GoesOn b h = turned (r .terms .kind) WaitAnswer (r .down) (sound .each i u .fell) (away InSuspended refl h) refl
+  row-later Recalls b h = turned (r .terms .kind) WaitAnswer (r .down) (sound .each i u .fell) (away (In Invoked) refl h) refl
+  row-later Suspends b h = turned (r .terms .kind) Suspended (r .down) (sound .each i u .fell) (away (In Invoked) refl h) refl
+  row-later RingsOut b h = turned (r .terms .kind) Ringout (r .down) (sound .each i u .fell) (away (In WaitAnswer) refl h) refl
+  row-later Resumes b h = turned (r .terms .kind) Invoked (r .down) (sound .each i u .fell) (away (In Suspended) refl h) refl
+  row-later GoesOn b h = turned (r .terms .kind) WaitAnswer (r .down) (sound .each i u .fell) (away (In Suspended) refl h) refl
   row-later Completes b h = gone
   row-later CallFails b h = gone
-  row-later BusyAgainKept b h = turned (r .terms .kind) Invoked (r .down) (sound .each i u .fell) (away InRingout refl h) refl
-  row-later BusyAgainWaiting b h = turned Ccbs Invoked (r .down) (sound .each i u .fell) (away InRingout refl h) refl
+  row-later BusyAgainKept b h = turned (r .terms .kind) Invoked (r .down) (sound .each i u .fell) (away (In Ringout) refl h) refl
+  row-later BusyAgainWaiting b h = turned Ccbs Invoked (r .down) (sound .each i u .fell) (away (In Ringout) refl h) refl
   row-later BusyAgainEnded b h = gone
   row-later NotMatched b h = gone
   row-later LineCancels b h = gone
@@ -229,7 +234,7 @@ module _ (identifier : Words) (rs : List Record) (i : ℕ) (sound : Sound rs) (u
 
   row-message :
       (message : RecordMessage) (carrier : Carrier) (busy : Bool) → holdsFor (rowFor message busy (r .terms .keep) (r .terms .kind)) r ≡ true →
-      Goes identifier rs (rowTaken i (settled (Meant.Record message) carrier r) (rowFor message busy (r .terms .keep) (r .terms .kind)))
+      Goes rs (rowTaken i (settled (Meant.Record message) carrier r) (rowFor message busy (r .terms .keep) (r .terms .kind)))
   row-message (Message.Result keep) carrier busy h = row-accepted keep carrier h
   row-message (Message.Error error) carrier busy h = row-later (errorRow error) (error-later error) h
   row-message Message.ExecPossible carrier busy h = row-later (possibleRow busy) (possible-later busy) h
@@ -239,75 +244,82 @@ module _ (identifier : Words) (rs : List Record) (i : ℕ) (sound : Sound rs) (u
   row-message Message.Failed carrier busy h = row-later CallFails refl h
 
 -- ---- decisions
+-- what a record's desk knows of an identifier
+known-same : (identifier : Identifier) (rs : List Record) → knownIn clerkView identifier rs ≡ identifierMeans identifier rs
+unfolding meant
+known-same Absent rs = refl
+known-same (Is words) rs = refl
+
 module _ (rs : List Record) (sound : Sound rs) where
   -- a decision about an input, planned
   abbrev Means : Input → Decision → Type 0
-  Means input decision = Goes (namesOf input .identifier) rs (planOf rs input decision)
+  Means input decision = Goes rs (planOf rs input decision)
 
   -- messages
   means-row :
-      (l : Letter) (busy : Bool) (message : RecordMessage) → messageFor (l .body) ≡ Meant.Record message → (i : ℕ) → meant (l .identifier) rs ≡ At i →
-      Means (Input.Message l busy) (rowDecision i (getD rs i blank) l message (rowFor message busy (getD rs i blank .terms .keep) (getD rs i blank .terms .kind)))
-  unfolding planOf meant
-  means-row l busy message e i f =
-      let its = meant-its clerkView rs (l .identifier) i f in
+      (l : Letter) (busy : Bool) (place : ℕ) (message : RecordMessage) → messageFor (l .body) ≡ Meant.Record message → (i : ℕ) → used (getD rs i blank) ≡ true →
+      Means (Input.Message l busy place) (rowDecision i (getD rs i blank) l message (rowFor message busy (getD rs i blank .terms .keep) (getD rs i blank .terms .kind)))
+  unfolding planOf
+  means-row l busy place message e i u =
       let r = getD rs i blank in
       let row = rowFor message busy (r .terms .keep) (r .terms .kind) in
-      pick-elim (Means (Input.Message l busy)) (holdsFor row r)
+      pick-elim (Means (Input.Message l busy place)) (holdsFor row r)
       (λ h.
-      pick-elim (Means (Input.Message l busy)) (carrierFits (l .body) (r .terms .connection) (l .carrier))
+      pick-elim (Means (Input.Message l busy place)) (carrierFits (l .body) (r .terms .connection) (l .carrier))
       (λ g.
-      subst (λ (m : Meant). Goes (l .identifier) rs (rowTaken i (settled m (l .carrier) r) row)) (sym e)
-      (row-message (l .identifier) rs i sound (its .0) (its .1) message (l .carrier) busy h))
-      (λ g. stays refl))
-      (λ h. stays refl)
+      subst (λ (m : Meant). Goes rs (rowTaken i (settled m (l .carrier) r) row)) (sym e)
+      (row-message rs i sound u message (l .carrier) busy h))
+      (λ g. stays refl refl))
+      (λ h. stays refl refl)
 
   means-found :
-      (l : Letter) (busy : Bool) (message : RecordMessage) → messageFor (l .body) ≡ Meant.Record message → (f : Found) → meant (l .identifier) rs ≡ f →
-      Means (Input.Message l busy) (messageFound rs l busy message f)
+      (l : Letter) (busy : Bool) (place : ℕ) (message : RecordMessage) → messageFor (l .body) ≡ Meant.Record message → (m : M.Means) → meaning l place rs ≡ m →
+      Means (Input.Message l busy place) (messageFound rs l busy message m)
   unfolding planOf
-  means-found l busy message e Nothing f = stays refl
-  means-found l busy message e (At i) f = means-row l busy message e i f
+  means-found l busy place message e Nothing f = stays refl refl
+  means-found l busy place message e NotNow f = stays refl refl
+  means-found l busy place message e (At i) f = means-row l busy place message e i (meaning-used l place rs i f)
 
-  means-message : (l : Letter) (busy : Bool) (m : Meant) → messageFor (l .body) ≡ m → Means (Input.Message l busy) (messageMeant rs l busy (meant (l .identifier) rs) m)
+  means-message :
+      (l : Letter) (busy : Bool) (place : ℕ) (m : Meant) → messageFor (l .body) ≡ m → Means (Input.Message l busy place) (messageMeant rs l busy (meaning l place rs) m)
   unfolding planOf
-  means-message l busy Meant.NotHere e = stays refl
-  means-message l busy (Meant.Record message) e = means-found l busy message e (meant (l .identifier) rs) refl
+  means-message l busy place Meant.NotHere e = stays refl refl
+  means-message l busy place (Meant.Record message) e = means-found l busy place message e (meaning l place rs) refl
 
   -- acts and timers
-  means-act : (identifier : Words) (act : Act) (f : Found) → meant identifier rs ≡ f → Means (Input.Act identifier act) (ownFound rs (rowOfAct act) 7 f)
-  unfolding planOf meant
-  means-act identifier act Nothing e = stays refl
-  means-act identifier act (At i) e =
-      let its = meant-its clerkView rs identifier i e in
-      pick-elim (Means (Input.Act identifier act)) (holdsFor (rowOfAct act) (getD rs i blank))
-      (λ h. row-later identifier rs i sound (its .0) (its .1) (rowOfAct act) (act-later act) h)
-      (λ h. stays refl)
+  means-act : (name : Name) (act : Act) (m : M.Means) → named name rs ≡ m → Means (Input.Act name act) (ownFound rs (rowOfAct act) 7 m)
+  unfolding planOf
+  means-act name act Nothing e = stays refl refl
+  means-act name act NotNow e = stays refl refl
+  means-act name act (At i) e =
+      pick-elim (Means (Input.Act name act)) (holdsFor (rowOfAct act) (getD rs i blank))
+      (λ h. row-later rs i sound (named-used name rs i e) (rowOfAct act) (act-later act) h)
+      (λ h. stays refl refl)
 
-  means-timer : (identifier : Words) (timer : Timer) (f : Found) → meant identifier rs ≡ f → Means (Input.Timer identifier timer) (ownFound rs (rowOfTimer timer) 9 f)
-  unfolding planOf meant
-  means-timer identifier timer Nothing e = stays refl
-  means-timer identifier timer (At i) e =
-      let its = meant-its clerkView rs identifier i e in
-      pick-elim (Means (Input.Timer identifier timer)) (holdsFor (rowOfTimer timer) (getD rs i blank))
-      (λ h. row-later identifier rs i sound (its .0) (its .1) (rowOfTimer timer) (timer-later timer) h)
-      (λ h. stays refl)
+  means-timer : (name : Name) (timer : Timer) (m : M.Means) → named name rs ≡ m → Means (Input.Timer name timer) (ownFound rs (rowOfTimer timer) 9 m)
+  unfolding planOf
+  means-timer name timer Nothing e = stays refl refl
+  means-timer name timer NotNow e = stays refl refl
+  means-timer name timer (At i) e =
+      pick-elim (Means (Input.Timer name timer)) (holdsFor (rowOfTimer timer) (getD rs i blank))
+      (λ h. row-later rs i sound (named-used name rs i e) (rowOfTimer timer) (timer-later timer) h)
+      (λ h. stays refl refl)
 
   -- asks
   module _ (names : Names) (q : Request) (whole : Whole (newRecord names q)) where
-    means-place : (f : Found) → meant (names .identifier) rs ≡ Nothing → place rs ≡ f → Means (Input.Ask names q) (askPlace q f)
-    unfolding planOf meant place
-    means-place Nothing new e = stays refl
-    means-place (At i) new e = stores i (newRecord names q) e new refl refl whole refl
+    means-place : (f : Found) → identifierMeans (names .identifier) rs ≡ Found.Nothing → place rs ≡ f → Means (Input.Ask names q) (askPlace q f)
+    unfolding planOf place
+    means-place Found.Nothing new e = stays refl refl
+    means-place (Found.At i) new e = stores i (newRecord names q) refl e (known-same (names .identifier) rs ∙ new) refl whole refl
 
-    means-ask : (f : Found) → meant (names .identifier) rs ≡ f → Means (Input.Ask names q) (askFound rs q f)
+    means-ask : (f : Found) → identifierMeans (names .identifier) rs ≡ f → Means (Input.Ask names q) (askFound rs q f)
     unfolding planOf
-    means-ask (At i) e = stays refl
-    means-ask Nothing e = means-place (place rs) e refl
+    means-ask (Found.At i) e = stays refl refl
+    means-ask Found.Nothing e = means-place (place rs) e refl
 
-  pub fair-goes : (input : Input) → Fair input → Goes (namesOf input .identifier) rs (planFor rs input)
+  pub fair-goes : (input : Input) → Fair input → Goes rs (planFor rs input)
   unfolding planFor decided
-  fair-goes (Input.Ask names q) fair = means-ask names q (fair-whole fair) (meant (names .identifier) rs) refl
-  fair-goes (Input.Message l busy) fair = means-message l busy (messageFor (l .body)) refl
-  fair-goes (Input.Act identifier act) fair = means-act identifier act (meant identifier rs) refl
-  fair-goes (Input.Timer identifier timer) fair = means-timer identifier timer (meant identifier rs) refl
+  fair-goes (Input.Ask names q) fair = means-ask names q (fair-whole fair) (identifierMeans (names .identifier) rs) refl
+  fair-goes (Input.Message l busy place) fair = means-message l busy place (messageFor (l .body)) refl
+  fair-goes (Input.Act name act) fair = means-act name act (named name rs) refl
+  fair-goes (Input.Timer name timer) fair = means-timer name timer (named name rs) refl

@@ -7,9 +7,10 @@ use lib.Dec.{ltb}
 use native.Mathlib.Omega.{arith}
 use borrow.Author.Tests.{ltb-true}
 use Rattle.lists.proofs.Choice.{no-true, pick-then}
-use Rattle.message.specs.Format.{requestBody, requestInRange, fieldsInRange, inRange}
+use Rattle.message.specs.Format.{requestBody, requestInRange, inRange}
 use Rattle.message.specs.declared.Kind.{Kind}
 use Rattle.message.specs.declared.Kind.the-variants.{Ccbs, Ccnr}
+use Rattle.message.specs.declared.Message.{Message}
 use Rattle.message.proofs.RangeLaws.{request-ranged, RequestRanged}
 use Rattle.desk.specs.Letter.{letterOf}
 use Rattle.desk.proofs.LetterLaws.{number-kept}
@@ -41,18 +42,19 @@ ask-entered a names q e =
     let same = r .1 in
     record { preference = ltb-true (a .preference) 3 (p .0); ranged = r .0; its-names = cc; its-request = cc }
 
-request-fields :
-    (kind : Kind) (a b : List ℕ) (service flags : ℕ) → fieldsInRange a b (requestBody kind service flags) ≡ true → requestInRange a b service flags ≡ true
-request-fields Ccbs a b service flags e = e
-request-fields Ccnr a b service flags e = e
+-- a request has its own fields, and no elements
+request-fields : (kind : Kind) (service flags : ℕ) (m : Message) → m .body ≡ requestBody kind service flags → inRange m ≡ true → requestInRange (m .numberA) (m .numberB) service flags ≡ true
+unfolding inRange
+request-fields Ccbs service flags m body e = rw body at e
+request-fields Ccnr service flags m body e = rw body at e
 
 -- a new record waits for its acknowledgment, and its fields are the ask's
 ask-whole : (a : Asking) → Typed a → inRange (askMessage a) ≡ true → Whole (newRecord (askNames a) (askRequest a))
-unfolding inRange letterOf
+unfolding letterOf
 ask-whole a typed e =
     let r : RequestRanged (a .numberA) (a .numberB) (a .service) (askFlags (a .canKeep) (a .preference)) =
     request-ranged (a .numberA) (a .numberB) (a .service) (askFlags (a .canKeep) (a .preference))
-    (request-fields (a .kind) (a .numberA) (a .numberB) (a .service) (askFlags (a .canKeep) (a .preference)) e) in
+    (request-fields (a .kind) (a .service) (askFlags (a .canKeep) (a .preference)) (askMessage a) refl e) in
     record {
       before = λ e. (refl, refl);
       behind = λ n. absurd (n refl);

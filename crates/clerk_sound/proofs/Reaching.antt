@@ -1,4 +1,4 @@
--- Every fair step is about the request that its input names, so every reached desk is sound and has all its words, its records stand in the order of storing, and a step leaves every other request as it was.
+-- Every fair step is about one record or none, so every reached desk is sound and has all its words, its records stand in the order of storing, and a step leaves every other record as it was.
 use Prim.Native.Nat.{ℕ}
 use mathlib.Core.Path.{_≡_, refl, sym, subst}
 use mathlib.Core.Bool.{Bool}
@@ -12,7 +12,6 @@ use Rattle.message.specs.declared.Message.{Message}
 use Rattle.desk.specs.Letter.{letterOf}
 use Rattle.places.specs.Places.{Moved, same}
 use Rattle.places.proofs.Moving.{moved-placed, moved-each, moved-order, moved-others}
-use Rattle.clerk_table.specs.Inputs.{namesOf}
 use Rattle.clerk_table.specs.declared.inputs.Input.{Input}
 use Rattle.clerk_table.specs.declared.inputs.Input.the-variants as Input
 use Rattle.clerk_records.specs.Layout as Layout
@@ -24,6 +23,7 @@ use Rattle.clerk.specs.Steps.{step, entered, received, receivedBytes}
 use Rattle.clerk.specs.declared.Desk.{Desk}
 use Rattle.clerk.specs.declared.entry.Entry.{Entry}
 use Rattle.clerk.specs.declared.entry.Entry.the-variants.{Refused, Given}
+use Rattle.clerk.specs.declared.steps.Stepped.{Stepped}
 use Rattle.clerk_sound.specs.Sound as S
 use Rattle.clerk_sound.specs.Sound.{clerkView, Whole, Sound, Fair, hears, Reached, ReachedSound, ReachedFull, InOrder, OrderOfStoring, OthersHeld}
 use Rattle.clerk_sound.proofs.Start.{start-sound}
@@ -36,14 +36,14 @@ record Good (d : Desk) : Type 0 where
   sound : Sound (records (d .words))
 
 -- what a step makes of the records
-abbrev Steps : Input → Desk → Desk → Type 0
-Steps input d after = Moved clerkView Turned Whole (namesOf input .identifier) (records (d .words)) (records (after .words))
+abbrev Steps : Desk → Stepped → Type 0
+Steps d step = Moved clerkView Turned Whole (step .outcome .at) (records (d .words)) (records (step .desk .words))
 
-good-moved : (d : Desk) → Good d → (input : Input) → Fair input → Steps input d (step d input .desk)
+good-moved : (d : Desk) → Good d → (input : Input) → Fair input → Steps d (step d input)
 unfolding step
 good-moved d good input fair =
     let rs = records (d .words) in
-    subst (Moved clerkView Turned Whole (namesOf input .identifier) rs) (sym (records-applied (d .words) (good .full) (planFor rs input .change)))
+    subst (Moved clerkView Turned Whole (planFor rs input .outcome .at) rs) (sym (records-applied (d .words) (good .full) (planFor rs input .change)))
     (fair-goes rs (good .sound) input fair)
 
 good-step : (d : Desk) → Good d → (input : Input) → Fair input → Good (step d input .desk)
@@ -62,21 +62,21 @@ good-step d good input fair =
 abbrev FairEntry : Entry → Type 0
 FairEntry entry = (input : Input) → entry ≡ Given input → Fair input
 
-message-fair : (m : Message) (busy : Bool) → FairEntry (messageEntry m busy)
+message-fair : (m : Message) (busy : Bool) (place : ℕ) → FairEntry (messageEntry m busy place)
 unfolding messageEntry
-message-fair m busy input e =
-    let p = pick-then (inRange m) (Given (Input.Message (letterOf m) busy)) (Refused 2) (Given input) no-input e in
+message-fair m busy place input e =
+    let p = pick-then (inRange m) (Given (Input.Message (letterOf m) busy place)) (Refused 2) (Given input) no-input e in
     let q = p .1 in
-    let same-input : Input.Message (letterOf m) busy ≡ input = cc in
-    subst Fair same-input (hears (letterOf m) busy)
+    let same-input : Input.Message (letterOf m) busy place ≡ input = cc in
+    subst Fair same-input (hears (letterOf m) busy place)
 
-read-fair : (busy : Bool) (r : Read Message) → FairEntry (readEntry busy r .entry)
-read-fair busy (took m next) = message-fair m busy
-read-fair busy (refused number) = λ input e. absurd (no-input e)
+read-fair : (busy : Bool) (place : ℕ) (r : Read Message) → FairEntry (readEntry busy place r .entry)
+read-fair busy place (took m next) = message-fair m busy place
+read-fair busy place (refused number) = λ input e. absurd (no-input e)
 
-bytes-fair : (bytes : List ℕ) (busy : Bool) → FairEntry (bytesEntry bytes busy .entry)
+bytes-fair : (bytes : List ℕ) (busy : Bool) (place : ℕ) → FairEntry (bytesEntry bytes busy place .entry)
 unfolding bytesEntry
-bytes-fair bytes busy = read-fair busy (messageAt bytes)
+bytes-fair bytes busy place = read-fair busy place (messageAt bytes)
 
 good-entered : (d : Desk) → Good d → (entry : Entry) → FairEntry entry → Good (entered d entry .desk)
 unfolding entered
@@ -88,7 +88,7 @@ reached-good : {d : Desk} → Reached d → Good d
 unfolding receivedBytes
 reached-good S.starts = record { full = length-replicate {A = ℕ} Layout.words 0; sound = start-sound }
 reached-good (S.steps {d} {input} fair r) = good-step d (reached-good r) input fair
-reached-good (S.reads {d} bytes busy r) = good-entered d (reached-good r) (bytesEntry bytes busy .entry) (bytes-fair bytes busy)
+reached-good (S.reads {d} bytes busy place r) = good-entered d (reached-good r) (bytesEntry bytes busy place .entry) (bytes-fair bytes busy place)
 
 pub reached-sound : ReachedSound
 reached-sound d r = reached-good r .sound
@@ -102,11 +102,11 @@ unfolding entered
 reached-entered d reached (Refused number) fair = reached
 reached-entered d reached (Given input) fair = S.steps (fair input refl) reached
 
-pub reached-received : (d : Desk) → Reached d → (m : Message) (busy : Bool) → Reached (received d m busy .desk)
-reached-received d reached m busy = reached-entered d reached (messageEntry m busy) (message-fair m busy)
+pub reached-received : (d : Desk) → Reached d → (m : Message) (busy : Bool) (place : ℕ) → Reached (received d m busy place .desk)
+reached-received d reached m busy place = reached-entered d reached (messageEntry m busy place) (message-fair m busy place)
 
 -- ---- what a step leaves as it was
-pub step-moved : (d : Desk) → Reached d → (input : Input) → Fair input → Steps input d (step d input .desk)
+pub step-moved : (d : Desk) → Reached d → (input : Input) → Fair input → Steps d (step d input)
 step-moved d reached input fair = good-moved d (reached-good reached) input fair
 
 entered-order : (d : Desk) → Reached d → (entry : Entry) → FairEntry entry → InOrder d (entered d entry .desk)
@@ -119,8 +119,8 @@ unfolding receivedBytes
 order-of-storing =
     record {
       steps = λ d reached input fair. moved-order clerkView (reached-sound d reached .placed) (step-moved d reached input fair);
-      bytes = λ d reached bytes busy. entered-order d reached (bytesEntry bytes busy .entry) (bytes-fair bytes busy);
+      bytes = λ d reached bytes busy place. entered-order d reached (bytesEntry bytes busy place .entry) (bytes-fair bytes busy place);
     }
 
 pub others-held : OthersHeld
-others-held d reached input fair = moved-others clerkView (reached-sound d reached .placed) (step-moved d reached input fair)
+others-held d reached input fair = moved-others clerkView (step-moved d reached input fair)

@@ -38,4 +38,4 @@ same-entered d (Given input) never =
 
 pub refused-same : RefusedSame
 unfolding receivedBytes
-refused-same = record { steps = same-entered; bytes = λ d bytes busy. same-entered d (bytesEntry bytes busy .entry) }
+refused-same = record { steps = same-entered; bytes = λ d bytes busy place. same-entered d (bytesEntry bytes busy place .entry) }

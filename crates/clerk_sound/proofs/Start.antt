@@ -7,7 +7,6 @@ use lib.ListN.{getD, replicate}
 use Rattle.lists.proofs.Choice.{no-true}
 use Rattle.store.specs.Rows.{rows}
 use Rattle.terms.specs.Terms.{termsOf}
-use Rattle.places.proofs.Holding.{held-nothing}
 use Rattle.places.proofs.Staying.{start-placed}
 use Rattle.clerk_table.specs.declared.record.Record.{Record}
 use Rattle.clerk_records.specs.Codes.{stateOf}
@@ -33,11 +32,11 @@ start-records = refl
 pub start-blank : (i : ℕ) → getD (records (startedDesk .words)) i blank ≡ blank
 start-blank i = ap (λ (rs : List Record). getD rs i blank) start-records ∙ replicate-at places blank i
 
-pub start-unused : (i : ℕ) → used (getD (records (startedDesk .words)) i blank) ≡ false
+start-unused : (i : ℕ) → used (getD (records (startedDesk .words)) i blank) ≡ false
 start-unused i = ap used (start-blank i) ∙ blank-unused
 
 pub start-empty : StartEmpty
-start-empty identifier = held-nothing clerkView identifier (records (startedDesk .words)) start-unused
+start-empty = start-unused
 
 pub start-sound : StartSound
 start-sound =

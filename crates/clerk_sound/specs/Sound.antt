@@ -1,26 +1,25 @@
 -- The sentences of document 01 on the clerk's desk as a whole: a refusal leaves it as it was, and what every reached desk is. Each claim is a type; its proof has its name.
 use Prim.Native.Nat.{ℕ, suc, _≤_, _<_}
 use mathlib.Core.Path.{_≡_}
-use mathlib.Core.Bool.{Bool, true}
+use mathlib.Core.Bool.{Bool, true, false}
 use mathlib.Core.List.{List}
 use lib.ListN.{length, getD, set}
 use Rattle.lists.specs.Lists.{without}
-use Rattle.lists.specs.Words.{Bytes, bytesOf, wordsOf}
+use Rattle.lists.specs.Words.{Bytes, bytesOf}
 use Rattle.lists.specs.declared.Found.the-variants.{At, Nothing}
-use Rattle.lists.specs.declared.words.Words.{Words}
 use Rattle.message.specs.Number.{digitsInRange}
 use Rattle.message.specs.Format.{inRange}
+use Rattle.desk.specs.Letter.{identifierOf}
 use Rattle.desk.specs.declared.letter.Letter.{Letter}
 use Rattle.desk.specs.Outcome.{refusedWith}
 use Rattle.desk.specs.declared.outcome.Outcome.{Outcome}
 use Rattle.desk.specs.declared.sends.Sends.the-variants as Sends
 use Rattle.desk.specs.declared.Connection.the-variants as Connection
 use Rattle.desk.specs.declared.Keep.the-variants as Keep
+use Rattle.terms.specs.declared.request.Name.{Name}
 use Rattle.terms.specs.declared.request.Names.{Names}
 use Rattle.terms.specs.declared.request.Request.{Request}
-use Rattle.places.specs.Places as Places
-use Rattle.places.specs.Places.{View, Placed, stored, held, names, Queued}
-use Rattle.clerk_table.specs.Inputs.{namesOf}
+use Rattle.places.specs.Places.{View, Placed, stored, names, Queued, OthersStay}
 use Rattle.clerk_table.specs.declared.table.State.the-variants.{WaitAck}
 use Rattle.clerk_table.specs.declared.table.Timer.{Timer}
 use Rattle.clerk_table.specs.declared.record.Record.{Record}
@@ -29,7 +28,8 @@ use Rattle.clerk_table.specs.declared.inputs.Act.{Act}
 use Rattle.clerk_table.specs.declared.inputs.Input.{Input}
 use Rattle.clerk_table.specs.declared.inputs.Input.the-variants as Input
 use Rattle.clerk_records.specs.Layout as Layout
-use Rattle.clerk_records.specs.Records.{blank, records, used, meant, place}
+use Rattle.clerk_records.specs.Records.{blank, records, used, place}
+use Rattle.clerk_records.specs.Meaning.{identifierMeans}
 use Rattle.clerk_plan.specs.Plan.{decided, newRecord}
 use Rattle.clerk.specs.Entry.{askRequest, askMessage, askNames, askEntry}
 use Rattle.clerk.specs.Steps.{startedDesk, step, entered, asked, receivedBytes}
@@ -42,14 +42,14 @@ use Rattle.clerk.specs.declared.entry.Entry.the-variants.{Given}
 abbrev pub clerkView : View Record
 clerkView = record { used = used; name = λ r. r .terms .identifier; blank = blank }
 
--- ---- a refusal leaves the desk as it was, and tells its number and perhaps a reply: no timer, no notice, no word to clear the call
+-- ---- a refusal leaves the desk as it was, and tells its number and perhaps a reply: no timer, no notice, no word to clear the call, no place
 abbrev pub Same : Desk → Desk → Outcome → Type 0
 Same before after outcome = (outcome .refusal ≡ 0 → ⊥) → (after ≡ before) × (outcome ≡ refusedWith (outcome .refusal) (outcome .sending))
 
 pub record RefusedSame : Type 0 where
   -- whatever comes in at the entry: an ask, a message, an act, a timer's report
   pub steps : (d : Desk) (entry : Entry) → Same d (entered d entry .desk) (entered d entry .outcome)
-  pub bytes : (d : Desk) (bytes : List ℕ) (busy : Bool) → Same d (receivedBytes d bytes busy .desk) (receivedBytes d bytes busy .outcome)
+  pub bytes : (d : Desk) (bytes : List ℕ) (busy : Bool) (place : ℕ) → Same d (receivedBytes d bytes busy place .desk) (receivedBytes d bytes busy place .outcome)
 
 -- ---- a sound list of records
 -- a used record: its choices and its fields
@@ -65,7 +65,7 @@ pub record Whole (r : Record) : Type 0 where
   pub service : r .terms .service < 16384
 
 pub record Sound (rs : List Record) : Type 0 where
-  -- used places come first, a free one is blank, identifiers all differ
+  -- used places come first, a free one is blank, identifiers all differ, of records that have one
   pub placed : Placed clerkView rs
   pub each : (i : ℕ) → used (getD rs i blank) ≡ true → Whole (getD rs i blank)
 
@@ -82,21 +82,21 @@ pub record Typed (a : Asking) : Type 0 where
 -- an input as the entry makes it: an ask of values of the code's type; of all others every one will do
 pub data Fair : Input → Type 0 where
   asks : {names : Names} {q : Request} (a : Asking) → Typed a → askEntry a ≡ Given (Input.Ask names q) → Fair (Input.Ask names q)
-  hears : (l : Letter) (busy : Bool) → Fair (Input.Message l busy)
-  acts : (identifier : Words) (act : Act) → Fair (Input.Act identifier act)
-  times : (identifier : Words) (timer : Timer) → Fair (Input.Timer identifier timer)
+  hears : (l : Letter) (busy : Bool) (place : ℕ) → Fair (Input.Message l busy place)
+  acts : (name : Name) (act : Act) → Fair (Input.Act name act)
+  times : (name : Name) (timer : Timer) → Fair (Input.Timer name timer)
 
 pub data Reached : Desk → Type 0 where
   starts : Reached startedDesk
   steps : {d : Desk} {input : Input} → Fair input → Reached d → Reached (step d input .desk)
-  reads : {d : Desk} (bytes : List ℕ) (busy : Bool) → Reached d → Reached (receivedBytes d bytes busy .desk)
+  reads : {d : Desk} (bytes : List ℕ) (busy : Bool) (place : ℕ) → Reached d → Reached (receivedBytes d bytes busy place .desk)
 
 abbrev pub StartSound : Type 0
 StartSound = Sound (records (startedDesk .words))
 
 -- a started desk holds no request
 abbrev pub StartEmpty : Type 0
-StartEmpty = (identifier : Words) → held clerkView identifier (records (startedDesk .words)) ≡ Places.none
+StartEmpty = (i : ℕ) → used (getD (records (startedDesk .words)) i blank) ≡ false
 
 abbrev pub ReachedSound : Type 0
 ReachedSound = (d : Desk) → Reached d → Sound (records (d .words))
@@ -117,21 +117,21 @@ pub record Sixteen : Type 0 where
   pub same : (rs : List Record) (i : ℕ) (r : Record) → used (getD rs i blank) ≡ true → used r ≡ true → stored clerkView (set rs i r) ≡ stored clerkView rs
   pub fewer : (rs : List Record) (i : ℕ) → used (getD rs i blank) ≡ true → suc (stored clerkView (without blank rs i)) ≡ stored clerkView rs
 
--- an ask under an identifier that no used record has: stored behind all used ones exactly if fewer than 16 are, and 5 when 16 are
+-- an ask without an identifier, or under one that no used record has: stored behind all used ones exactly if fewer than 16 are, and 5 when 16 are
 pub record AskSixteen : Type 0 where
   pub taken :
-      (rs : List Record) (names : Names) (q : Request) → Sound rs → length rs ≡ Layout.places → meant (names .identifier) rs ≡ Nothing →
+      (rs : List Record) (names : Names) (q : Request) → Sound rs → length rs ≡ Layout.places → identifierMeans (names .identifier) rs ≡ Nothing →
       stored clerkView rs < Layout.places → decided rs (Input.Ask names q) ≡ Store (stored clerkView rs) q
   pub refused :
-      (rs : List Record) (names : Names) (q : Request) → Sound rs → length rs ≡ Layout.places → meant (names .identifier) rs ≡ Nothing →
+      (rs : List Record) (names : Names) (q : Request) → Sound rs → length rs ≡ Layout.places → identifierMeans (names .identifier) rs ≡ Nothing →
       stored clerkView rs ≡ Layout.places → decided rs (Input.Ask names q) ≡ Refuse 5 Sends.Nothing
 
--- an ask in range, under an identifier that no used record of the desk has
+-- an ask in range, without an identifier or under one that no used record of the desk has
 pub record Proper (d : Desk) (a : Asking) : Type 0 where
   pub typed : Typed a
   pub preference : a .preference < 3
   pub ranged : inRange (askMessage a) ≡ true
-  pub new : meant (wordsOf (a .identifier)) (records (d .words)) ≡ Nothing
+  pub new : identifierMeans (identifierOf (a .identified) (a .identifier)) (records (d .words)) ≡ Nothing
 
 -- the record of an ask
 abbrev pub askedRecord : Asking → Record
@@ -142,6 +142,10 @@ pub record AskedBehind : Type 0 where
   pub taken :
       (d : Desk) → Reached d → (a : Asking) → Proper d a → stored clerkView (records (d .words)) < Layout.places →
       (asked d a .outcome .refusal ≡ 0) × (records (asked d a .desk .words) ≡ set (records (d .words)) (stored clerkView (records (d .words))) (askedRecord a))
+  -- and the outcome tells its place
+  pub told :
+      (d : Desk) → Reached d → (a : Asking) → Proper d a → stored clerkView (records (d .words)) < Layout.places →
+      asked d a .outcome .at ≡ At (stored clerkView (records (d .words)))
   pub refused : (d : Desk) → Reached d → (a : Asking) → Proper d a → stored clerkView (records (d .words)) ≡ Layout.places → asked d a .outcome .refusal ≡ 5
   -- a freed place is used again: after a record was removed the next ask is taken, also where the desk was full
   pub again :
@@ -163,10 +167,10 @@ InOrder before after = Queued (names clerkView (records (before .words))) (names
 
 pub record OrderOfStoring : Type 0 where
   pub steps : (d : Desk) → Reached d → (input : Input) → Fair input → InOrder d (step d input .desk)
-  pub bytes : (d : Desk) → Reached d → (bytes : List ℕ) (busy : Bool) → InOrder d (receivedBytes d bytes busy .desk)
+  pub bytes : (d : Desk) → Reached d → (bytes : List ℕ) (busy : Bool) (place : ℕ) → InOrder d (receivedBytes d bytes busy place .desk)
 
--- ---- a step is about the request that its input names: every other is held as before
+-- ---- a step is about the record at the place that its outcome tells: every other stays, behind a removed one a place further to the front
 abbrev pub OthersHeld : Type 0
 OthersHeld =
-    (d : Desk) → Reached d → (input : Input) → Fair input → (other : Words) → (namesOf input .identifier ≡ other → ⊥) →
-    held clerkView other (records (step d input .desk .words)) ≡ held clerkView other (records (d .words))
+    (d : Desk) → Reached d → (input : Input) → Fair input →
+    OthersStay clerkView (step d input .outcome .at) (records (d .words)) (records (step d input .desk .words))

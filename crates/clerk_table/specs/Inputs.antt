@@ -36,14 +36,14 @@ use Rattle.clerk_table.specs.declared.inputs.Meant.the-variants as Meant
 -- ---- whom an input names
 abbrev pub namesOf : Input → Names
 namesOf (Input.Ask names q) = names
-namesOf (Input.Message l busy) = letterNames l
-namesOf (Input.Act identifier act) = onlyIdentifier identifier
-namesOf (Input.Timer identifier timer) = onlyIdentifier identifier
+namesOf (Input.Message l busy place) = letterNames l
+namesOf (Input.Act name act) = onlyIdentifier (name .identifier)
+namesOf (Input.Timer name timer) = onlyIdentifier (name .identifier)
 
 -- ---- messages: types 1, 2, 6, 8 and 9 go to the line
 abbrev pub messageFor : Body → Meant
-messageFor (Body.CcbsRequest service flags) = Meant.NotHere
-messageFor (Body.CcnrRequest service flags) = Meant.NotHere
+messageFor (Body.CcbsRequest flags service) = Meant.NotHere
+messageFor (Body.CcnrRequest flags service) = Meant.NotHere
 messageFor (Body.RequestResult keep) = Meant.Record (Message.Result keep)
 messageFor (Body.RequestError error) = Meant.Record (Message.Error error)
 messageFor Body.CcExecPossible = Meant.Record Message.ExecPossible
@@ -157,6 +157,6 @@ settled Meant.NotHere carrier r = r
 -- and so does every other input
 abbrev pub settledBy : Input → Record → Record
 settledBy (Input.Ask names q) r = r
-settledBy (Input.Message l busy) r = settled (messageFor (l .body)) (l .carrier) r
-settledBy (Input.Act identifier act) r = r
-settledBy (Input.Timer identifier timer) r = r
+settledBy (Input.Message l busy place) r = settled (messageFor (l .body)) (l .carrier) r
+settledBy (Input.Act name act) r = r
+settledBy (Input.Timer name timer) r = r

@@ -1,12 +1,13 @@
--- A row of the clerk's table taken for a record: the change of the desk and the outcome that its effect means.
+-- A row of the clerk's table taken for a record: the change of the desk and the outcome that its effect means, which tells the record's place.
 use Prim.Native.Nat.{ℕ}
 use mathlib.Core.Bool.{Bool, true, false}
 use Rattle.lists.specs.Choice.{pick}
+use Rattle.lists.specs.declared.Found.the-variants.{At}
 use Rattle.desk.specs.Carriers.{sendsAs}
 use Rattle.desk.specs.Outcome.{noTimers}
 use Rattle.desk.specs.Sends.{sent}
 use Rattle.desk.specs.declared.outcome.Timers.{Timers}
-use Rattle.terms.specs.Terms.{kindAfter}
+use Rattle.terms.specs.Terms.{kindAfter, elementsOf}
 use Rattle.terms.specs.declared.Becomes.{Becomes}
 use Rattle.clerk_table.specs.Table.{effectOf}
 use Rattle.clerk_table.specs.declared.table.State.{State}
@@ -87,10 +88,11 @@ rowTaken place r row =
       change = changed (effectOf row .next) (effectOf row .kind) (effectOf row .falls) place r;
       outcome = record {
         refusal = 0;
-        sending = sent (effectOf row .sends) (r .terms .identifier) (sendsAs (r .terms .connection) (r .down));
+        sending = sent (effectOf row .sends) (elementsOf (r .terms)) (sendsAs (r .terms .connection) (r .down));
         starts = started (effectOf row .starts);
         stops = stopped (effectOf row .stops) (r .state);
         notice = effectOf row .notice;
         clear = cleared (effectOf row .clears) (r .state);
+        at = At place;
       };
     }

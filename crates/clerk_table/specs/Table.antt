@@ -1,5 +1,7 @@
--- The clerk's table: document 01, "Steps at the clerk's desk", as mended (M1, M2, M4), with the clause of H.450.9 beside each row.
+-- The clerk's table: document 01, "Steps at the clerk's desk", as mended (M1, M2, M4), with the rows of document 02 (Asks 5 and 11) and the clause of H.450.9 beside each row.
+use Prim.Native.Nat.{ℕ}
 use mathlib.Core.Bool.{Bool, true, false}
+use lib.Dec.{eqb}
 use Rattle.message.specs.declared.Kind.{Kind}
 use Rattle.message.specs.declared.Kind.the-variants.{Ccbs}
 use Rattle.message.specs.declared.Body.{Body}
@@ -23,7 +25,7 @@ use Rattle.clerk_table.specs.declared.table.Effect.{Effect}
 use Rattle.clerk_table.specs.declared.table.Rule.{Rule}
 use Rattle.clerk_table.specs.declared.table.State.the-variants.{Free, WaitAck, Invoked, WaitAnswer, Ringout, Suspended}
 use Rattle.clerk_table.specs.declared.table.Row.the-variants as Row
-use Rattle.clerk_table.specs.declared.table.Home.the-variants.{InWaitAck, InInvoked, InWaitAnswer, InRingout, InSuspended, WhereT2Counts, WhereRetained, Always}
+use Rattle.clerk_table.specs.declared.table.Home.the-variants.{In, WhereT2Counts, WhereRetained, Always}
 use Rattle.clerk_table.specs.declared.table.Next.the-variants.{Gone, Same, To}
 use Rattle.clerk_table.specs.declared.table.Timer.the-variants.{T1, T2, T3}
 use Rattle.clerk_table.specs.declared.table.Starts.the-variants as Starts
@@ -88,33 +90,33 @@ row home next kind down message start stop notice call = rule home next (kept ki
 -- taken in · then · kind · connection · sends · starts · stops · notice · clears the call
 abbrev pub ruleOf : Row → Rule
 -- type 3, result, in Wait-Ack (8.1.1.3; T2 by 8.1.1.1 and 8.1.1.2)
-ruleOf Row.Accepted = row InWaitAck (To Invoked) nothing nothing nothing (starts T2) (stops T1) (says Says.Accepted) nothing
+ruleOf Row.Accepted = row (In WaitAck) (To Invoked) nothing nothing nothing (starts T2) (stops T1) (says Says.Accepted) nothing
 -- type 4, request error 1 (short), in Wait-Ack (8.1.2.1)
-ruleOf Row.DeniedShort = row InWaitAck Gone nothing nothing nothing nothing all (says Says.DeniedShort) nothing
+ruleOf Row.DeniedShort = row (In WaitAck) Gone nothing nothing nothing nothing all (says Says.DeniedShort) nothing
 -- type 4, request error 2 (long), in Wait-Ack (8.1.2.1)
-ruleOf Row.DeniedLong = row InWaitAck Gone nothing nothing nothing nothing all (says Says.DeniedLong) nothing
+ruleOf Row.DeniedLong = row (In WaitAck) Gone nothing nothing nothing nothing all (says Says.DeniedLong) nothing
 -- type 5, ccExecPossible, in Invoked, User A not busy (8.1.1.4)
-ruleOf Row.Recalls = row InInvoked (To WaitAnswer) nothing nothing nothing (starts T3) nothing (says Says.Recall) nothing
+ruleOf Row.Recalls = row (In Invoked) (To WaitAnswer) nothing nothing nothing (starts T3) nothing (says Says.Recall) nothing
 -- type 5, ccExecPossible, in Invoked, User A busy (8.1.1.5)
-ruleOf Row.Suspends = row InInvoked (To Suspended) nothing nothing (sends CcSuspend) nothing nothing nothing nothing
+ruleOf Row.Suspends = row (In Invoked) (To Suspended) nothing nothing (sends CcSuspend) nothing nothing nothing nothing
 -- accept in Wait-Answer (8.1.1.4)
-ruleOf Row.RingsOut = row InWaitAnswer (To Ringout) nothing nothing (sends CcRingout) nothing (stops T3) nothing nothing
+ruleOf Row.RingsOut = row (In WaitAnswer) (To Ringout) nothing nothing (sends CcRingout) nothing (stops T3) nothing nothing
 -- User A free in Suspended: resume (8.1.1.5, of RLS too: the connection choice is for life)
-ruleOf Row.Resumes = row InSuspended (To Invoked) nothing nothing (sends CcResume) nothing nothing nothing nothing
+ruleOf Row.Resumes = row (In Suspended) (To Invoked) nothing nothing (sends CcResume) nothing nothing nothing nothing
 -- User A free in Suspended: go on to recall (8.1.1.5, last paragraph)
-ruleOf Row.GoesOn = row InSuspended (To WaitAnswer) nothing nothing nothing (starts T3) nothing (says Says.Recall) nothing
+ruleOf Row.GoesOn = row (In Suspended) (To WaitAnswer) nothing nothing nothing (starts T3) nothing (says Says.Recall) nothing
 -- type 11, call alerts, in Ringout (8.1.1.4)
-ruleOf Row.Completes = row InRingout Gone nothing nothing nothing nothing all (says Says.Completed) nothing
+ruleOf Row.Completes = row (In Ringout) Gone nothing nothing nothing nothing all (says Says.Completed) nothing
 -- type 12, call failed, in Ringout (8.1.2.4, last paragraph, and 8.1.1.6 a: mend M2)
-ruleOf Row.CallFails = row InRingout Gone nothing nothing (sends CcCancel) nothing all (says Says.Failed) nothing
+ruleOf Row.CallFails = row (In Ringout) Gone nothing nothing (sends CcCancel) nothing all (says Says.Failed) nothing
 -- type 7, ringout error 1 (busy again), in Ringout, keep chosen, CCBS (8.1.2.4)
-ruleOf Row.BusyAgainKept = row InRingout (To Invoked) nothing nothing nothing nothing nothing (says Says.BusyAgainKept) nothing
+ruleOf Row.BusyAgainKept = row (In Ringout) (To Invoked) nothing nothing nothing nothing nothing (says Says.BusyAgainKept) nothing
 -- type 7, ringout error 1 (busy again), in Ringout, keep chosen, CCNR, which goes on as CCBS (8.1.2.4; 6.2.1.3: document 02, Ask 5)
-ruleOf Row.BusyAgainWaiting = row InRingout (To Invoked) (becomes Ccbs) nothing nothing nothing nothing (says Says.BusyAgainWaiting) nothing
+ruleOf Row.BusyAgainWaiting = row (In Ringout) (To Invoked) (becomes Ccbs) nothing nothing nothing nothing (says Says.BusyAgainWaiting) nothing
 -- type 7, ringout error 1 (busy again), in Ringout, keep not chosen (8.1.2.4)
-ruleOf Row.BusyAgainEnded = row InRingout Gone nothing nothing nothing nothing all (says Says.BusyAgainEnded) nothing
+ruleOf Row.BusyAgainEnded = row (In Ringout) Gone nothing nothing nothing nothing all (says Says.BusyAgainEnded) nothing
 -- type 7, ringout error 2 (failureToMatch), in Ringout (8.1.2.4)
-ruleOf Row.NotMatched = row InRingout Gone nothing nothing nothing nothing all (says Says.Failed) nothing
+ruleOf Row.NotMatched = row (In Ringout) Gone nothing nothing nothing nothing all (says Says.Failed) nothing
 -- type 10, ccCancel, received (8.1.1.6 b: mend M4)
 ruleOf Row.LineCancels = row Always Gone nothing nothing nothing nothing all (says Says.Failed) clears
 -- user's cancel (8.1.1.6 a)
@@ -122,17 +124,39 @@ ruleOf Row.UserCancels = row Always Gone nothing nothing (sends CcCancel) nothin
 -- the connection fell (8.1.2.5 and 8.2.2.5: document 02, Ask 11); it stays in its state
 ruleOf Row.Falls = row WhereRetained Same nothing falls nothing nothing nothing nothing nothing
 -- T1 reported (8.1.2.1; the ccCancel is document 01's)
-ruleOf Row.T1RunsOut = row InWaitAck Gone nothing nothing (sends CcCancel) nothing all (says Says.Failed) nothing
+ruleOf Row.T1RunsOut = row (In WaitAck) Gone nothing nothing (sends CcCancel) nothing all (says Says.Failed) nothing
 -- T2 reported (8.1.2.2; not in Ringout: mend M1)
 ruleOf Row.T2RunsOut = row WhereT2Counts Gone nothing nothing (sends CcCancel) nothing all (says Says.Failed) nothing
 -- T3 reported (8.1.2.3)
-ruleOf Row.T3RunsOut = row InWaitAnswer Gone nothing nothing (sends CcCancel) nothing all (says Says.Failed) nothing
+ruleOf Row.T3RunsOut = row (In WaitAnswer) Gone nothing nothing (sends CcCancel) nothing all (says Says.Failed) nothing
 
 abbrev pub homeOf : Row → Home
 homeOf row = ruleOf row .home
 
 abbrev pub effectOf : Row → Effect
 effectOf row = ruleOf row .effect
+
+-- ---- states
+-- a state's number: its word at rest, and what tells two states apart
+abbrev pub stateCode : State → ℕ
+stateCode Free = 0
+stateCode WaitAck = 1
+stateCode Invoked = 2
+stateCode WaitAnswer = 3
+stateCode Ringout = 4
+stateCode Suspended = 5
+
+abbrev pub sameState : State → State → Bool
+sameState a b = eqb (stateCode a) (stateCode b)
+
+-- T2 runs in the last four, and in Ringout it doesn't count (8.1.2.2: mend M1)
+abbrev pub t2Counts : State → Bool
+t2Counts Free = false
+t2Counts WaitAck = false
+t2Counts Invoked = true
+t2Counts WaitAnswer = true
+t2Counts Ringout = false
+t2Counts Suspended = true
 
 -- behind the acknowledgment
 abbrev pub behind : State → Bool
@@ -143,48 +167,18 @@ behind WaitAnswer = true
 behind Ringout = true
 behind Suspended = true
 
+-- a place is used if its record has a state
+abbrev pub inUse : State → Bool
+inUse Free = false
+inUse WaitAck = true
+inUse Invoked = true
+inUse WaitAnswer = true
+inUse Ringout = true
+inUse Suspended = true
+
 -- the states in which a row is taken, and of one the connection choice too; a free place has no row
 abbrev pub holdsIn : Home → State → Connection → Bool
-holdsIn InWaitAck Free connection = false
-holdsIn InWaitAck WaitAck connection = true
-holdsIn InWaitAck Invoked connection = false
-holdsIn InWaitAck WaitAnswer connection = false
-holdsIn InWaitAck Ringout connection = false
-holdsIn InWaitAck Suspended connection = false
-holdsIn InInvoked Free connection = false
-holdsIn InInvoked WaitAck connection = false
-holdsIn InInvoked Invoked connection = true
-holdsIn InInvoked WaitAnswer connection = false
-holdsIn InInvoked Ringout connection = false
-holdsIn InInvoked Suspended connection = false
-holdsIn InWaitAnswer Free connection = false
-holdsIn InWaitAnswer WaitAck connection = false
-holdsIn InWaitAnswer Invoked connection = false
-holdsIn InWaitAnswer WaitAnswer connection = true
-holdsIn InWaitAnswer Ringout connection = false
-holdsIn InWaitAnswer Suspended connection = false
-holdsIn InRingout Free connection = false
-holdsIn InRingout WaitAck connection = false
-holdsIn InRingout Invoked connection = false
-holdsIn InRingout WaitAnswer connection = false
-holdsIn InRingout Ringout connection = true
-holdsIn InRingout Suspended connection = false
-holdsIn InSuspended Free connection = false
-holdsIn InSuspended WaitAck connection = false
-holdsIn InSuspended Invoked connection = false
-holdsIn InSuspended WaitAnswer connection = false
-holdsIn InSuspended Ringout connection = false
-holdsIn InSuspended Suspended connection = true
-holdsIn WhereT2Counts Free connection = false
-holdsIn WhereT2Counts WaitAck connection = false
-holdsIn WhereT2Counts Invoked connection = true
-holdsIn WhereT2Counts WaitAnswer connection = true
-holdsIn WhereT2Counts Ringout connection = false
-holdsIn WhereT2Counts Suspended connection = true
+holdsIn (In only) state connection = sameState only state
+holdsIn WhereT2Counts state connection = t2Counts state
 holdsIn WhereRetained state connection = byConnection connection (behind state) false
-holdsIn Always Free connection = false
-holdsIn Always WaitAck connection = true
-holdsIn Always Invoked connection = true
-holdsIn Always WaitAnswer connection = true
-holdsIn Always Ringout connection = true
-holdsIn Always Suspended connection = true
+holdsIn Always state connection = inUse state

@@ -8,10 +8,10 @@ use desk::Connection;
 use desk::Keep;
 use desk::letter::Letter;
 use desk::sends::Sends;
-use lists::words::Words;
 use message::Body;
 use message::Carrier;
 use message::Kind;
+use terms::request::Name;
 use terms::request::Names;
 use terms::request::Request;
 use terms::request::letter_names;
@@ -29,13 +29,13 @@ pub enum Act {
     Fell,
 }
 
-// All that the desk takes in: an ask, whom it names and what it asks for; a message in range, with the host's word on User A; User A's act, and a timer that
-// ran out, each on the request of an identifier.
+// All that the desk takes in: an ask, whom it names and what it asks for; a message in range, with the host's word on User A and the place that the host names for it;
+// User A's act, and a timer that ran out, each on the request of an identifier or, without one, of a place.
 pub enum Input {
     Ask(Names, Request),
-    Message(Letter, bool),
-    Act(Words, Act),
-    Timer(Words, Timer),
+    Message(Letter, bool, usize),
+    Act(Name, Act),
+    Timer(Name, Timer),
 }
 
 // A message about a record: a result with its keep, a request error or a ringout error with its number, ..
@@ -61,9 +61,15 @@ pub fn names_of(input: Input) -> Names
 {
     match input {
         Input::Ask(names, _) => names,
-        Input::Message(l, _) => letter_names(l),
-        Input::Act(identifier, _) => only_identifier(identifier),
-        Input::Timer(identifier, _) => only_identifier(identifier),
+        Input::Message(l, _, _) => letter_names(l),
+        Input::Act(name, _) => {
+            let identifier = name.identifier;
+            only_identifier(identifier)
+        }
+        Input::Timer(name, _) => {
+            let identifier = name.identifier;
+            only_identifier(identifier)
+        }
     }
 }
 
@@ -172,7 +178,7 @@ pub fn row_of_timer(timer: Timer) -> Row
     }
 }
 
-// The reply to a message that no record has the identifier of: to a result and to a ccExecPossible.
+// The reply to a message that means no record: to a result and to a ccExecPossible.
 pub fn reply_unmatched(message: RecordMessage) -> Sends
     ensures { λ r. ⌜ r ≡ replyUnmatched message ⌝ }
 {
@@ -199,8 +205,8 @@ fn reply_in_setup(carrier: Carrier) -> Sends
     }
 }
 
-// The reply to a message that its record has no row for, or that came in a carrier that isn't allowed: to a ccExecPossible in
-// Setup (mend M3).
+// The reply to a message that its record has no row for, that fits no record in a state it is for, or that came in a carrier that isn't allowed: to a
+// ccExecPossible in Setup (mend M3).
 pub fn reply_unfit(message: RecordMessage, carrier: Carrier) -> Sends
     ensures { λ r. ⌜ r ≡ replyUnfit message carrier ⌝ }
 {
@@ -274,7 +280,7 @@ pub fn settle_by(input: Input, r: Record) -> Record
 {
     match input {
         Input::Ask(_, _) => r,
-        Input::Message(l, _) => {
+        Input::Message(l, _, _) => {
             let body = l.body;
             let carrier = l.carrier;
             settle(message_for(body), carrier, r)

@@ -1,4 +1,4 @@
-// A row taken for a record: what the table's effect makes of the place, the message, the timers, the notice and the call.
+// A row taken for a record: what the table's effect makes of the place, the message, the timers, the notice and the call; the outcome tells the record's place.
 use crate::record::Change;
 use crate::record::Plan;
 use crate::record::Record;
@@ -15,7 +15,9 @@ use desk::outcome::Outcome;
 use desk::outcome::Timers;
 use desk::outcome::no_timers;
 use desk::sends::sent_for;
+use lists::Found;
 use terms::Becomes;
+use terms::elements_of;
 use terms::kind_after;
 ghost use mathlib.Core.Path.{_≡_};
 ghost use Rattle.clerk_table.specs.Step.{downAfter, turnedTo, changed, only, started, running, stopped, cleared, rowTaken};
@@ -154,11 +156,11 @@ pub fn take_row(place: usize, r: Record, row: Row) -> Plan
     let notice = effect.notice;
     let state = r.state;
     let terms = r.terms;
-    let identifier = terms.identifier;
+    let elements = elements_of(terms);
     let chosen = terms.connection;
     let connection = sends_as(chosen, r.down);
     let change = changed_to(next, becomes, effect.falls, place, r);
-    let sending = sent_for(sends, identifier, connection);
+    let sending = sent_for(sends, elements, connection);
     let started = timers_started(starts);
     let stopped = timers_stopped(stops, state);
     let clear = call_cleared(effect.clears, state);
@@ -169,6 +171,7 @@ pub fn take_row(place: usize, r: Record, row: Row) -> Plan
         stops: stopped,
         notice,
         clear,
+        at: Found::At(place),
     };
     Plan { change, outcome }
 }

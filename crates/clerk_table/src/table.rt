@@ -16,7 +16,7 @@ ghost use Rattle.terms.specs.declared.Becomes.the-variants as Becomes;
 ghost use Rattle.clerk_table.specs.declared.table.Next.the-variants.{Gone, Same, To};
 ghost use Rattle.clerk_table.specs.declared.table.Starts.the-variants as Starts;
 ghost use Rattle.clerk_table.specs.declared.table.Stops.the-variants as Stops;
-ghost use Rattle.clerk_table.specs.Table.{rule, ruleOf, homeOf, effectOf, holdsIn};
+ghost use Rattle.clerk_table.specs.Table.{rule, ruleOf, homeOf, effectOf, stateCode, sameState, t2Counts, behind, inUse, holdsIn};
 
 // Free is a place with no record, CC-Idle. Invoked stands for CC-Invoked-User-A-RET or -RLS, by the connection choice.
 pub enum State {
@@ -71,13 +71,9 @@ pub enum Row {
     T3RunsOut,
 }
 
-// The states in which a row is taken; where a connection is retained: behind the acknowledgment, and the choice is RET.
+// The states in which a row is taken: one alone, or several. Where a connection is retained: behind the acknowledgment, and the choice is RET.
 pub enum Home {
-    InWaitAck,
-    InInvoked,
-    InWaitAnswer,
-    InRingout,
-    InSuspended,
+    In(State),
     WhereT2Counts,
     WhereRetained,
     Always,
@@ -213,7 +209,7 @@ pub fn rule_of(row: Row) -> Rule
 {
     match row {
         Row::Accepted => goes(
-            Home::InWaitAck,
+            Home::In(State::WaitAck),
             State::Invoked,
             Becomes::Nothing,
             Sends::Nothing,
@@ -221,10 +217,10 @@ pub fn rule_of(row: Row) -> Rule
             Stops::One(Timer::T1),
             Notice::Accepted,
         ),
-        Row::DeniedShort => ends(Home::InWaitAck, Notice::DeniedShort, false),
-        Row::DeniedLong => ends(Home::InWaitAck, Notice::DeniedLong, false),
+        Row::DeniedShort => ends(Home::In(State::WaitAck), Notice::DeniedShort, false),
+        Row::DeniedLong => ends(Home::In(State::WaitAck), Notice::DeniedLong, false),
         Row::Recalls => goes(
-            Home::InInvoked,
+            Home::In(State::Invoked),
             State::WaitAnswer,
             Becomes::Nothing,
             Sends::Nothing,
@@ -233,7 +229,7 @@ pub fn rule_of(row: Row) -> Rule
             Notice::Recall,
         ),
         Row::Suspends => goes(
-            Home::InInvoked,
+            Home::In(State::Invoked),
             State::Suspended,
             Becomes::Nothing,
             Sends::One(Body::CcSuspend),
@@ -242,7 +238,7 @@ pub fn rule_of(row: Row) -> Rule
             Notice::Silent,
         ),
         Row::RingsOut => goes(
-            Home::InWaitAnswer,
+            Home::In(State::WaitAnswer),
             State::Ringout,
             Becomes::Nothing,
             Sends::One(Body::CcRingout),
@@ -251,7 +247,7 @@ pub fn rule_of(row: Row) -> Rule
             Notice::Silent,
         ),
         Row::Resumes => goes(
-            Home::InSuspended,
+            Home::In(State::Suspended),
             State::Invoked,
             Becomes::Nothing,
             Sends::One(Body::CcResume),
@@ -260,7 +256,7 @@ pub fn rule_of(row: Row) -> Rule
             Notice::Silent,
         ),
         Row::GoesOn => goes(
-            Home::InSuspended,
+            Home::In(State::Suspended),
             State::WaitAnswer,
             Becomes::Nothing,
             Sends::Nothing,
@@ -268,10 +264,10 @@ pub fn rule_of(row: Row) -> Rule
             Stops::Nothing,
             Notice::Recall,
         ),
-        Row::Completes => ends(Home::InRingout, Notice::Completed, false),
-        Row::CallFails => cancels(Home::InRingout, Notice::Failed, false),
+        Row::Completes => ends(Home::In(State::Ringout), Notice::Completed, false),
+        Row::CallFails => cancels(Home::In(State::Ringout), Notice::Failed, false),
         Row::BusyAgainKept => goes(
-            Home::InRingout,
+            Home::In(State::Ringout),
             State::Invoked,
             Becomes::Nothing,
             Sends::Nothing,
@@ -280,7 +276,7 @@ pub fn rule_of(row: Row) -> Rule
             Notice::BusyAgainKept,
         ),
         Row::BusyAgainWaiting => goes(
-            Home::InRingout,
+            Home::In(State::Ringout),
             State::Invoked,
             Becomes::One(Kind::Ccbs),
             Sends::Nothing,
@@ -288,14 +284,14 @@ pub fn rule_of(row: Row) -> Rule
             Stops::Nothing,
             Notice::BusyAgainWaiting,
         ),
-        Row::BusyAgainEnded => ends(Home::InRingout, Notice::BusyAgainEnded, false),
-        Row::NotMatched => ends(Home::InRingout, Notice::Failed, false),
+        Row::BusyAgainEnded => ends(Home::In(State::Ringout), Notice::BusyAgainEnded, false),
+        Row::NotMatched => ends(Home::In(State::Ringout), Notice::Failed, false),
         Row::LineCancels => ends(Home::Always, Notice::Failed, true),
         Row::UserCancels => cancels(Home::Always, Notice::Cancelled, true),
         Row::Falls => falls(),
-        Row::T1RunsOut => cancels(Home::InWaitAck, Notice::Failed, false),
+        Row::T1RunsOut => cancels(Home::In(State::WaitAck), Notice::Failed, false),
         Row::T2RunsOut => cancels(Home::WhereT2Counts, Notice::Failed, false),
-        Row::T3RunsOut => cancels(Home::InWaitAnswer, Notice::Failed, false),
+        Row::T3RunsOut => cancels(Home::In(State::WaitAnswer), Notice::Failed, false),
     }
 }
 
@@ -315,78 +311,81 @@ pub fn effect_of(row: Row) -> Effect
     rule.effect
 }
 
+// A state's number: its word at rest, and what tells two states apart.
+pub fn state_code(state: State) -> u64
+    ensures { λ r. ⌜ r ≡ stateCode state ⌝ }
+{
+    match state {
+        State::Free => 0,
+        State::WaitAck => 1,
+        State::Invoked => 2,
+        State::WaitAnswer => 3,
+        State::Ringout => 4,
+        State::Suspended => 5,
+    }
+}
+
+// Whether two states are the same.
+fn same_state(a: State, b: State) -> bool
+    ensures { λ r. ⌜ r ≡ sameState a b ⌝ }
+{
+    state_code(a) == state_code(b)
+}
+
+// T2 runs in the last four states, and in Ringout it doesn't count (mend M1).
+fn t2_counts(state: State) -> bool
+    ensures { λ r. ⌜ r ≡ t2Counts state ⌝ }
+{
+    match state {
+        State::Free => false,
+        State::WaitAck => false,
+        State::Invoked => true,
+        State::WaitAnswer => true,
+        State::Ringout => false,
+        State::Suspended => true,
+    }
+}
+
+// Whether a state is behind the acknowledgment.
+fn is_behind(state: State) -> bool
+    ensures { λ r. ⌜ r ≡ behind state ⌝ }
+{
+    match state {
+        State::Free => false,
+        State::WaitAck => false,
+        State::Invoked => true,
+        State::WaitAnswer => true,
+        State::Ringout => true,
+        State::Suspended => true,
+    }
+}
+
+// Whether a place is used: its record has a state.
+fn in_use(state: State) -> bool
+    ensures { λ r. ⌜ r ≡ inUse state ⌝ }
+{
+    match state {
+        State::Free => false,
+        State::WaitAck => true,
+        State::Invoked => true,
+        State::WaitAnswer => true,
+        State::Ringout => true,
+        State::Suspended => true,
+    }
+}
+
 // Whether a row is taken in a state, and for a connection choice.
 pub fn holds_in(home: Home, state: State, connection: Connection) -> bool
     ensures { λ r. ⌜ r ≡ holdsIn home state connection ⌝ }
 {
     match home {
-        Home::InWaitAck => match state {
-            State::Free => false,
-            State::WaitAck => true,
-            State::Invoked => false,
-            State::WaitAnswer => false,
-            State::Ringout => false,
-            State::Suspended => false,
-        },
-        Home::InInvoked => match state {
-            State::Free => false,
-            State::WaitAck => false,
-            State::Invoked => true,
-            State::WaitAnswer => false,
-            State::Ringout => false,
-            State::Suspended => false,
-        },
-        Home::InWaitAnswer => match state {
-            State::Free => false,
-            State::WaitAck => false,
-            State::Invoked => false,
-            State::WaitAnswer => true,
-            State::Ringout => false,
-            State::Suspended => false,
-        },
-        Home::InRingout => match state {
-            State::Free => false,
-            State::WaitAck => false,
-            State::Invoked => false,
-            State::WaitAnswer => false,
-            State::Ringout => true,
-            State::Suspended => false,
-        },
-        Home::InSuspended => match state {
-            State::Free => false,
-            State::WaitAck => false,
-            State::Invoked => false,
-            State::WaitAnswer => false,
-            State::Ringout => false,
-            State::Suspended => true,
-        },
-        Home::WhereT2Counts => match state {
-            State::Free => false,
-            State::WaitAck => false,
-            State::Invoked => true,
-            State::WaitAnswer => true,
-            State::Ringout => false,
-            State::Suspended => true,
-        },
+        Home::In(only) => same_state(only, state),
+        Home::WhereT2Counts => t2_counts(state),
         Home::WhereRetained => match connection {
             Connection::Empty => false,
-            Connection::Ret => match state {
-                State::Free => false,
-                State::WaitAck => false,
-                State::Invoked => true,
-                State::WaitAnswer => true,
-                State::Ringout => true,
-                State::Suspended => true,
-            },
+            Connection::Ret => is_behind(state),
             Connection::Rls => false,
         },
-        Home::Always => match state {
-            State::Free => false,
-            State::WaitAck => true,
-            State::Invoked => true,
-            State::WaitAnswer => true,
-            State::Ringout => true,
-            State::Suspended => true,
-        },
+        Home::Always => in_use(state),
     }
 }

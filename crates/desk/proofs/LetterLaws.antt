@@ -1,15 +1,18 @@
 -- A number of digits in range stays in range as two words, and they are the same when they are read again: its normal form has the same bytes, and words give their sixteen bytes back.
 use Prim.Native.Nat.{ℕ, zero, suc, _+_}
 use mathlib.Core.Path.{_≡_, refl, sym, _∙_, ap, subst}
-use mathlib.Core.Bool.{true}
+use mathlib.Core.Bool.{Bool, true, false}
 use mathlib.Core.List.{List, _++_}
 use lib.ListN.{length, getD, take, drop, replicate, length-append, length-drop, length-replicate, List·getD-append}
 use lib.Seq.{getD-take, take-at}
 use native.Mathlib.Omega.{arith}
+use Rattle.lists.specs.Choice.{pick}
 use Rattle.lists.specs.Words.{Bytes, wordsOf, bytesOf}
 use Rattle.lists.proofs.WordsLaws.{bytes-append, bytes-take, bytes-drop, bytes-words}
 use Rattle.message.specs.Number.{digitsInRange, digitsBytes, sixteen}
-use Rattle.message.specs.Equality.{normal, normalNumber}
+use Rattle.message.specs.Equality.{forRequest, normal, normalNumber}
+use Rattle.message.specs.Format.{hasElements}
+use Rattle.message.specs.declared.Carrier.{Carrier}
 use Rattle.message.specs.declared.Message.{Message}
 use Rattle.message.specs.declared.Body.{Body}
 use Rattle.message.specs.declared.Body.the-variants.{CcbsRequest, CcnrRequest, RequestResult, RequestError, CcExecPossible, CcRingout, RingoutError, CcSuspend, CcResume, CcCancel, CallAlerts, CallFailed}
@@ -71,22 +74,35 @@ module _ (g : List ℕ) (low : ℕ) (l : length g ≡ 16) (b : Bytes g) (ok : di
 
 -- ---- a message that is its own normal form
 -- the normal form of a normal form is the same; of zeros, zeros
-normal-again : (body : Body) (number : List ℕ) → normalNumber body number ≡ number → numberWords number ≡ wordsOf number
+request-again : (body : Body) (number : List ℕ) → forRequest body (sixteen (digitsBytes number)) (replicate 16 0) ≡ number → numberWords number ≡ wordsOf number
 unfolding numberWords
-normal-again (CcbsRequest service flags) number e = ap wordsOf e
-normal-again (CcnrRequest service flags) number e = ap wordsOf e
-normal-again (RequestResult keep) number e = rw (← e)
-normal-again (RequestError error) number e = rw (← e)
-normal-again CcExecPossible number e = rw (← e)
-normal-again CcRingout number e = rw (← e)
-normal-again (RingoutError error) number e = rw (← e)
-normal-again CcSuspend number e = rw (← e)
-normal-again CcResume number e = rw (← e)
-normal-again CcCancel number e = rw (← e)
-normal-again CallAlerts number e = rw (← e)
-normal-again CallFailed number e = rw (← e)
+request-again (CcbsRequest flags service) number e = ap wordsOf e
+request-again (CcnrRequest flags service) number e = ap wordsOf e
+request-again (RequestResult keep) number e = rw (← e)
+request-again (RequestError error) number e = rw (← e)
+request-again CcExecPossible number e = rw (← e)
+request-again CcRingout number e = rw (← e)
+request-again (RingoutError error) number e = rw (← e)
+request-again CcSuspend number e = rw (← e)
+request-again CcResume number e = rw (← e)
+request-again CcCancel number e = rw (← e)
+request-again CallAlerts number e = rw (← e)
+request-again CallFailed number e = rw (← e)
+
+-- with elements, and without
+normal-by :
+    (elements : Bool) (body : Body) (number : List ℕ) →
+    pick elements (sixteen (digitsBytes number)) (forRequest body (sixteen (digitsBytes number)) (replicate 16 0)) ≡ number →
+    numberWords number ≡ wordsOf number
+unfolding numberWords
+normal-by true body number e = ap wordsOf e
+normal-by false body number e = request-again body number e
+
+normal-again : (body : Body) (carrier : Carrier) (number : List ℕ) → normalNumber body carrier number ≡ number → numberWords number ≡ wordsOf number
+normal-again body carrier number e = normal-by (hasElements body carrier) body number e
 
 pub letter-read : (m : Message) → normal m ≡ m → letterOf m ≡ readLetter m
 unfolding letterOf readLetter normal
 letter-read m e =
-    rw (normal-again (m .body) (m .numberA) (ap (λ (x : Message). x .numberA) e), normal-again (m .body) (m .numberB) (ap (λ (x : Message). x .numberB) e))
+    let again = normal-again (m .body) (m .carrier) in
+    rw (again (m .numberA) (ap (λ (x : Message). x .numberA) e), again (m .numberB) (ap (λ (x : Message). x .numberB) e))

@@ -7,66 +7,58 @@ use Rattle.message.specs.declared.Body.the-variants.{CcbsRequest, CcnrRequest, 
 use Rattle.desk.specs.declared.Connection.{Connection}
 use Rattle.desk.specs.declared.Connection.the-variants.{Empty, Ret, Rls}
 use Rattle.desk.specs.declared.carriers.Allowed.{Allowed}
-use Rattle.desk.specs.declared.carriers.Allowed.the-variants.{Setup, ReleaseComplete, FacilityOrReleased, ConnectOrReleaseComplete, SetupOrReleaseComplete, FacilityOrSetup, AlertingOrConnect}
 
--- by the connection choice; before the acknowledgment no row asks for it
+-- by the connection choice; an empty one, of a request or before the acknowledgment, reads as RLS
 abbrev pub byConnection : {A : Type 0} → Connection → A → A → A
 byConnection Empty retained released = released
 byConnection Ret retained released = retained
 byConnection Rls retained released = released
 
+-- ---- the carriers that a type may be received in
+abbrev pub onlySetup : Allowed
+onlySetup = record { setup = true; connect = false; facility = false; releaseComplete = false; alerting = false }
+
+abbrev pub onlyReleaseComplete : Allowed
+onlyReleaseComplete = record { setup = false; connect = false; facility = false; releaseComplete = true; alerting = false }
+
+-- Facility, or one that RLS is received in, Release Complete or Connect
+abbrev pub facilityOrReleased : Allowed
+facilityOrReleased = record { setup = false; connect = true; facility = true; releaseComplete = true; alerting = false }
+
+abbrev pub connectOrReleaseComplete : Allowed
+connectOrReleaseComplete = record { setup = false; connect = true; facility = false; releaseComplete = true; alerting = false }
+
+abbrev pub setupOrReleaseComplete : Allowed
+setupOrReleaseComplete = record { setup = true; connect = false; facility = false; releaseComplete = true; alerting = false }
+
+abbrev pub facilityOrSetup : Allowed
+facilityOrSetup = record { setup = true; connect = false; facility = true; releaseComplete = false; alerting = false }
+
+abbrev pub alertingOrConnect : Allowed
+alertingOrConnect = record { setup = false; connect = true; facility = false; releaseComplete = false; alerting = true }
+
 -- 8.1.1.3 to 8.1.1.6, 8.1.2.4, 8.2.1.3 to 8.2.1.7, 8.2.2.1, 8.2.2.3. For a record that is RET either carrier is taken, that of RET and that of RLS: the other end may
 -- have seen the connection fall first (Ask 11)
 abbrev pub allowedFor : Body → Connection → Allowed
-allowedFor (CcbsRequest service flags) connection = Setup
-allowedFor (CcnrRequest service flags) connection = Setup
-allowedFor (RequestResult keep) connection = ConnectOrReleaseComplete
-allowedFor (RequestError error) connection = ReleaseComplete
-allowedFor CcExecPossible connection = byConnection connection FacilityOrSetup Setup
-allowedFor CcRingout connection = Setup
-allowedFor (RingoutError error) connection = ReleaseComplete
-allowedFor CcSuspend connection = byConnection connection FacilityOrReleased ConnectOrReleaseComplete
-allowedFor CcResume connection = byConnection connection FacilityOrSetup Setup
-allowedFor CcCancel connection = SetupOrReleaseComplete
-allowedFor CallAlerts connection = AlertingOrConnect
-allowedFor CallFailed connection = ReleaseComplete
+allowedFor (CcbsRequest flags service) connection = onlySetup
+allowedFor (CcnrRequest flags service) connection = onlySetup
+allowedFor (RequestResult keep) connection = connectOrReleaseComplete
+allowedFor (RequestError error) connection = onlyReleaseComplete
+allowedFor CcExecPossible connection = byConnection connection facilityOrSetup onlySetup
+allowedFor CcRingout connection = onlySetup
+allowedFor (RingoutError error) connection = onlyReleaseComplete
+allowedFor CcSuspend connection = byConnection connection facilityOrReleased connectOrReleaseComplete
+allowedFor CcResume connection = byConnection connection facilityOrSetup onlySetup
+allowedFor CcCancel connection = setupOrReleaseComplete
+allowedFor CallAlerts connection = alertingOrConnect
+allowedFor CallFailed connection = onlyReleaseComplete
 
 abbrev pub takes : Allowed → Carrier → Bool
-takes Setup C.Setup = true
-takes Setup C.Connect = false
-takes Setup C.Facility = false
-takes Setup C.ReleaseComplete = false
-takes Setup C.Alerting = false
-takes ReleaseComplete C.Setup = false
-takes ReleaseComplete C.Connect = false
-takes ReleaseComplete C.Facility = false
-takes ReleaseComplete C.ReleaseComplete = true
-takes ReleaseComplete C.Alerting = false
-takes FacilityOrReleased C.Setup = false
-takes FacilityOrReleased C.Connect = true
-takes FacilityOrReleased C.Facility = true
-takes FacilityOrReleased C.ReleaseComplete = true
-takes FacilityOrReleased C.Alerting = false
-takes ConnectOrReleaseComplete C.Setup = false
-takes ConnectOrReleaseComplete C.Connect = true
-takes ConnectOrReleaseComplete C.Facility = false
-takes ConnectOrReleaseComplete C.ReleaseComplete = true
-takes ConnectOrReleaseComplete C.Alerting = false
-takes SetupOrReleaseComplete C.Setup = true
-takes SetupOrReleaseComplete C.Connect = false
-takes SetupOrReleaseComplete C.Facility = false
-takes SetupOrReleaseComplete C.ReleaseComplete = true
-takes SetupOrReleaseComplete C.Alerting = false
-takes FacilityOrSetup C.Setup = true
-takes FacilityOrSetup C.Connect = false
-takes FacilityOrSetup C.Facility = true
-takes FacilityOrSetup C.ReleaseComplete = false
-takes FacilityOrSetup C.Alerting = false
-takes AlertingOrConnect C.Setup = false
-takes AlertingOrConnect C.Connect = true
-takes AlertingOrConnect C.Facility = false
-takes AlertingOrConnect C.ReleaseComplete = false
-takes AlertingOrConnect C.Alerting = true
+takes allowed C.Setup = allowed .setup
+takes allowed C.Connect = allowed .connect
+takes allowed C.Facility = allowed .facility
+takes allowed C.ReleaseComplete = allowed .releaseComplete
+takes allowed C.Alerting = allowed .alerting
 
 unfoldable pub carrierFits : Body → Connection → Carrier → Bool
 carrierFits body connection carrier = takes (allowedFor body connection) carrier
@@ -85,8 +77,8 @@ cancelIn Ret = C.ReleaseComplete
 cancelIn Rls = C.Setup
 
 abbrev pub sentIn : Body → Connection → Carrier
-sentIn (CcbsRequest service flags) connection = C.Setup
-sentIn (CcnrRequest service flags) connection = C.Setup
+sentIn (CcbsRequest flags service) connection = C.Setup
+sentIn (CcnrRequest flags service) connection = C.Setup
 sentIn (RequestResult keep) connection = byConnection connection C.Connect C.ReleaseComplete
 sentIn (RequestError error) connection = C.ReleaseComplete
 sentIn CcExecPossible connection = byConnection connection C.Facility C.Setup

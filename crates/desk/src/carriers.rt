@@ -7,16 +7,70 @@ ghost use mathlib.Core.Path.{_≡_};
 ghost use Rattle.desk.specs.Carriers.{allowedFor, byConnection, takes, carrierFits, sendsAs, cancelIn, sentIn};
 
 // The carriers that a type may be received in.
-pub enum Allowed {
-    Setup,
-    ReleaseComplete,
-    // Facility, or one that RLS is received in, Release Complete or Connect
-    FacilityOrReleased,
-    ConnectOrReleaseComplete,
-    SetupOrReleaseComplete,
-    FacilityOrSetup,
-    AlertingOrConnect,
+struct Allowed {
+    setup: bool,
+    connect: bool,
+    facility: bool,
+    releaseComplete: bool,
+    alerting: bool,
 }
+
+const ONLY_SETUP: Allowed = Allowed {
+    setup: true,
+    connect: false,
+    facility: false,
+    releaseComplete: false,
+    alerting: false,
+};
+
+const ONLY_RELEASE_COMPLETE: Allowed = Allowed {
+    setup: false,
+    connect: false,
+    facility: false,
+    releaseComplete: true,
+    alerting: false,
+};
+
+// Facility, or one that RLS is received in, Release Complete or Connect.
+const FACILITY_OR_RELEASED: Allowed = Allowed {
+    setup: false,
+    connect: true,
+    facility: true,
+    releaseComplete: true,
+    alerting: false,
+};
+
+const CONNECT_OR_RELEASE_COMPLETE: Allowed = Allowed {
+    setup: false,
+    connect: true,
+    facility: false,
+    releaseComplete: true,
+    alerting: false,
+};
+
+const SETUP_OR_RELEASE_COMPLETE: Allowed = Allowed {
+    setup: true,
+    connect: false,
+    facility: false,
+    releaseComplete: true,
+    alerting: false,
+};
+
+const FACILITY_OR_SETUP: Allowed = Allowed {
+    setup: true,
+    connect: false,
+    facility: true,
+    releaseComplete: false,
+    alerting: false,
+};
+
+const ALERTING_OR_CONNECT: Allowed = Allowed {
+    setup: false,
+    connect: true,
+    facility: false,
+    releaseComplete: false,
+    alerting: true,
+};
 
 fn allowed_by(connection: Connection, retained: Allowed, released: Allowed) -> Allowed
     ensures { λ r. ⌜ r ≡ byConnection connection retained released ⌝ }
@@ -35,81 +89,37 @@ fn allowed_for(body: Body, connection: Connection) -> Allowed
         Body::CcbsRequest {
             service: _,
             flags: _,
-        } => Allowed::Setup,
+        } => ONLY_SETUP,
         Body::CcnrRequest {
             service: _,
             flags: _,
-        } => Allowed::Setup,
-        Body::RequestResult { keep: _ } => Allowed::ConnectOrReleaseComplete,
-        Body::RequestError { error: _ } => Allowed::ReleaseComplete,
-        Body::CcExecPossible => allowed_by(connection, Allowed::FacilityOrSetup, Allowed::Setup),
-        Body::CcRingout => Allowed::Setup,
-        Body::RingoutError { error: _ } => Allowed::ReleaseComplete,
+        } => ONLY_SETUP,
+        Body::RequestResult { keep: _ } => CONNECT_OR_RELEASE_COMPLETE,
+        Body::RequestError { error: _ } => ONLY_RELEASE_COMPLETE,
+        Body::CcExecPossible => allowed_by(connection, FACILITY_OR_SETUP, ONLY_SETUP),
+        Body::CcRingout => ONLY_SETUP,
+        Body::RingoutError { error: _ } => ONLY_RELEASE_COMPLETE,
         Body::CcSuspend => allowed_by(
             connection,
-            Allowed::FacilityOrReleased,
-            Allowed::ConnectOrReleaseComplete,
+            FACILITY_OR_RELEASED,
+            CONNECT_OR_RELEASE_COMPLETE,
         ),
-        Body::CcResume => allowed_by(connection, Allowed::FacilityOrSetup, Allowed::Setup),
-        Body::CcCancel => Allowed::SetupOrReleaseComplete,
-        Body::CallAlerts => Allowed::AlertingOrConnect,
-        Body::CallFailed => Allowed::ReleaseComplete,
+        Body::CcResume => allowed_by(connection, FACILITY_OR_SETUP, ONLY_SETUP),
+        Body::CcCancel => SETUP_OR_RELEASE_COMPLETE,
+        Body::CallAlerts => ALERTING_OR_CONNECT,
+        Body::CallFailed => ONLY_RELEASE_COMPLETE,
     }
 }
 
 fn takes_carrier(allowed: Allowed, carrier: Carrier) -> bool
     ensures { λ r. ⌜ r ≡ takes allowed carrier ⌝ }
 {
-    match allowed {
-        Allowed::Setup => match carrier {
-            Carrier::Setup => true,
-            Carrier::Connect => false,
-            Carrier::Facility => false,
-            Carrier::ReleaseComplete => false,
-            Carrier::Alerting => false,
-        },
-        Allowed::ReleaseComplete => match carrier {
-            Carrier::Setup => false,
-            Carrier::Connect => false,
-            Carrier::Facility => false,
-            Carrier::ReleaseComplete => true,
-            Carrier::Alerting => false,
-        },
-        Allowed::FacilityOrReleased => match carrier {
-            Carrier::Setup => false,
-            Carrier::Connect => true,
-            Carrier::Facility => true,
-            Carrier::ReleaseComplete => true,
-            Carrier::Alerting => false,
-        },
-        Allowed::ConnectOrReleaseComplete => match carrier {
-            Carrier::Setup => false,
-            Carrier::Connect => true,
-            Carrier::Facility => false,
-            Carrier::ReleaseComplete => true,
-            Carrier::Alerting => false,
-        },
-        Allowed::SetupOrReleaseComplete => match carrier {
-            Carrier::Setup => true,
-            Carrier::Connect => false,
-            Carrier::Facility => false,
-            Carrier::ReleaseComplete => true,
-            Carrier::Alerting => false,
-        },
-        Allowed::FacilityOrSetup => match carrier {
-            Carrier::Setup => true,
-            Carrier::Connect => false,
-            Carrier::Facility => true,
-            Carrier::ReleaseComplete => false,
-            Carrier::Alerting => false,
-        },
-        Allowed::AlertingOrConnect => match carrier {
-            Carrier::Setup => false,
-            Carrier::Connect => true,
-            Carrier::Facility => false,
-            Carrier::ReleaseComplete => false,
-            Carrier::Alerting => true,
-        },
+    match carrier {
+        Carrier::Setup => allowed.setup,
+        Carrier::Connect => allowed.connect,
+        Carrier::Facility => allowed.facility,
+        Carrier::ReleaseComplete => allowed.releaseComplete,
+        Carrier::Alerting => allowed.alerting,
     }
 }
 

@@ -1,5 +1,5 @@
 // The outcome of a step: the refusal's number or 0; the one message sent, or the reply that goes with a refusal; timers started
-// and stopped; the notice; and whether the host is told to clear the call.
+// and stopped; the notice; whether the host is told to clear the call; and the place of the record that the step was about.
 use crate::letter::Letter;
 use lists::Found;
 ghost use mathlib.Core.Path.{_≡_};
@@ -38,6 +38,8 @@ pub struct Outcome {
     pub stops: Timers,
     pub notice: Notice,
     pub clear: bool,
+    // nowhere on a refusal, and where a step is about no record
+    pub at: Found,
 }
 
 // The same for bytes, with the first unread place; where they cannot be read, 0 and the place of the fault.
@@ -71,12 +73,13 @@ pub fn refused(refusal: u8, reply: Sending) -> Outcome
         stops: none,
         notice: Notice::Silent,
         clear: false,
+        at: Found::Nothing,
     }
 }
 
-// A step without a notice and without a word on the call.
-pub fn done(sending: Sending, starts: Timers, stops: Timers) -> Outcome
-    ensures { λ r. ⌜ r ≡ doneWith sending starts stops ⌝ }
+// A step without a notice and without a word on the call, about the record at a place or about none.
+pub fn done(sending: Sending, starts: Timers, stops: Timers, at: Found) -> Outcome
+    ensures { λ r. ⌜ r ≡ doneWith sending starts stops at ⌝ }
 {
     Outcome {
         refusal: 0,
@@ -85,5 +88,6 @@ pub fn done(sending: Sending, starts: Timers, stops: Timers) -> Outcome
         stops,
         notice: Notice::Silent,
         clear: false,
+        at,
     }
 }

@@ -10,12 +10,13 @@ use Rattle.message.specs.Format.{inRange}
 use Rattle.message.specs.Wire.{messageAt}
 use Rattle.store.specs.Rows.{rows, putRow, turnRow, dropRow, rowsFit, removedRow}
 use Rattle.desk.specs.Carriers.{carrierFits}
-use Rattle.desk.specs.Letter.{numberWords, letterOf}
+use Rattle.desk.specs.Letter.{identifierOf, numberWords, letterOf}
 use Rattle.terms.specs.Codes.{kindOf, keepOf, connectionOf}
 use Rattle.terms.specs.Terms.{termsOf}
 use Rattle.clerk_table.specs.Step as ClerkStep
 use Rattle.clerk_records.specs.Codes as ClerkCodes
 use Rattle.clerk_records.specs.Records as ClerkRecords
+use Rattle.clerk_records.specs.Meaning as ClerkMeaning
 use Rattle.clerk_plan.specs.Plan as ClerkPlan
 use Rattle.clerk.specs.Entry as ClerkEntry
 use Rattle.clerk.specs.Steps as Clerk
@@ -60,7 +61,7 @@ desks :
     (4 ∷ 1 ∷ 1 ∷ 0 ∷ 0 ∷ 0 ∷ []) ∷
     (5 ∷ 2 ∷ 1 ∷ 9 ∷ 0 ∷ 5 ∷ 2 ∷ 1 ∷ []) ∷
     []
-unfolding joined outcomeTells clerkTells lineTells held status firstFrom count word wordsOf sameWords numberAt fieldAt scanAt digitsAt digitsInRange inRange rows putRow turnRow dropRow rowsFit removedRow carrierFits kindOf keepOf connectionOf termsOf numberWords letterOf ClerkStep.rowTaken ClerkCodes.stateOf ClerkRecords.recordOf ClerkRecords.records ClerkRecords.meant ClerkRecords.place ClerkRecords.applied ClerkPlan.decided ClerkPlan.planOf ClerkPlan.planFor ClerkEntry.askEntry ClerkEntry.messageEntry ClerkEntry.actEntry ClerkEntry.timerEntry Clerk.step Clerk.entered LineStep.rowTaken LineCodes.stateOf LineRecords.recordOf LineRecords.records LineRecords.meant LineRecords.place LineRecords.putRecord LineRecords.turnRecord LineRecords.removed Lines.lineOf Lines.lines Lines.lineAt Lines.overLine Lines.putLine Lines.keeps Lines.retains Lines.withSettings Change.markPlace Change.marked Change.statusStored Change.withReport Change.applied Decide.countedDecision Decide.admittedDecision Decide.requestDecision Decide.messageDecision Decide.offerAt Decide.lookDecision Decide.reportDecision Decide.decided LinePlan.planOf LinePlan.planFor Start.goodLine Start.lineTaken Start.takeLines Start.started LineEntry.messageEntry LineEntry.reportEntry LineEntry.lookEntry Line.step Line.entered
+unfolding joined outcomeTells clerkTells lineTells held status firstFrom count word wordsOf sameWords numberAt fieldAt scanAt digitsAt digitsInRange inRange rows putRow turnRow dropRow rowsFit removedRow carrierFits kindOf keepOf connectionOf termsOf numberWords identifierOf letterOf ClerkStep.rowTaken ClerkCodes.stateOf ClerkRecords.recordOf ClerkRecords.records ClerkRecords.meant ClerkRecords.place ClerkRecords.applied ClerkMeaning.meaning ClerkMeaning.named ClerkPlan.decided ClerkPlan.planOf ClerkPlan.planFor ClerkEntry.askEntry ClerkEntry.messageEntry Clerk.step Clerk.entered LineStep.rowTaken LineCodes.stateOf LineRecords.recordOf LineRecords.records LineRecords.meant LineRecords.place LineRecords.putRecord LineRecords.turnRecord LineRecords.removed Lines.lineOf Lines.lines Lines.lineAt Lines.overLine Lines.putLine Lines.keeps Lines.retains Lines.withSettings Change.markPlace Change.marked Change.statusStored Change.withReport Change.applied Decide.countedDecision Decide.admittedDecision Decide.requestDecision Decide.messageDecision Decide.offerAt Decide.lookDecision Decide.reportDecision Decide.decided LinePlan.planOf LinePlan.planFor Start.goodLine Start.lineTaken Start.takeLines Start.started LineEntry.messageEntry LineEntry.reportEntry LineEntry.lookEntry Line.step Line.entered
 desks = refl
 
 -- examples 1 to 5, in six rows, before those of the desks

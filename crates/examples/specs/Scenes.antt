@@ -12,6 +12,9 @@ use Rattle.message.specs.declared.Kind.the-variants.{Ccbs, Ccnr}
 use Rattle.message.specs.declared.Body.{Body}
 use Rattle.message.specs.declared.Body.the-variants.{RequestResult, CcExecPossible, RingoutError}
 use Rattle.message.specs.declared.Message.{Message}
+use Rattle.message.specs.declared.Service.the-variants.{Absent}
+use Rattle.desk.specs.Letter.{identifierOf}
+use Rattle.terms.specs.declared.request.Name.{Name}
 use Rattle.clerk_table.specs.declared.table.Timer.the-variants.{T3}
 use Rattle.clerk_table.specs.declared.inputs.Act.the-variants.{Accept}
 use Rattle.clerk.specs.Steps as Clerk
@@ -36,10 +39,31 @@ twoDigits digits = sixteen (2 ∷ digits / 10 ∷ digits % 10 ∷ [])
 
 abbrev pub request : Kind → ℕ → List ℕ → List ℕ → ℕ → Message
 request kind k numberA numberB flags =
-    record { carrier = Setup; identifier = identifier k; numberA = numberA; numberB = numberB; body = requestBody kind 0 flags }
+    record {
+      carrier = Setup;
+      identified = true;
+      identifier = identifier k;
+      numberA = numberA;
+      numberB = numberB;
+      service = Absent;
+      body = requestBody kind 0 flags;
+    }
 
 abbrev pub plain : Carrier → ℕ → Body → Message
-plain carrier k body = record { carrier = carrier; identifier = identifier k; numberA = replicate 16 0; numberB = replicate 16 0; body = body }
+plain carrier k body =
+    record {
+      carrier = carrier;
+      identified = true;
+      identifier = identifier k;
+      numberA = replicate 16 0;
+      numberB = replicate 16 0;
+      service = Absent;
+      body = body;
+    }
+
+-- a request by its identifier; the place is not looked at
+abbrev pub named : ℕ → Name
+named k = record { identifier = identifierOf true (identifier k); place = 0 }
 
 -- ---- the line desk: it keeps and defaults to release; its lines allow both kinds
 abbrev pub lineGiven : ℕ → List ℕ
@@ -53,11 +77,11 @@ abbrev pub busyLine : LineDesk.Desk
 busyLine = Line.lineReported oneLine (oneDigit 1) true .desk
 
 abbrev pub accepted : LineStepped.Stepped
-accepted = Line.received busyLine (request Ccbs 1 (twoDigits 20) (oneDigit 1) 1)
+accepted = Line.received busyLine (request Ccbs 1 (twoDigits 20) (oneDigit 1) 1) 0
 
 -- 7: the same two numbers with the identifier 2
 abbrev pub again : LineStepped.Stepped
-again = Line.received (accepted .desk) (request Ccbs 2 (twoDigits 20) (oneDigit 1) 1)
+again = Line.received (accepted .desk) (request Ccbs 2 (twoDigits 20) (oneDigit 1) 1) 0
 
 -- 8: seven lines; so many requests, one after the other, five for each line: identifier and numberA of each are its own
 abbrev pub sevenLines : LineDesk.Desk
@@ -66,15 +90,15 @@ sevenLines =
 
 abbrev pub filled : ℕ → LineDesk.Desk
 filled zero = sevenLines
-filled (suc n) = Line.received (filled n) (request Ccbs n (twoDigits n) (oneDigit (1 + n / 5)) 1) .desk
+filled (suc n) = Line.received (filled n) (request Ccbs n (twoDigits n) (oneDigit (1 + n / 5)) 1) 0 .desk
 
 -- line 9 is not there
 abbrev pub unknown : LineStepped.Stepped
-unknown = Line.received (filled 32) (request Ccbs 32 (twoDigits 32) (oneDigit 9) 1)
+unknown = Line.received (filled 32) (request Ccbs 32 (twoDigits 32) (oneDigit 9) 1) 0
 
 -- 9: a CCNR request on the free line 1, and a Look; then busy, free, and a Look
 abbrev pub noReply : LineDesk.Desk
-noReply = Line.received oneLine (request Ccnr 1 (twoDigits 20) (oneDigit 1) 1) .desk
+noReply = Line.received oneLine (request Ccnr 1 (twoDigits 20) (oneDigit 1) 1) 0 .desk
 
 abbrev pub lookedBefore : LineStepped.Stepped
 lookedBefore = Line.looked noReply (oneDigit 1)
@@ -89,6 +113,7 @@ lookedAfter = Line.looked busyThenFree (oneDigit 1)
 abbrev pub asking : Asking
 asking =
     record {
+      identified = true;
       identifier = identifier 1;
       kind = Ccbs;
       numberA = twoDigits 20;
@@ -99,19 +124,19 @@ asking =
     }
 
 abbrev pub invoked : ℕ → ClerkDesk.Desk
-invoked keep = Clerk.received (Clerk.asked Clerk.startedDesk asking .desk) (plain Connect 1 (RequestResult keep)) false .desk
+invoked keep = Clerk.received (Clerk.asked Clerk.startedDesk asking .desk) (plain Connect 1 (RequestResult keep)) false 0 .desk
 
 -- ccExecPossible in Facility, with the host's word on User A
 abbrev pub possible : ℕ → Bool → ClerkStepped.Stepped
-possible keep busy = Clerk.received (invoked keep) (plain Facility 1 CcExecPossible) busy
+possible keep busy = Clerk.received (invoked keep) (plain Facility 1 CcExecPossible) busy 0
 
 -- 11: not busy, and accepted: Ringout; then remoteUserBusyAgain
 abbrev pub ringout : ℕ → ClerkDesk.Desk
-ringout keep = Clerk.acted (possible keep false .desk) (identifier 1) Accept .desk
+ringout keep = Clerk.acted (possible keep false .desk) (named 1) Accept .desk
 
 abbrev pub busyAgain : ℕ → ClerkStepped.Stepped
-busyAgain keep = Clerk.received (ringout keep) (plain ReleaseComplete 1 (RingoutError 1)) false
+busyAgain keep = Clerk.received (ringout keep) (plain ReleaseComplete 1 (RingoutError 1)) false 0
 
 -- 12: User A was busy: Suspended; then T3 is reported
 abbrev pub timerThree : ClerkStepped.Stepped
-timerThree = Clerk.reported (possible 1 true .desk) (identifier 1) T3
+timerThree = Clerk.reported (possible 1 true .desk) (named 1) T3

@@ -50,8 +50,8 @@ joined (part ∷ parts) = part ++ joined parts
 
 -- ---- an outcome: the refusal's number or 0; then the message sent, by type, fields and carrier, or 0 for none
 abbrev pub fieldNumbers : Body → List ℕ
-fieldNumbers (CcbsRequest service flags) = service ∷ flags ∷ []
-fieldNumbers (CcnrRequest service flags) = service ∷ flags ∷ []
+fieldNumbers (CcbsRequest flags service) = service ∷ flags ∷ []
+fieldNumbers (CcnrRequest flags service) = service ∷ flags ∷ []
 fieldNumbers (RequestResult keep) = keep ∷ []
 fieldNumbers (RequestError error) = error ∷ []
 fieldNumbers CcExecPossible = []

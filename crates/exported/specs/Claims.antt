@@ -7,15 +7,14 @@ use mathlib.Core.List.{List, [], _∷_, _++_, List·Memᴰ as Noted}
 use lib.ListN.{length}
 use Rattle.lists.specs.Choice.{pick}
 use Rattle.lists.specs.Parts.{over}
-use Rattle.lists.specs.Words.{wordsOf}
 use Rattle.lists.specs.declared.Found.the-variants.{At, Nothing}
-use Rattle.lists.specs.declared.words.Words.{Words}
-use Rattle.message.specs.Format.{inRange, messageBytes}
+use Rattle.message.specs.Format.{writable, messageBytes}
 use Rattle.message.specs.Reading as Reading
 use Rattle.message.specs.Wire.{messageAt}
 use Rattle.message.specs.declared.Fault.{Fault}
 use Rattle.message.specs.declared.Message.{Message}
-use Rattle.desk.specs.Letter.{messageOf, numberWords}
+use Rattle.desk.specs.Letter.{identifierOf, messageOf, numberWords}
+use Rattle.desk.specs.declared.letter.Identifier.{Identifier}
 use Rattle.desk.specs.declared.outcome.Outcome.{Outcome}
 use Rattle.told.specs.Told.{toldOf}
 use Rattle.clerk_table.specs.declared.inputs.Act as ClerkAct
@@ -29,19 +28,20 @@ use Rattle.clerk_sound.specs.Sound.{Typed}
 use Rattle.line_table.specs.declared.inputs.Act as LineAct
 use Rattle.line_table.specs.declared.inputs.Input.the-variants as AtLine
 use Rattle.line.specs.Steps as Line
+use Rattle.host_numbers.specs.Identifiers.{nameGiven}
 use Rattle.host_numbers.specs.Given.{askingOf, isWord, yes}
 use Rattle.tollherring.specs.Face.{Face, face, refusedFace, faced}
 use Rattle.tollherring.specs.Clerk.{clerkAsked, clerkReceived, clerkActed, clerkReported}
 use Rattle.tollherring.specs.Line.{lineStartedWords, lineStartedAnswer, lineReceived, lineStatusReported, lineLooked, lineActed, lineGuarded}
 use Rattle.pair_request.specs.Signal.{Signal}
-use Rattle.pair.specs.World.{takenUp, World, Event, clerkDoes, lineDoes, clerkIsTold, clerkHears, lineHears, nameOf, sentBy, signalLetter, next, Allowed, startWorld, Reached}
-use Rattle.exported.specs.Calls.{clerkEnd, lineEnd, Puts, IsStep}
+use Rattle.pair.specs.World.{Of, from, takenUp, World, Event, clerkDoes, lineDoes, clerkIsTold, clerkHears, lineHears, nameOf, sentBy, signalLetter, next, Allowed, startWorld, Reached, Any, Once}
+use Rattle.exported.specs.Calls.{carried, clerkEnd, lineEnd, Puts, IsStep}
 
 -- ---- what a step puts on a wire, the call writes as its bytes
 pub record AsBytes (m : Message) : Type 0 where
-  -- so the writer never answers 2, and 53 bytes are always enough
-  pub ranged : inRange m ≡ true
-  pub most : length (messageBytes m) ≤ 53
+  -- so the writer never answers 2, and 54 bytes are always enough
+  pub ranged : writable m ≡ true
+  pub most : length (messageBytes m) ≤ 54
   -- where there is room, a call whose outcome sends it is done: the front of the buffer is the bytes of the message, and nothing behind them changes
   pub roomy :
       (words after out : List ℕ) (outcome : Outcome) (unread : ℕ) → sentBy (outcome .sending) ≡ m ∷ [] → length (messageBytes m) ≤ length out →
@@ -49,23 +49,23 @@ pub record AsBytes (m : Message) : Type 0 where
 
 abbrev pub SentAsBytes : Type 0
 SentAsBytes =
-    (w : World) → Reached w → (e : Event) → Allowed w e → (m : Message) →
+    (w : World) → Reached Any w → (e : Event) → Allowed w e → (m : Message) →
     Puts (clerkEnd w) (clerkEnd (next w e)) m ⊎ Puts (lineEnd w) (lineEnd (next w e)) m → AsBytes m
 
 -- ---- a delivery may as well be of bytes: those that the writer makes of a message, whatever follows them
-abbrev pub ClerkHearsBytes : World → Bool → List ℕ → List Message → Type 0
-ClerkHearsBytes w busy rest [] = Unit
-ClerkHearsBytes w busy rest (m ∷ ms) =
-    Clerk.receivedBytes (w .clerk) (messageBytes m ++ rest) busy ≡ Clerk.withNext (Clerk.received (w .clerk) m busy) (length (messageBytes m)) Nothing
+abbrev pub ClerkHearsBytes : World → Bool → ℕ → List ℕ → List Message → Type 0
+ClerkHearsBytes w busy place rest [] = Unit
+ClerkHearsBytes w busy place rest (m ∷ ms) =
+    Clerk.receivedBytes (w .clerk) (messageBytes m ++ rest) busy place ≡ Clerk.withNext (Clerk.received (w .clerk) m busy place) (length (messageBytes m)) Nothing
 
-abbrev pub LineHearsBytes : World → List ℕ → List Message → Type 0
-LineHearsBytes w rest [] = Unit
-LineHearsBytes w rest (m ∷ ms) =
-    Line.receivedBytes (w .line) (messageBytes m ++ rest) ≡ Line.withNext (Line.received (w .line) m) (length (messageBytes m)) Nothing
+abbrev pub LineHearsBytes : World → ℕ → List ℕ → List Message → Type 0
+LineHearsBytes w place rest [] = Unit
+LineHearsBytes w place rest (m ∷ ms) =
+    Line.receivedBytes (w .line) (messageBytes m ++ rest) place ≡ Line.withNext (Line.received (w .line) m place) (length (messageBytes m)) Nothing
 
 abbrev pub HeardAsBytes : Type 0
 HeardAsBytes =
-    (w : World) → Reached w → (busy : Bool) (rest : List ℕ) → ClerkHearsBytes w busy rest (w .down) × LineHearsBytes w rest (w .up)
+    (w : World) → Reached Any w → (busy : Bool) (place : ℕ) (rest : List ℕ) → ClerkHearsBytes w busy place rest (carried (w .down)) × LineHearsBytes w place rest (carried (w .up))
 
 -- ---- a call is a step of `next`, or leaves the desk and the buffer as they were
 -- a call at an end is the step of an event
@@ -80,52 +80,56 @@ askEvent a = clerkDoes (AtClerk.Ask (askNames a) (askRequest a))
 
 -- the calls at the desks of a world, whatever numbers and arrays are passed with the buffer `out`
 pub record Calls (w : World) (out : List ℕ) : Type 0 where
-  -- an ask; a run may have it if it is of values of the code's types and its identifier was not taken up before
+  -- an ask; a run may have it if it is of values of the code's types, and one in which every request has an identifier, each used once, if it has one that was not taken up before
   pub clerkAsk :
       (identifier : List ℕ) (kind : ℕ) (numberA numberB : List ℕ) (service canKeep preference : ℕ) →
       ClerkCall w (askEvent (askingOf identifier kind numberA numberB service canKeep preference)) out 0
       (clerkAsked (w .clerk .words) out identifier kind numberA numberB service canKeep preference)
   pub askAllowed :
-      (a : Asking) → Typed a → askEntry a ≡ Given (AtClerk.Ask (askNames a) (askRequest a)) → (Noted (takenUp (wordsOf (a .identifier))) (w .history) → ⊥) →
-      Allowed w (askEvent a)
-  -- User A's act, and a timer's report
+      (a : Asking) → Typed a → askEntry a ≡ Given (AtClerk.Ask (askNames a) (askRequest a)) → Allowed w (askEvent a)
+  pub askOnce :
+      (a : Asking) → a .identified ≡ true → ((o : ℕ) → Noted (takenUp (from o (identifierOf (a .identified) (a .identifier)))) (w .history) → ⊥) → Once w (askEvent a)
+  -- User A's act, and a timer's report, with the place that the host names
   pub clerkAct :
-      (identifier : List ℕ) (number : ℕ) →
-      (act : ClerkAct.Act) × ClerkCall w (clerkDoes (AtClerk.Act (wordsOf identifier) act)) out 0 (clerkActed (w .clerk .words) out identifier number)
+      (place : ℕ) (identifier : List ℕ) (number : ℕ) →
+      (act : ClerkAct.Act) × ClerkCall w (clerkDoes (AtClerk.Act (nameGiven identifier place) act)) out 0 (clerkActed (w .clerk .words) out place identifier number)
   pub clerkReport :
-      (identifier : List ℕ) (number : ℕ) →
-      (timer : Timer) × ClerkCall w (clerkDoes (AtClerk.Timer (wordsOf identifier) timer)) out 0 (clerkReported (w .clerk .words) out identifier number)
+      (place : ℕ) (identifier : List ℕ) (number : ℕ) →
+      (timer : Timer) × ClerkCall w (clerkDoes (AtClerk.Timer (nameGiven identifier place) timer)) out 0 (clerkReported (w .clerk .words) out place identifier number)
   -- a line report, a Look, an act, the guard's report
   pub lineReport :
       (digits : List ℕ) (busy : ℕ) → LineCall w (lineDoes (AtLine.Report (numberWords digits) (yes busy))) out 0 (lineStatusReported (w .line .words) out digits busy)
   pub lineLook : (digits : List ℕ) → LineCall w (lineDoes (AtLine.Look (numberWords digits))) out 0 (lineLooked (w .line .words) out digits)
   pub lineAct :
-      (identifier : List ℕ) (number : ℕ) →
-      (act : LineAct.Act) × LineCall w (lineDoes (AtLine.Act (wordsOf identifier) act)) out 0 (lineActed (w .line .words) out identifier number)
-  pub lineGuard : (identifier : List ℕ) → LineCall w (lineDoes (AtLine.Guard (wordsOf identifier))) out 0 (lineGuarded (w .line .words) out identifier)
+      (place : ℕ) (identifier : List ℕ) (number : ℕ) →
+      (act : LineAct.Act) × LineCall w (lineDoes (AtLine.Act (nameGiven identifier place) act)) out 0 (lineActed (w .line .words) out place identifier number)
+  pub lineGuard : (place : ℕ) (identifier : List ℕ) → LineCall w (lineDoes (AtLine.Guard (nameGiven identifier place))) out 0 (lineGuarded (w .line .words) out place identifier)
   -- bytes that begin with those of the head of the wire
   pub clerkReceive :
-      (m : Message) (rest : List Message) → w .down ≡ m ∷ rest → (behind : List ℕ) (busy : ℕ) →
-      ClerkCall w (clerkHears (yes busy)) out (length (messageBytes m)) (clerkReceived (w .clerk .words) out (messageBytes m ++ behind) busy)
+      (x : Of Message) (rest : List (Of Message)) → w .down ≡ x ∷ rest → (place : ℕ) (behind : List ℕ) (busy : ℕ) →
+      let m = x .it in
+      ClerkCall w (clerkHears (yes busy) place) out (length (messageBytes m)) (clerkReceived (w .clerk .words) out place (messageBytes m ++ behind) busy)
   pub lineReceive :
-      (m : Message) (rest : List Message) → w .up ≡ m ∷ rest → (behind : List ℕ) →
-      LineCall w lineHears out (length (messageBytes m)) (lineReceived (w .line .words) out (messageBytes m ++ behind))
+      (x : Of Message) (rest : List (Of Message)) → w .up ≡ x ∷ rest → (place : ℕ) (behind : List ℕ) →
+      let m = x .it in
+      LineCall w (lineHears place) out (length (messageBytes m)) (lineReceived (w .line .words) out place (messageBytes m ++ behind))
   -- the bytes that the clerk's host makes of what the signalling of a call tells it
   pub clerkTold :
-      (signal : Signal) (identifier : Words) (behind : List ℕ) (busy : ℕ) →
+      (signal : Signal) (identifier : Identifier) (place : ℕ) (behind : List ℕ) (busy : ℕ) →
       let m = messageOf (signalLetter signal identifier) in
-      ClerkCall w (clerkIsTold signal (nameOf m) (yes busy)) out (length (messageBytes m)) (clerkReceived (w .clerk .words) out (messageBytes m ++ behind) busy)
+      ClerkCall w (clerkIsTold signal (record { identifier = nameOf m; place = place }) (yes busy)) out (length (messageBytes m))
+      (clerkReceived (w .clerk .words) out place (messageBytes m ++ behind) busy)
   -- bytes that the reader refuses are told with the fault's number and place; a word on User A that is none comes first. Of other bytes nothing is said: they are a message that is neither the head of the wire nor a signal, so nobody of the pair sent it
   pub clerkUnread :
-      (bytes : List ℕ) (fault : Fault) (busy : ℕ) → messageAt bytes ≡ Reading.refused fault →
-      clerkReceived (w .clerk .words) out bytes busy
+      (place : ℕ) (bytes : List ℕ) (fault : Fault) (busy : ℕ) → messageAt bytes ≡ Reading.refused fault →
+      clerkReceived (w .clerk .words) out place bytes busy
       ≡ pick (isWord busy) (refusedFace (w .clerk .words) out (fault .number) (At (fault .place))) (refusedFace (w .clerk .words) out 2 Nothing)
   pub lineUnread :
-      (bytes : List ℕ) (fault : Fault) → messageAt bytes ≡ Reading.refused fault →
-      lineReceived (w .line .words) out bytes ≡ refusedFace (w .line .words) out (fault .number) (At (fault .place))
+      (place : ℕ) (bytes : List ℕ) (fault : Fault) → messageAt bytes ≡ Reading.refused fault →
+      lineReceived (w .line .words) out place bytes ≡ refusedFace (w .line .words) out (fault .number) (At (fault .place))
 
 abbrev pub FaceIsStep : Type 0
-FaceIsStep = (w : World) → Reached w → (out : List ℕ) → Calls w out
+FaceIsStep = (w : World) → Reached Any w → (out : List ℕ) → Calls w out
 
 -- ---- a desk that a host starts is the one that a run starts from
 abbrev pub StartsAsRun : Type 0

@@ -1,4 +1,4 @@
--- The readers of one field: a number, a digit, the identifier. Each by the tests of its definition.
+-- The readers of one field: a number, a digit, the identifier and its length. Each by the tests of its definition.
 use Prim.Native.Nat.{ℕ, zero, suc, _+_, _-_, _≤_, _<_}
 use mathlib.Core.Path.{_≡_, refl, sym, _∙_, ap}
 use mathlib.Core.Bool.{Bool, true, false}
@@ -12,14 +12,15 @@ use borrow.Author.Tests.{ltb-true, ltb-false, leb-true, leb-false, lt-ltb, le-lt
 use Rattle.lists.specs.Choice.{pick}
 use Rattle.lists.specs.Words.{Bytes}
 use Rattle.lists.proofs.Choice.{pick-elim, pick-else}
-use Rattle.message.specs.Reading.{Read, took, refused, wrongAt, endedIn}
-use Rattle.message.specs.Number.{numberAt, within, fieldAt}
-use Rattle.message.specs.Wire.{identifierAt}
+use Rattle.message.specs.Reading.{Read, took, refused, andThen, wrongAt, endedIn}
+use Rattle.message.specs.Number.{numberAt, numberBytes, within, fieldAt}
+use Rattle.message.specs.Wire.{identifiedAt, identifierAt}
 use Rattle.message.specs.declared.Fault.{Fault}
-use Rattle.message.proofs.Reading.{never-took}
-use Rattle.message.proofs.NumberLaws.{number-shape, field-read}
-use Rattle.message.proofs.NumberBack.{byte-back}
-use Rattle.faults.proofs.Readers.{Steady, Open, Kept, Told, Reader, one-more, then-refused}
+use Rattle.message.proofs.Reading.{never-took, then-elim}
+use Rattle.message.proofs.NumberLaws.{number-shape, number-ends}
+use Rattle.message.proofs.NumberBack.{number-back}
+use Rattle.message.proofs.RangeLaws.{small-bytes}
+use Rattle.faults.proofs.Readers.{Steady, Open, Kept, Told, Reader, one-more, then-refused, taken}
 
 -- ---- bytes that begin alike
 same-at : (s t : List ℕ) (m i : ℕ) → take m t ≡ take m s → i < m → getD t i 0 ≡ getD s i 0
@@ -83,7 +84,7 @@ one-opens f at b v small reads s h =
     let k : at + 1 ≡ length (t ++ (b ∷ [])) = omega (arith, length-append t (b ∷ [])) in
     record { more = b ∷ []; bytes = one-byte b small; value = v; read = reads t l ∙ ap (λ (n : ℕ). took v n) k }
 
--- ---- a number within its range
+-- ---- a number
 -- the number stands within the bytes: one byte, or one of 128 or more and another
 abbrev Stands : List ℕ → ℕ → ℕ → Type 0
 Stands s at end = (at < end) × ((getD s at 0 < 128) ⊎ (at + 1 < end))
@@ -103,16 +104,6 @@ number-same s t at m l e h (inr two) =
       lt-leb (length s) (at + 1) (omega arith),
       same-at s t m (at + 1) e two,
     )
-
-field-same : (s t : List ℕ) (at low high m : ℕ) → m ≤ length s → take m t ≡ take m s → Stands s at m → fieldAt t at low high ≡ fieldAt s at low high
-unfolding fieldAt
-field-same s t at low high m l e h = rw (number-same s t at m l e (h .0) (h .1))
-
-pub field-steady : (at low high : ℕ) → Steady (λ s. fieldAt s at low high)
-field-steady at low high s t v n l e q =
-    let r = number-shape s at v n (field-read s at low high v n e .number) in
-    let stands : Stands s at n = ⊎-elim (λ p. (omega arith, inl (p .0))) (λ p. (omega arith, inr (omega arith))) (r .1) in
-    field-same s t at low high n l q stands ∙ e
 
 -- how a number that stands within the bytes can be at fault
 abbrev Faulty : List ℕ → ℕ → Fault → Type 0
@@ -135,24 +126,6 @@ number-faulty s at x h =
     pick-elim P (eqb (getD s (at + 1) 0) 0) (λ t. wrong) (λ t.
     pick-elim P (ltb (getD s (at + 1) 0) 128) (λ t e. absurd (never-took (sym e))) (λ t. wrong)))))
 
-field-faulty : (s : List ℕ) (at low high : ℕ) (x : Fault) → Stands s at (length s) → fieldAt s at low high ≡ refused x → Faulty s at x
-unfolding fieldAt
-field-faulty s at low high x h e =
-    let P : Read ℕ → Type 0 = λ r. r ≡ refused x → Faulty s at x in
-    let wrong : P (wrongAt 2 at) = λ e. let w = wrong-is 2 at x e in (w .0, inl (w .1)) in
-    then-refused (numberAt s at) (within at low high) x e (number-faulty s at x h) (λ v n e1.
-    pick-elim P (ltb v low) (λ t. wrong) (λ t.
-    pick-elim P (ltb high v) (λ t. wrong) (λ t e. absurd (never-took (sym e)))))
-
--- the bytes end in front of a number, or behind its first byte
-field-out : (s : List ℕ) (at low high : ℕ) → length s ≤ at → fieldAt s at low high ≡ endedIn s
-unfolding fieldAt numberAt
-field-out s at low high h = rw (le-leb (length s) at h)
-
-field-half : (s : List ℕ) (at low high : ℕ) → at + 1 ≡ length s → 128 ≤ getD s at 0 → fieldAt s at low high ≡ endedIn s
-unfolding fieldAt numberAt
-field-half s at low high h b = rw (lt-leb (length s) at (omega arith), le-ltb (getD s at 0) 128 b, le-leb (length s) (at + 1) (omega arith))
-
 number-parts :
     (s : List ℕ) (at : ℕ) → at ≤ length s → {G : Type 0} → (at ≡ length s → G) → (at + 1 ≡ length s → 128 ≤ getD s at 0 → G) → (Stands s at (length s) → G) → G
 number-parts s at h {G} out half stands =
@@ -164,41 +137,130 @@ number-parts s at h {G} out half stands =
     go false false true ea eb ec = half (omega (arith, leb-false (length s) at ea, leb-true (length s) (at + 1) ec)) (ltb-false _ _ eb)
     go false false false ea eb ec = stands (leb-false _ _ ea, inr (leb-false _ _ ec))
 
+-- ---- a number and a test of it: refused by the test it is 2 at its own place, taken it ends where the number does
+record Test {A : Type 0} (at : ℕ) (k : ℕ → ℕ → Read A) : Type 0 where
+  fails : (v n : ℕ) (x : Fault) → k v n ≡ refused x → (x .place ≡ at) × (x .number ≡ 2)
+  passes : (v n : ℕ) (w : A) (m : ℕ) → k v n ≡ took w m → n ≡ m
+
+module _ {A : Type 0} (at : ℕ) (k : ℕ → ℕ → Read A) (test : Test at k) where
+  abbrev Tested : List ℕ → Read A
+  Tested s = andThen (numberAt s at) k
+
+  tested-same : (s t : List ℕ) (m : ℕ) → m ≤ length s → take m t ≡ take m s → Stands s at m → Tested t ≡ Tested s
+  tested-same s t m l e h = rw (number-same s t at m l e (h .0) (h .1))
+
+  tested-ends : (s : List ℕ) (w : A) (m : ℕ) → Tested s ≡ took w m → (at < m) × ((m ≤ length s) × Stands s at m)
+  tested-ends s w m =
+      then-elim (λ r. r ≡ took w m → (at < m) × ((m ≤ length s) × Stands s at m)) (numberAt s at) k (λ x e. absurd (never-took e)) (λ v n en e.
+      let z = test .passes v n w m e in
+      let b = number-ends s at v n en in
+      let r = number-shape s at v n en in
+      let stands : Stands s at m = ⊎-elim (λ p. (omega arith, inl (p .0))) (λ p. (omega arith, inr (omega arith))) (r .1) in
+      (omega arith, (omega arith, stands)))
+
+  tested-steady : Steady Tested
+  tested-steady s t w m l e q = tested-same s t m l q (tested-ends s w m e .1 .1) ∙ e
+
+  tested-faulty : (s : List ℕ) (x : Fault) → Stands s at (length s) → Tested s ≡ refused x → Faulty s at x
+  tested-faulty s x h e =
+      then-refused (numberAt s at) k x e (number-faulty s at x h) (λ v n en ek. let f = test .fails v n x ek in (f .0, inl (f .1)))
+
+  -- the bytes end in front of a number, or behind its first byte
+  tested-out : (s : List ℕ) → length s ≤ at → Tested s ≡ endedIn s
+  unfolding numberAt
+  tested-out s h = rw (le-leb (length s) at h)
+
+  tested-half : (s : List ℕ) → at + 1 ≡ length s → 128 ≤ getD s at 0 → Tested s ≡ endedIn s
+  unfolding numberAt
+  tested-half s h b = rw (lt-leb (length s) at (omega arith), le-ltb (getD s at 0) 128 b, le-leb (length s) (at + 1) (omega arith))
+
+  -- one byte, taken by the test, is enough
+  tested-opens : (b : ℕ) (w : A) → b < 128 → ((n : ℕ) → k b n ≡ took w n) → (s : List ℕ) → at ≤ length s → Open Tested (take at s)
+  tested-opens b w small takes =
+      one-opens Tested at b w (omega arith) (λ t l.
+      let one = small-bytes b small in
+      let stands : drop at (t ++ (b ∷ [])) ≡ numberBytes b ++ [] = rw one (drop-at t (b ∷ []) at l) in
+      let read : numberAt (t ++ (b ∷ [])) at ≡ took b (at + 1) = rw one at (number-back (t ++ (b ∷ [])) [] at b (omega arith) stands) in
+      rw read (takes (at + 1)))
+
+  tested-tells :
+      ((s : List ℕ) → at ≤ length s → Open Tested (take at s)) → (s : List ℕ) (x : Fault) → at ≤ length s → Tested s ≡ refused x → Told Tested at s x
+  tested-tells opens s x h e =
+      let l = one-more s in
+      let z = zero-behind s in
+      let again = s ++ (0 ∷ []) in
+      number-parts s at h
+      (λ out.
+      ended-told _ at s x h (sym (tested-out s (omega arith)) ∙ e)
+      (λ e2.
+      let zero-there : getD again at 0 ≡ 0 = rw out z in
+      let w = tested-faulty again _ (omega arith, inl (omega arith)) e2 in
+      ⊎-elim (λ p. omega arith) (λ p. omega arith) (w .1))
+      (record { kept = at; from = omega arith; within = h; cut = inl out; opens = opens s h }))
+      (λ short big.
+      ended-told _ at s x h (sym (tested-half s short big) ∙ e)
+      (λ e2.
+      let w = tested-faulty again _ (omega arith, inr (omega arith)) e2 in
+      omega (arith, w .0))
+      (record { kept = at; from = omega arith; within = h; cut = inr (short, (refl, big)); opens = opens s h }))
+      (λ stands.
+      let w = tested-faulty s x stands e in
+      wrong-told _ at s x (stands .0) (w .0) (⊎-elim (λ p. inr p) (λ p. inl (p .0)) (w .1))
+      (λ more. tested-same s (s ++ more) (length s) (omega arith) (take-append-le (length s) s more (omega arith)) stands ∙ e)
+      (opens s h))
+
+  tested-reader : (b : ℕ) (w : A) → b < 128 → ((n : ℕ) → k b n ≡ took w n) → Reader Tested at
+  tested-reader b w small takes =
+      record {
+        ends = λ s v m h e. let r = tested-ends s v m e in (omega arith, r .1 .0);
+        tells = tested-tells (tested-opens b w small takes);
+      }
+
+-- a number within its range
+within-test : (at low high : ℕ) → Test at (within at low high)
+within-test at low high =
+    record {
+      fails = λ v n x.
+          let P : Read ℕ → Type 0 = λ r. r ≡ refused x → (x .place ≡ at) × (x .number ≡ 2) in
+          pick-elim P (ltb v low) (λ t. wrong-is 2 at x) (λ t. pick-elim P (ltb high v) (λ t. wrong-is 2 at x) (λ t e. absurd (never-took (sym e))));
+      passes = λ v n w m e.
+          let a = pick-else (ltb v low) (wrongAt 2 at) _ _ never-took e in
+          let b = pick-else (ltb high v) (wrongAt 2 at) _ _ never-took (a .1) in
+          let q = b .1 in
+          cc;
+    }
+
+pub field-steady : (at low high : ℕ) → Steady (λ s. fieldAt s at low high)
+unfolding fieldAt
+field-steady at low high = tested-steady at (within at low high) (within-test at low high)
+
 pub field-reader : (at low high : ℕ) → low ≤ high → low < 128 → Reader (λ s. fieldAt s at low high) at
-field-reader at low high order small = record { ends = ends; tells = tells }
-  where
-    ends : (s : List ℕ) (v n : ℕ) → at ≤ length s → fieldAt s at low high ≡ took v n → (at ≤ n) × (n ≤ length s)
-    ends s v n h e = let r = field-read s at low high v n e in let later = r .later in (omega arith, r .ends)
+unfolding fieldAt
+field-reader at low high order small =
+    tested-reader at (within at low high) (within-test at low high) low low small (λ n. rw (le-ltb low low (omega arith), le-ltb high low order))
 
-    opens : (s : List ℕ) → at ≤ length s → Open (λ s. fieldAt s at low high) (take at s)
-    opens =
-        one-opens (λ s. fieldAt s at low high) at low low (omega arith) (λ t l.
-        byte-back (t ++ (low ∷ [])) [] at low low high small (omega arith) order (drop-at t (low ∷ []) at l))
+-- the length of an identifier, 16 or 0
+abbrev lengths : ℕ → ℕ → ℕ → Read Bool
+lengths at v n = pick (eqb v 16) (took true n) (pick (eqb v 0) (took false n) (wrongAt 2 at))
 
-    tells : (s : List ℕ) (x : Fault) → at ≤ length s → fieldAt s at low high ≡ refused x → Told (λ s. fieldAt s at low high) at s x
-    tells s x h e =
-        let l = one-more s in
-        let z = zero-behind s in
-        let again = s ++ (0 ∷ []) in
-        number-parts s at h
-        (λ out.
-        ended-told _ at s x h (sym (field-out s at low high (omega arith)) ∙ e)
-        (λ e2.
-        let zero-there : getD again at 0 ≡ 0 = rw out z in
-        let w = field-faulty again at low high _ (omega arith, inl (omega arith)) e2 in
-        ⊎-elim (λ p. omega arith) (λ p. omega arith) (w .1))
-        (record { kept = at; from = omega arith; within = h; cut = inl out; opens = opens s h }))
-        (λ short big.
-        ended-told _ at s x h (sym (field-half s at low high short big) ∙ e)
-        (λ e2.
-        let w = field-faulty again at low high _ (omega arith, inr (omega arith)) e2 in
-        omega (arith, w .0))
-        (record { kept = at; from = omega arith; within = h; cut = inr (short, (refl, big)); opens = opens s h }))
-        (λ stands.
-        let w = field-faulty s at low high x stands e in
-        wrong-told _ at s x (stands .0) (w .0) (⊎-elim (λ p. inr p) (λ p. inl (p .0)) (w .1))
-        (λ more. field-same s (s ++ more) at low high (length s) (omega arith) (take-append-le (length s) s more (omega arith)) stands ∙ e)
-        (opens s h))
+lengths-test : (at : ℕ) → Test at (lengths at)
+lengths-test at =
+    record {
+      fails = λ v n x.
+          let P : Read Bool → Type 0 = λ r. r ≡ refused x → (x .place ≡ at) × (x .number ≡ 2) in
+          pick-elim P (eqb v 16) (λ t e. absurd (never-took (sym e))) (λ t. pick-elim P (eqb v 0) (λ t e. absurd (never-took (sym e))) (λ t. wrong-is 2 at x));
+      passes = λ v n w m.
+          let P : Read Bool → Type 0 = λ r. r ≡ took w m → n ≡ m in
+          pick-elim P (eqb v 16) (λ t e. cc) (λ t. pick-elim P (eqb v 0) (λ t e. cc) (λ t e. absurd (never-took e)));
+    }
+
+pub identified-steady : (at : ℕ) → Steady (λ s. identifiedAt s at)
+unfolding identifiedAt
+identified-steady at = tested-steady at (lengths at) (lengths-test at)
+
+pub identified-reader : (at : ℕ) → Reader (λ s. identifiedAt s at) at
+unfolding identifiedAt
+identified-reader at = tested-reader at (lengths at) (lengths-test at) 0 false (omega arith) (λ n. refl)
 
 -- ---- one digit
 unfoldable pub digitAt : List ℕ → ℕ → Read (Unit {0})
@@ -268,23 +330,23 @@ digit-reader at =
         (opens s h)
     tells s x h e false false ea eb = absurd (never-took (sym e ∙ digit-took s at (leb-false (length s) at ea) (ltb-false 9 (getD s at 0) eb)))
 
--- ---- the identifier
-identifier-took : (s : List ℕ) (at : ℕ) → at + 16 ≤ length s → identifierAt s at ≡ took (take 16 (drop at s)) (at + 16)
+-- ---- the identifier, sixteen bytes or none
+identifier-took : (s : List ℕ) (at : ℕ) → at + 16 ≤ length s → identifierAt true s at ≡ took (take 16 (drop at s)) (at + 16)
 unfolding identifierAt
 identifier-took s at h = rw (le-ltb (length s) (at + 16) h)
 
-identifier-out : (s : List ℕ) (at : ℕ) → length s < at + 16 → identifierAt s at ≡ endedIn s
+identifier-out : (s : List ℕ) (at : ℕ) → length s < at + 16 → identifierAt true s at ≡ endedIn s
 unfolding identifierAt
 identifier-out s at h = rw (lt-ltb (length s) (at + 16) h)
 
-identifier-shape : (s : List ℕ) (at : ℕ) (v : List ℕ) (n : ℕ) → identifierAt s at ≡ took v n → (at + 16 ≤ length s) × ((take 16 (drop at s) ≡ v) × (at + 16 ≡ n))
+identifier-shape : (s : List ℕ) (at : ℕ) (v : List ℕ) (n : ℕ) → identifierAt true s at ≡ took v n → (at + 16 ≤ length s) × ((take 16 (drop at s) ≡ v) × (at + 16 ≡ n))
 unfolding identifierAt
 identifier-shape s at v n e =
     let p = pick-else (ltb (length s) (at + 16)) (endedIn s) _ _ never-took e in
     let q = p .1 in
     (ltb-false (length s) (at + 16) (p .0), (cc, cc))
 
-identifier-ended : (s : List ℕ) (at : ℕ) (x : Fault) → identifierAt s at ≡ refused x → x .place ≡ length s
+identifier-ended : (s : List ℕ) (at : ℕ) (x : Fault) → identifierAt true s at ≡ refused x → x .place ≡ length s
 unfolding identifierAt
 identifier-ended s at x =
     pick-elim (λ r. r ≡ refused x → x .place ≡ length s) (ltb (length s) (at + 16)) (λ t e. wrong-is 1 (length s) x e .0) (λ t e. absurd (never-took (sym e)))
@@ -293,18 +355,18 @@ identifier-ended s at x =
 part-of : (s : List ℕ) (at n : ℕ) → at ≤ length s → drop at (take (at + n) s) ≡ take n (drop at s)
 part-of s at n h = rw (take-add at n s) (drop-at (take at s) (take n (drop at s)) at (length-take-le at s h))
 
-pub identifier-steady : (at : ℕ) → Steady (λ s. identifierAt s at)
-identifier-steady at s t v n l e q =
+sixteen-steady : (at : ℕ) → Steady (λ s. identifierAt true s at)
+sixteen-steady at s t v n l e q =
     let r = identifier-shape s at v n e in
     let k = same-length s t n q l in
     let same : take (at + 16) t ≡ take (at + 16) s = rw (r .1 .1) q in
     let part : take 16 (drop at t) ≡ v = sym (part-of t at 16 (omega arith)) ∙ ap (λ (u : List ℕ). drop at u) same ∙ part-of s at 16 (omega arith) ∙ r .1 .0 in
     identifier-took t at (omega arith) ∙ rw (part, r .1 .1)
 
-pub identifier-reader : (at : ℕ) → Reader (λ s. identifierAt s at) at
-identifier-reader at = record { ends = λ s v n h e. let r = identifier-shape s at v n e in omega arith; tells = λ s x h e. tells s x h e (ltb (length s) (at + 16)) refl }
+sixteen-reader : (at : ℕ) → Reader (λ s. identifierAt true s at) at
+sixteen-reader at = record { ends = λ s v n h e. let r = identifier-shape s at v n e in omega arith; tells = λ s x h e. tells s x h e (ltb (length s) (at + 16)) refl }
   where
-    tells : (s : List ℕ) (x : Fault) → at ≤ length s → identifierAt s at ≡ refused x → (a : Bool) → ltb (length s) (at + 16) ≡ a → Told (λ s. identifierAt s at) at s x
+    tells : (s : List ℕ) (x : Fault) → at ≤ length s → identifierAt true s at ≡ refused x → (a : Bool) → ltb (length s) (at + 16) ≡ a → Told (λ s. identifierAt true s at) at s x
     tells s x h e true ea =
         let out = ltb-true (length s) (at + 16) ea in
         let l = one-more s in
@@ -323,3 +385,13 @@ identifier-reader at = record { ends = λ s v n h e. let r = identifier-shape s 
               (record { more = replicate rest 0; bytes = zeros rest; value = take 16 (drop at all); read = identifier-took all at (omega arith) ∙ ap (λ (n : ℕ). took (take 16 (drop at all)) n) (sym whole) });
         })
     tells s x h e false ea = absurd (never-took (sym e ∙ identifier-took s at (ltb-false (length s) (at + 16) ea)))
+
+pub identifier-steady : (identified : Bool) (at : ℕ) → Steady (λ s. identifierAt identified s at)
+unfolding identifierAt
+identifier-steady true at = sixteen-steady at
+identifier-steady false at = λ s t v n l e q. e
+
+pub identifier-reader : (identified : Bool) (at : ℕ) → Reader (λ s. identifierAt identified s at) at
+unfolding identifierAt
+identifier-reader true at = sixteen-reader at
+identifier-reader false at = taken (λ s. replicate 16 0) at

@@ -9,16 +9,17 @@ use native.Mathlib.Omega.{arith}
 use Rattle.lists.specs.Choice.{pick}
 use Rattle.message.specs.Reading.{Read, took, refused, andThen}
 use Rattle.message.specs.Number.{fieldAt, scanAt, digitsAt}
-use Rattle.message.specs.Wire.{carrierOf, identifierAt, requestTail, requestAt, plainAt, oneNumber, fieldsAt, behindHead, messageAt}
+use Rattle.message.specs.Wire.{carrierOf, identifiedAt, identifierAt, requestTail, requestAt, elementsTail, elementsAt, plainAt, bareAt, oneNumber, fieldsAt, behindIdentified, behindHead, messageAt}
+use Rattle.message.specs.Format.{hasElements}
 use Rattle.message.specs.declared.Carrier.{Carrier}
 use Rattle.message.specs.declared.Fault.{Fault}
 use Rattle.message.specs.declared.Kind.{Kind}
 use Rattle.message.specs.declared.Kind.the-variants.{Ccbs, Ccnr}
 use Rattle.message.specs.declared.Body.{Body}
-use Rattle.message.specs.declared.Body.the-variants.{RequestResult, RequestError, RingoutError}
+use Rattle.message.specs.declared.Body.the-variants.{RequestResult, RequestError, CcExecPossible, CcRingout, RingoutError, CcSuspend, CcResume, CcCancel, CallAlerts, CallFailed}
 use Rattle.message.proofs.NumberLaws.{field-read}
 use Rattle.faults.proofs.Readers.{Steady, Reader, both, both-steady, taken, made, chosen}
-use Rattle.faults.proofs.Fields.{field-steady, field-reader, digitAt, digit-ends, digit-steady, digit-reader, identifier-steady, identifier-reader}
+use Rattle.faults.proofs.Fields.{field-steady, field-reader, digitAt, digit-ends, digit-steady, digit-reader, identified-steady, identified-reader, identifier-steady, identifier-reader}
 
 -- ---- numbers of digits: one digit behind another
 then-picks :
@@ -73,28 +74,37 @@ request-reader kind at =
 one-reader : (make : ℕ → Body) (at low high : ℕ) → low ≤ high → low < 128 → Reader (λ s. oneNumber make s at low high) at
 one-reader make at low high order small = made (λ s. fieldAt s at low high) _ at (field-reader at low high order small)
 
-fields-reader : (type at : ℕ) → Reader (λ s. fieldsAt type s at) at
+elements-reader : (body : Body) (at : ℕ) → Reader (λ s. elementsAt body s at) at
+unfolding elementsAt elementsTail
+elements-reader body at =
+    both (λ s. digitsAt s at 0) _ at (digits-steady at 0) (digits-reader at 0 (omega arith)) (λ a behindA.
+    both (λ s. digitsAt s behindA 1) _ behindA (digits-steady behindA 1) (digits-reader behindA 1 (omega arith)) (λ b behindB.
+    made (λ s. fieldAt s behindB 0 16383) _ behindB (field-reader behindB 0 16383 (omega arith) (omega arith))))
+
+fields-reader : (type : ℕ) (carrier : Carrier) (at : ℕ) → Reader (λ s. fieldsAt type carrier s at) at
 unfolding fieldsAt
-fields-reader type at =
-    let here : (body : Body) → Reader (λ s. plainAt at body at) at = λ body. taken _ at in
+fields-reader type carrier at =
+    let here : (body : Body) → Reader (λ s. bareAt body carrier s at) at =
+    λ body. chosen (hasElements body carrier) (λ s. elementsAt body s at) (λ s. plainAt at body at) at (elements-reader body at) (taken _ at) in
     chosen (eqb type 1) _ _ at (request-reader Ccbs at)
     (chosen (eqb type 2) _ _ at (request-reader Ccnr at)
     (chosen (eqb type 3) _ _ at (one-reader RequestResult at 0 1 (omega arith) (omega arith))
     (chosen (eqb type 4) _ _ at (one-reader RequestError at 1 2 (omega arith) (omega arith))
-    (chosen (eqb type 5) _ _ at (here _)
-    (chosen (eqb type 6) _ _ at (here _)
+    (chosen (eqb type 5) _ _ at (here CcExecPossible)
+    (chosen (eqb type 6) _ _ at (here CcRingout)
     (chosen (eqb type 7) _ _ at (one-reader RingoutError at 1 2 (omega arith) (omega arith))
-    (chosen (eqb type 8) _ _ at (here _)
-    (chosen (eqb type 9) _ _ at (here _)
-    (chosen (eqb type 10) _ _ at (here _)
-    (chosen (eqb type 11) _ _ at (here _) (here _)))))))))))
+    (chosen (eqb type 8) _ _ at (here CcSuspend)
+    (chosen (eqb type 9) _ _ at (here CcResume)
+    (chosen (eqb type 10) _ _ at (here CcCancel)
+    (chosen (eqb type 11) _ _ at (here CallAlerts) (here CallFailed)))))))))))
 
 -- ---- a message
 head-reader : (type : ℕ) (carrier : Carrier) (at : ℕ) → Reader (λ s. behindHead type carrier s at) at
-unfolding behindHead
+unfolding behindHead behindIdentified
 head-reader type carrier at =
-    both (λ s. identifierAt s at) _ at (identifier-steady at) (identifier-reader at) (λ identifier next.
-    made (λ s. fieldsAt type s next) _ next (fields-reader type next))
+    both (λ s. identifiedAt s at) _ at (identified-steady at) (identified-reader at) (λ identified from.
+    both (λ s. identifierAt identified s from) _ from (identifier-steady identified from) (identifier-reader identified from) (λ identifier next.
+    made (λ s. fieldsAt type carrier s next) _ next (fields-reader type carrier next)))
 
 pub message-reader : Reader messageAt 0
 unfolding messageAt

@@ -7,7 +7,7 @@ use mathlib.Core.List.{List, [], _∷_, _++_}
 use lib.ListN.{length, take}
 use Rattle.lists.specs.Words.{Bytes}
 use Rattle.message.specs.Reading.{refused}
-use Rattle.message.specs.Format.{inRange, messageBytes}
+use Rattle.message.specs.Format.{writable, messageBytes}
 use Rattle.message.specs.Equality.{Formed}
 use Rattle.message.specs.Wire.{messageAt}
 use Rattle.message.specs.declared.Fault.{Fault}
@@ -32,7 +32,7 @@ EndedAsks =
 pub record StartOf (front : List ℕ) : Type 0 where
   pub message : Message
   pub formed : Formed message
-  pub ranged : inRange message ≡ true
+  pub ranged : writable message ≡ true
   pub more : List ℕ
   pub bytes : front ++ more ≡ messageBytes message
 

@@ -1,3 +1,4 @@
+pub mod Identifiers
 pub mod Messages
 pub mod Given
 pub mod Shown

@@ -9,6 +9,8 @@ use Rattle.message.specs.declared.Body.the-variants.{CcbsRequest, CcnrRequest, 
 use Rattle.message.specs.declared.Carrier.{Carrier}
 use Rattle.message.specs.declared.Carrier.the-variants.{Setup, Connect, Facility, ReleaseComplete, Alerting}
 use Rattle.message.specs.declared.Message.{Message}
+use Rattle.message.specs.declared.Service.{Service}
+use Rattle.message.specs.declared.Service.the-variants as Service
 use Rattle.writer.specs.Write.{messageWritten, messageBuffer}
 use Rattle.writer.specs.declared.Written.{Written}
 use Rattle.writer.specs.declared.Written.the-variants.{Wrote, Refused}
@@ -17,24 +19,29 @@ use Rattle.host_numbers.specs.declared.messages.BodyGiven.the-variants a
 use Rattle.host_numbers.specs.declared.messages.CarrierGiven.{CarrierGiven}
 use Rattle.host_numbers.specs.declared.messages.CarrierGiven.the-variants as CarrierGiven
 
--- ---- the four numbers: type, carrier, service (types 1 and 2), and the one other field (flags, keep or error); 0 where a type has none
-abbrev pub serviceOf : Body → ℕ
-serviceOf (CcbsRequest service flags) = service
-serviceOf (CcnrRequest service flags) = service
-serviceOf (RequestResult keep) = 0
-serviceOf (RequestError error) = 0
-serviceOf CcExecPossible = 0
-serviceOf CcRingout = 0
-serviceOf (RingoutError error) = 0
-serviceOf CcSuspend = 0
-serviceOf CcResume = 0
-serviceOf CcCancel = 0
-serviceOf CallAlerts = 0
-serviceOf CallFailed = 0
+-- ---- the four numbers: type, carrier, service (of a request its own, of another type the one beside it: types 5, 6, 9 and 10 in Setup have one), and the one other field (flags, keep
+-- or error); 0 where a message has none
+abbrev pub serviceTold : Service → ℕ
+serviceTold Service.Absent = 0
+serviceTold (Service.Is number) = number
+
+abbrev pub serviceOf : Body → ℕ → ℕ
+serviceOf (CcbsRequest flags service) beside = service
+serviceOf (CcnrRequest flags service) beside = service
+serviceOf (RequestResult keep) beside = beside
+serviceOf (RequestError error) beside = beside
+serviceOf CcExecPossible beside = beside
+serviceOf CcRingout beside = beside
+serviceOf (RingoutError error) beside = beside
+serviceOf CcSuspend beside = beside
+serviceOf CcResume beside = beside
+serviceOf CcCancel beside = beside
+serviceOf CallAlerts beside = beside
+serviceOf CallFailed beside = beside
 
 abbrev pub fieldOf : Body → ℕ
-fieldOf (CcbsRequest service flags) = flags
-fieldOf (CcnrRequest service flags) = flags
+fieldOf (CcbsRequest flags service) = flags
+fieldOf (CcnrRequest flags service) = flags
 fieldOf (RequestResult keep) = keep
 fieldOf (RequestError error) = error
 fieldOf CcExecPossible = 0
@@ -46,8 +53,8 @@ fieldOf CcCancel = 0
 fieldOf CallAlerts = 0
 fieldOf CallFailed = 0
 
-abbrev pub messageNumbers : Carrier → Body → List ℕ
-messageNumbers carrier body = typeNumber body ∷ carrierNumber carrier ∷ serviceOf body ∷ fieldOf body ∷ []
+abbrev pub messageNumbers : Carrier → Service → Body → List ℕ
+messageNumbers carrier service body = typeNumber body ∷ carrierNumber carrier ∷ serviceOf body (serviceTold service) ∷ fieldOf body ∷ []
 
 -- ---- what the numbers stand for
 -- a number too large for its field stays too large
@@ -56,8 +63,8 @@ least limit number = pick (ltb number limit) number limit
 
 unfoldable pub bodyGiven : ℕ → ℕ → ℕ → BodyGiven
 bodyGiven type service field =
-    pick (eqb type 1) (BodyGiven.Body (CcbsRequest service field))
-    (pick (eqb type 2) (BodyGiven.Body (CcnrRequest service field))
+    pick (eqb type 1) (BodyGiven.Body (CcbsRequest field service))
+    (pick (eqb type 2) (BodyGiven.Body (CcnrRequest field service))
     (pick (eqb type 3) (BodyGiven.Body (RequestResult field))
     (pick (eqb type 4) (BodyGiven.Body (RequestError field))
     (pick (eqb type 5) (BodyGiven.Body CcExecPossible)

@@ -2,11 +2,12 @@
 use message::Body;
 use message::Carrier;
 use message::Message;
+use message::Service;
 use writer::Written;
 use writer::numbers::carrier_number;
 use writer::numbers::type_number;
 ghost use mathlib.Core.Path.{_≡_};
-ghost use Rattle.host_numbers.specs.Messages.{serviceOf, fieldOf, messageNumbers, least, bodyGiven, carrierGiven, writeFace, messageFace};
+ghost use Rattle.host_numbers.specs.Messages.{serviceTold, serviceOf, fieldOf, messageNumbers, least, bodyGiven, carrierGiven, writeFace, messageFace};
 
 pub enum BodyGiven {
     Body(Body),
@@ -18,23 +19,33 @@ pub enum CarrierGiven {
     Unknown,
 }
 
-// The service of a request, 0 for other types.
-fn service_of(body: Body) -> u64
-    ensures { λ r. ⌜ r ≡ serviceOf body ⌝ }
+// The service that stands beside a body, 0 where it is absent.
+fn service_told(service: Service) -> u64
+    ensures { λ r. ⌜ r ≡ serviceTold service ⌝ }
+{
+    match service {
+        Service::Absent => 0,
+        Service::Is(number) => number,
+    }
+}
+
+// The service of a request, and of other types the one beside them.
+fn service_of(body: Body, beside: u64) -> u64
+    ensures { λ r. ⌜ r ≡ serviceOf body beside ⌝ }
 {
     match body {
         Body::CcbsRequest { service, flags: _ } => service as u64,
         Body::CcnrRequest { service, flags: _ } => service as u64,
-        Body::RequestResult { keep: _ } => 0,
-        Body::RequestError { error: _ } => 0,
-        Body::CcExecPossible => 0,
-        Body::CcRingout => 0,
-        Body::RingoutError { error: _ } => 0,
-        Body::CcSuspend => 0,
-        Body::CcResume => 0,
-        Body::CcCancel => 0,
-        Body::CallAlerts => 0,
-        Body::CallFailed => 0,
+        Body::RequestResult { keep: _ } => beside,
+        Body::RequestError { error: _ } => beside,
+        Body::CcExecPossible => beside,
+        Body::CcRingout => beside,
+        Body::RingoutError { error: _ } => beside,
+        Body::CcSuspend => beside,
+        Body::CcResume => beside,
+        Body::CcCancel => beside,
+        Body::CallAlerts => beside,
+        Body::CallFailed => beside,
     }
 }
 
@@ -59,14 +70,15 @@ fn field_of(body: Body) -> u64
 }
 
 // Type, carrier, service and field.
-pub fn message_numbers(carrier: Carrier, body: Body) -> [u64; 4]
-    ensures { λ r. ⌜ r ≡ messageNumbers carrier body ⌝ }
+pub fn message_numbers(carrier: Carrier, service: Service, body: Body) -> [u64; 4]
+    ensures { λ r. ⌜ r ≡ messageNumbers carrier service body ⌝ }
 {
     let typed = type_number(body);
     let carried = carrier_number(carrier);
-    let service = service_of(body);
+    let beside = service_told(service);
+    let own = service_of(body, beside);
     let field = field_of(body);
-    [typed as u64, carried as u64, service, field]
+    [typed as u64, carried as u64, own, field]
 }
 
 // A service; one out of range stays out of range.

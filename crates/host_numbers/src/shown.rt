@@ -1,4 +1,6 @@
 // What a host is shown of a record or a line, as bytes and plain numbers.
+use crate::identifiers::BYTES;
+use crate::identifiers::identifier_shown;
 use clerk_records::codes::state_code as clerk_state_code;
 use clerk_table::record::Record as ClerkRecord;
 use line_records::codes::state_code as line_state_code;
@@ -12,6 +14,7 @@ use terms::codes::keep_code;
 use terms::codes::kind_code;
 ghost use mathlib.Core.Path.{_≡_};
 ghost use Rattle.lists.specs.Words.{bytesOf};
+ghost use Rattle.host_numbers.specs.Identifiers.{identifierShown};
 ghost use Rattle.host_numbers.specs.Shown.{recordNumbers, clerkNumbers, lineNumbers, kindsNumber};
 
 // How many numbers a host is shown of a record.
@@ -19,17 +22,17 @@ pub const NUMBERS: usize = 9;
 
 // The identifier and the two numbers of digits.
 pub fn show_names(
-    identifier: &mut [u8; 16],
+    identifier: &mut [u8; BYTES],
     numberA: &mut [u8; 16],
     numberB: &mut [u8; 16],
     terms: Terms,
 )
-    ensures { λ r. ⌜ (now (identifier .exit) ≡ bytesOf (terms .identifier)) × (now (numberA .exit) ≡ bytesOf (terms .numberA)) × (now (numberB .exit) ≡ bytesOf (terms .numberB)) ⌝ }
+    ensures { λ r. ⌜ (now (identifier .exit) ≡ identifierShown (terms .identifier)) × (now (numberA .exit) ≡ bytesOf (terms .numberA)) × (now (numberB .exit) ≡ bytesOf (terms .numberB)) ⌝ }
 {
     let i = terms.identifier;
     let a = terms.numberA;
     let b = terms.numberB;
-    *identifier = bytes_of(i);
+    *identifier = identifier_shown(i);
     *numberA = bytes_of(a);
     *numberB = bytes_of(b);
 }

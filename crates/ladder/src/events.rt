@@ -27,7 +27,7 @@ pub const FREE: u8 = 10;
 
 pub const LOOK: u8 = 11;
 
-// A message that no desk sent, by its tag.
+// A message that no desk sent, by its tag: a result, and of a request without an identifier a ccCancel.
 pub const STRAY: u8 = 12;
 
 // A wire delivers its first message.
@@ -41,10 +41,15 @@ pub const RECORDS: u8 = 15;
 // A line of the narration, by its number.
 pub const SAY: u8 = 16;
 
-// An event at an end, the clerk's or the line's. One of a prelude is not seen.
+// The tag of a request without an identifier: what the script's two dashes read as.
+pub const NAMELESS: u8 = 143;
+
+// An event at an end, the clerk's or the line's. Where its host names a place that stands beside it as a digit, a dash where it names none, and else a blank. One of a
+// prelude is not seen.
 pub struct Event {
     pub code: u8,
     pub about: u8,
+    pub place: u8,
     pub atLine: bool,
     pub seen: bool,
 }

@@ -3,7 +3,7 @@
 // story: its functions are no public operations.
 mod cause;
 pub mod events;
-mod middle;
+pub mod middle;
 pub mod narration;
 pub mod records;
 mod row;

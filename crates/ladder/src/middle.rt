@@ -1,5 +1,6 @@
 // The middle of the ladder: a message is its name, and below it its arrow, at the side of the end that hears or sends it.
 use crate::cause::put_tag;
+use crate::events::NAMELESS;
 use crate::row::either;
 use printing::Page;
 use printing::blank_page;
@@ -100,21 +101,38 @@ fn type_entry(number: u8, field: u8) -> usize {
     number as usize + 10 * (field as usize)
 }
 
-// The field of a type that has one alone, which is the message's last byte.
+// The field of a type that has one alone, which is the message's last byte: a result, a request error, a ringout error.
 fn field_of(message: &[u8]) -> u8 {
-    if message.len() == 19 {
-        return message[18];
+    if message.len() == 0 {
+        return 0;
     }
-    0
+    let last = message[message.len() - 1];
+    match message[0] {
+        3 => last,
+        4 => last,
+        7 => last,
+        _ => 0,
+    }
 }
 
-// A message that is heard or sent, by its bytes, if there is one: type, carrier and identifier stand first.
+// The tag of a message by its bytes: type, carrier, the identifier's length and the identifier stand first; 0 for no message.
+pub fn tag_in(message: &[u8]) -> u8 {
+    if message.len() < 3 {
+        return 0;
+    }
+    if 3 < message.len() && message[2] == 16 {
+        return message[3];
+    }
+    NAMELESS
+}
+
+// A message that is heard or sent, by its bytes, if there is one.
 pub fn put_message(page: Page, atLine: bool, head: usize, message: &[u8]) -> Page {
-    if message.len() < 18 {
+    if message.len() < 3 {
         return page;
     }
     let entry = type_entry(message[0], field_of(message));
-    let name = put_type(put_tag(blank_page(), message[2]), entry);
+    let name = put_type(put_tag(blank_page(), tag_in(message)), entry);
     let bytes = name.bytes;
     let named = put_name(page, atLine, part(&bytes, 0, name.at));
     put_arrow(named, atLine, head, message[1])

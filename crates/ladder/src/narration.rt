@@ -29,6 +29,12 @@ pub fn say(number: usize) {
 * The connection falls while the request waits. The house's end sees it, the clerk's not yet.
 * The line clears. The house rings back all the same, over a new connection.
 * Now the clerk's end sees it too. User A accepts, and the call gets through.
+* Two requests that look alike: one line, one service, no identifier. They are no duplicates.
+* A stray ccCancel arrives. The host knows that it belongs to neither, and names no place.
+* The line clears and the house rings back the first. The host knows that too.
+* The same stray ccCancel once more. This time the host guesses, and guesses the second.
+* The first goes on. Its ccRingout has no name either: both records fit, one has been rung back.
+* The house rings back the second. It has no record here any more, and its caller was told \"failed\".
 ",
         number,
     );
@@ -41,7 +47,7 @@ fn frame(number: usize) {
 ====================================================================================================
 CLERK'S DESK (User A)         |               THE WIRES              | LINE DESK (User B)
 ------------------------------+--------------------------------------+------------------------------
-TOLLHERRING: THREE LESSONS IN FIVE SCENES
+TOLLHERRING: THREE LESSONS IN SIX SCENES
 A clerk finds a house's line busy and asks to be rung back. #34 is the request for a group of 34.
 A message is sent: o---...   It arrives: ...--->   No desk sent it: ...---?   Its carrier is in [ ].
 States, timers, notices and refusals are the desks' own. A scene says which messages it forges.
@@ -59,12 +65,16 @@ LESSON 2. A cancel does meet a ring-back on the wire. A late message finds no re
 and changes nothing; and both ends have let the request go.
 Scene 4. A stray reply
 Replies arrive that no request is waiting for, at a desk that holds a live request.
-LESSON 3. A stray reply must never touch the nearest request. A record is found by its identifier
-and by nothing else.
+LESSON 3. A stray reply must never touch the nearest request. Different identifiers never meet,
+however alike the two requests are.
 Scene 5. The connection falls
 Both ends keep a connection for the request, and it falls. Nobody cancels anything.
 LESSON 1, ONCE MORE. A connection is not the request. What both ends have stored outlives it, and
 whichever end sees the fall first, the other takes its messages.
+Scene 6. Two callers without a name
+An end that sends no identifier and withholds its number: #-- is all that a message says.
+LESSON 3, WITHOUT A NAME. Where no identifier tells whose a message is, the host has to know it.
+A right place kept the stray off. A guess let it touch the nearest request, and a caller was lost.
 ",
         number,
     );

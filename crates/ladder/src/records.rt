@@ -1,5 +1,7 @@
 // The event `records`: the records of both desks side by side, in the order of storing.
+use crate::cause::put_placed;
 use crate::cause::put_tag;
+use crate::events::NAMELESS;
 use crate::row::print_row;
 use crate::row::to_middle;
 use crate::row::to_right;
@@ -17,13 +19,21 @@ pub struct Shown {
     pub down: usize,
 }
 
+// Whose record a place has: a request without an identifier is told by the place.
+fn put_whose(page: Page, i: usize, tag: u8) -> Page {
+    if tag == NAMELESS {
+        return put_placed(page, b'0' + (i % 10) as u8);
+    }
+    put_tag(page, tag)
+}
+
 // The record of a desk's place. A desk without any says so in the first row.
 fn put_record(page: Page, i: usize, shown: Shown) -> Page {
     if shown.state == NO_RECORD {
         return put_entry(page, b"no record\n", i);
     }
     let kept = put_entry(
-        put_state(put_tag(page, shown.tag), b" ", shown.state),
+        put_state(put_whose(page, i, shown.tag), b" ", shown.state),
         b", keep -
 , keep 0
 , keep 1

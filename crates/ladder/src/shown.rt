@@ -16,14 +16,24 @@ use printing::part;
 use told::TOLD;
 
 // A state is an entry of the table of states: 0 where an event is about no request.
-pub const NO_REQUEST: usize = 0;
+const NO_REQUEST: usize = 0;
 
 pub const NO_RECORD: usize = 1;
 
-// The state of an event's request before and after.
+// The state of an event's request before and after, and whether the request has no identifier.
 pub struct States {
     pub before: usize,
     pub after: usize,
+    pub nameless: bool,
+}
+
+// Of an event that is about no request, or about one that nobody knows.
+pub fn no_states() -> States {
+    States {
+        before: NO_REQUEST,
+        after: NO_REQUEST,
+        nameless: false,
+    }
 }
 
 // The words stand on the left at the clerk's end, on the right at the line's.

@@ -1,5 +1,6 @@
 // The words of an event's end, each in a row of its own: a table for each list that docs/STORY.md has, by the number that a host is told.
 use crate::cause::put_cause;
+use crate::cause::put_placed;
 use crate::events::Event;
 use crate::shown::States;
 use printing::Page;
@@ -130,7 +131,18 @@ fn put_told(page: Page, told: &[u64; TOLD]) -> Page {
     put_row(noticed, b"  clear the call", b"", told[6] as usize)
 }
 
+// Which record the step was about, where neither an identifier nor the event says it.
+fn put_about(page: Page, untold: bool, told: &[u64; TOLD]) -> Page {
+    if untold && told[9] == 1 {
+        let place = b'0' + (told[10] % 10) as u8;
+        return put_text(put_placed(put_text(page, b"  about "), place), b"\n");
+    }
+    page
+}
+
 // All rows of an event's end.
 pub fn put_words(event: Event, told: &[u64; TOLD], states: States) -> Page {
-    put_states(put_told(put_cause(blank_page(), event), told), states)
+    let step = put_told(put_cause(blank_page(), event), told);
+    let untold = states.nameless && event.place == b' ';
+    put_states(put_about(step, untold, told), states)
 }

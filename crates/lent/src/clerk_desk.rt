@@ -13,9 +13,9 @@ pub fn step(d: &mut Desk, entry: Entry) -> Outcome
     clerk::on_words::step(&mut d.words, entry)
 }
 
-// Raw bytes received: the reader's 1 and 2, which change nothing, with the place of the fault; else the message's step, and the first unread place.
-pub fn step_bytes(d: &mut Desk, s: &[u8], busy: bool) -> BytesOutcome
-    ensures { λ r. ⌜ answeredBytes (now (d .exit)) r ≡ receivedBytes (now (d .entry)) (now (s .entry)) busy ⌝ }
+// Raw bytes received, with the host's word on User A and the place that the host names for the message: the reader's 1 and 2, which change nothing, with the place of the fault; else the message's step, and the first unread place.
+pub fn step_bytes(d: &mut Desk, s: &[u8], busy: bool, place: usize) -> BytesOutcome
+    ensures { λ r. ⌜ answeredBytes (now (d .exit)) r ≡ receivedBytes (now (d .entry)) (now (s .entry)) busy place ⌝ }
 {
-    clerk::on_words::step_bytes(&mut d.words, s, busy)
+    clerk::on_words::step_bytes(&mut d.words, s, busy, place)
 }

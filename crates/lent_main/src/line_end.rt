@@ -10,7 +10,7 @@ use line::steps::Stepped;
 pub fn entry_of(sending: Sending) -> Entry {
     match sending {
         Sending::Nothing => Entry::Refused(1),
-        Sending::Send(letter) => message_entry(message_of(letter)),
+        Sending::Send(letter) => message_entry(message_of(letter), 0),
     }
 }
 

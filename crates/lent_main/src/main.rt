@@ -20,6 +20,7 @@ fn tell(outcome: Outcome) {
 // Of number 1 for number 2, which is the line desk's one line.
 fn asking() -> Asking {
     Asking {
+        identified: true,
         identifier: [34; 16],
         kind: Kind::Ccbs,
         numberA: [1; 16],

@@ -63,7 +63,7 @@ abbrev pub refusedStart : Stepped
 refusedStart = record { desk = record { words = replicate Layout.words 0 }; outcome = refusedWith 2 Sending.Nothing }
 
 abbrev pub startedBy : Lines → Stepped
-startedBy (stored ws) = record { desk = record { words = ws }; outcome = doneWith Sending.Nothing noTimers noTimers }
+startedBy (stored ws) = record { desk = record { words = ws }; outcome = doneWith Sending.Nothing noTimers noTimers Nothing }
 startedBy bad = refusedStart
 
 -- 2 for more than 16 lines, for bytes that end inside a line, and for a line that is not good

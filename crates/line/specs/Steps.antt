@@ -8,6 +8,7 @@ use Rattle.desk.specs.Outcome.{refusedWith}
 use Rattle.desk.specs.declared.outcome.Outcome.{Outcome}
 use Rattle.desk.specs.declared.outcome.BytesOutcome.{BytesOutcome}
 use Rattle.desk.specs.declared.outcome.Sending.the-variants as Sending
+use Rattle.terms.specs.declared.request.Name.{Name}
 use Rattle.line_table.specs.declared.record.Plan.{Plan}
 use Rattle.line_table.specs.declared.inputs.Act.{Act}
 use Rattle.line_table.specs.declared.inputs.Input.{Input}
@@ -49,9 +50,9 @@ entered d (Refused number) = refusedStep d number
 entered d (Given input) = step d input
 
 -- ---- document 01's inputs, by name
--- a message received: 2, 3, 6, 7, 8; a request 2, 8, then the completed steps long, short, accepted
-abbrev pub received : Desk → Message → Stepped
-received d m = entered d (messageEntry m)
+-- a message received, with the place that the host names for it: 2, 3, 6, 7, 8; a request 2, 8, then the completed steps long, short, accepted
+abbrev pub received : Desk → Message → ℕ → Stepped
+received d m place = entered d (messageEntry m place)
 
 -- a line report: 10; a Look: 10, 11; bad digits are 10
 abbrev pub lineReported : Desk → List ℕ → Bool → Stepped
@@ -61,11 +62,11 @@ abbrev pub looked : Desk → List ℕ → Stepped
 looked d digits = entered d (lookEntry digits)
 
 -- acts: 6, 7; the guard: 6
-abbrev pub acted : Desk → List ℕ → Act → Stepped
-acted d identifier act = entered d (actEntry identifier act)
+abbrev pub acted : Desk → Name → Act → Stepped
+acted d name act = entered d (actEntry name act)
 
-abbrev pub guardReported : Desk → List ℕ → Stepped
-guardReported d identifier = entered d (guardEntry identifier)
+abbrev pub guardReported : Desk → Name → Stepped
+guardReported d name = entered d (guardEntry name)
 
 -- raw bytes: the reader's refusals change nothing, and tell the place of the fault; else the message's step, and the first unread place
 abbrev pub withNext : Stepped → ℕ → Found → SteppedBytes
@@ -74,5 +75,5 @@ withNext step next fault = record { desk = step .desk; outcome = step .outcome; 
 abbrev pub readStep : Desk → BytesEntry → SteppedBytes
 readStep d read = withNext (entered d (read .entry)) (read .next) (read .fault)
 
-unfoldable pub receivedBytes : Desk → List ℕ → SteppedBytes
-receivedBytes d bytes = readStep d (bytesEntry bytes)
+unfoldable pub receivedBytes : Desk → List ℕ → ℕ → SteppedBytes
+receivedBytes d bytes place = readStep d (bytesEntry bytes place)

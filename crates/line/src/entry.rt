@@ -6,11 +6,11 @@ use desk::letter::read_letter;
 use line_table::inputs::Act;
 use line_table::inputs::Input;
 use lists::Found;
-use lists::words::words_of;
 use message::Message;
 use message::digits::PlaceRead;
 use message::digits::digits_in_range;
 use message::range::in_range;
+use terms::request::Name;
 ghost use mathlib.Core.Path.{_≡_};
 ghost use Rattle.line.specs.Entry.{messageEntry, actEntry, guardEntry, reportEntry, lookEntry, bytesEntry};
 
@@ -27,31 +27,29 @@ pub struct BytesEntry {
     pub fault: Found,
 }
 
-// A message: 2.
-pub fn message_entry(m: Message) -> Entry
-    ensures { λ r. ⌜ r ≡ messageEntry m ⌝ }
+// A message, with the place that the host names for it: 2.
+pub fn message_entry(m: Message, place: usize) -> Entry
+    ensures { λ r. ⌜ r ≡ messageEntry m place ⌝ }
 {
     if in_range(m) {
         let l = letter_of(m);
-        return Entry::Given(Input::Message(l));
+        return Entry::Given(Input::Message(l, place));
     }
     Entry::Refused(2)
 }
 
-// An act at the line's end: alerted, call failed, cancel.
-pub fn act_entry(identifier: [u8; 16], act: Act) -> Entry
-    ensures { λ r. ⌜ r ≡ actEntry identifier act ⌝ }
+// An act at the line's end: alerted, call failed, cancel, the connection fell.
+pub fn act_entry(name: Name, act: Act) -> Entry
+    ensures { λ r. ⌜ r ≡ actEntry name act ⌝ }
 {
-    let id = words_of(identifier);
-    Entry::Given(Input::Act(id, act))
+    Entry::Given(Input::Act(name, act))
 }
 
 // A guard that ran out at the host.
-pub fn guard_entry(identifier: [u8; 16]) -> Entry
-    ensures { λ r. ⌜ r ≡ guardEntry identifier ⌝ }
+pub fn guard_entry(name: Name) -> Entry
+    ensures { λ r. ⌜ r ≡ guardEntry name ⌝ }
 {
-    let id = words_of(identifier);
-    Entry::Given(Input::Guard(id))
+    Entry::Given(Input::Guard(name))
 }
 
 // A line report, busy or free, by the line's digits: 10.
@@ -76,9 +74,9 @@ pub fn look_entry(digits: [u8; 16]) -> Entry
     Entry::Refused(10)
 }
 
-// Raw bytes: the reader's 1 and 2. What was read is in range and its own normal form, so it is neither tested nor normalised again.
-pub fn bytes_entry(s: &[u8]) -> BytesEntry
-    ensures { λ r. ⌜ r ≡ bytesEntry (now (s .entry)) ⌝ }
+// Raw bytes, with the place that the host names for the message: the reader's 1 and 2. What was read is in range and its own normal form, so it is neither tested nor normalised again.
+pub fn bytes_entry(s: &[u8], place: usize) -> BytesEntry
+    ensures { λ r. ⌜ r ≡ bytesEntry (now (s .entry)) place ⌝ }
 {
     let answer = reader::read(s);
     let verdict = answer.verdict;
@@ -92,7 +90,7 @@ pub fn bytes_entry(s: &[u8]) -> BytesEntry
             let m = answer.message;
             let l = read_letter(m);
             BytesEntry {
-                entry: Entry::Given(Input::Message(l)),
+                entry: Entry::Given(Input::Message(l, place)),
                 next,
                 fault: Found::Nothing,
             }

@@ -35,11 +35,11 @@ pub fn step(words: &mut [u64; WORDS], entry: Entry) -> Outcome
     }
 }
 
-// A step of raw bytes, and the first unread place.
-pub fn step_bytes(words: &mut [u64; WORDS], s: &[u8]) -> BytesOutcome
-    ensures { λ r. ⌜ answeredBytes (deskOf (now (words .exit))) r ≡ receivedBytes (deskOf (now (words .entry))) (now (s .entry)) ⌝ }
+// A step of raw bytes, with the place that the host names for the message; and the first unread place.
+pub fn step_bytes(words: &mut [u64; WORDS], s: &[u8], place: usize) -> BytesOutcome
+    ensures { λ r. ⌜ answeredBytes (deskOf (now (words .exit))) r ≡ receivedBytes (deskOf (now (words .entry))) (now (s .entry)) place ⌝ }
 {
-    let read = bytes_entry(s);
+    let read = bytes_entry(s, place);
     let entry = read.entry;
     let fault = read.fault;
     let outcome = step(words, entry);

@@ -120,7 +120,7 @@ fn start_counted(given: &[u8], count: usize, keep: bool, retain: bool) -> Steppe
     put_settings(&mut words, keep, retain);
     if take_lines(&mut words, given, count) {
         let none = no_timers();
-        let outcome = done(Sending::Nothing, none, none);
+        let outcome = done(Sending::Nothing, none, none, Found::Nothing);
         return Stepped {
             desk: Desk { words },
             outcome,

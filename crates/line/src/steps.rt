@@ -31,12 +31,12 @@ pub fn step(d: Desk, entry: Entry) -> Stepped
     Stepped { desk: e, outcome }
 }
 
-// Raw bytes received: the reader's 1 and 2, which change nothing, with the place of the fault; else the message's step, and the first unread place.
-pub fn step_bytes(d: Desk, s: &[u8]) -> SteppedBytes
-    ensures { λ r. ⌜ r ≡ receivedBytes d (now (s .entry)) ⌝ }
+// Raw bytes received, with the place that the host names for the message: the reader's 1 and 2, which change nothing, with the place of the fault; else the message's step, and the first unread place.
+pub fn step_bytes(d: Desk, s: &[u8], place: usize) -> SteppedBytes
+    ensures { λ r. ⌜ r ≡ receivedBytes d (now (s .entry)) place ⌝ }
 {
     let mut e = d;
-    let answer = on_words::step_bytes(&mut e.words, s);
+    let answer = on_words::step_bytes(&mut e.words, s, place);
     let outcome = answer.outcome;
     let fault = answer.fault;
     SteppedBytes {

@@ -14,6 +14,9 @@ use Rattle.desk.specs.declared.Connection.the-variants as Connection
 use Rattle.desk.specs.declared.letter.Letter.{Letter}
 use Rattle.desk.specs.declared.sends.Sends.the-variants as Sends
 use Rattle.terms.specs.Request.{letterNames}
+use Rattle.terms.specs.declared.means.Means.{Means}
+use Rattle.terms.specs.declared.means.Means.the-variants as Means
+use Rattle.terms.specs.declared.request.Name.{Name}
 use Rattle.terms.specs.declared.request.Names.{Names}
 use Rattle.terms.specs.declared.request.Request.{Request}
 use Rattle.line_table.specs.Table.{homeOf, holdsIn}
@@ -33,8 +36,9 @@ use Rattle.line_table.specs.declared.inputs.RecordMessage.{RecordMessage}
 use Rattle.line_table.specs.declared.inputs.Meant.{Meant}
 use Rattle.line_table.specs.declared.inputs.Meant.the-variants as Meant
 use Rattle.line_table.specs.declared.search.Sought.the-variants.{Blocking, Fitting, Duplicate}
-use Rattle.line_records.specs.Records.{blank, records, meant, place}
+use Rattle.line_records.specs.Records.{blank, records, place}
 use Rattle.line_records.specs.Lines.{noLine, lines, lineAt}
+use Rattle.line_records.specs.Meaning.{meaning, named}
 
 -- at most so many records for one line
 abbrev pub lineMost : ℕ
@@ -64,13 +68,14 @@ rowDecision i r l message row =
 abbrev pub placeDecision : List ℕ → ℕ → Record → Letter → RecordMessage → Decision
 placeDecision ws i r l message = rowDecision i r l message (rowFor message (takesCall ws (r .terms .numberB)) (r .terms .keep))
 
--- no record with that identifier: 6
-abbrev pub recordFound : List ℕ → Letter → RecordMessage → Found → Decision
-recordFound ws l message Nothing = Refuse 6 (replyMissed message)
-recordFound ws l message (At i) = placeDecision ws i (getD (records ws) i blank) l message
+-- no record is meant: 6; some fit, but none in a state that the message is for: 7
+abbrev pub recordMeant : List ℕ → Letter → RecordMessage → Means → Decision
+recordMeant ws l message Means.Nothing = Refuse 6 (replyMissed message)
+recordMeant ws l message Means.NotNow = Refuse 7 (replyMissed message)
+recordMeant ws l message (Means.At i) = placeDecision ws i (getD (records ws) i blank) l message
 
-unfoldable pub recordDecision : List ℕ → Letter → RecordMessage → Decision
-recordDecision ws l message = recordFound ws l message (meant (l .identifier) (records ws))
+unfoldable pub recordDecision : List ℕ → Letter → ℕ → RecordMessage → Decision
+recordDecision ws l at message = recordMeant ws l message (meaning l at (records ws))
 
 -- ---- a request: 8; then the completed steps: long, short (8.2.2.1), accepted (8.2.1.3). 1 is short, 2 long
 -- short if the line has 5, or the desk has 32
@@ -104,27 +109,31 @@ requestDecision ws l q =
     (Refuse 8 Sends.Nothing)
 
 -- ---- messages: 3, then a request or a message about a record
-abbrev pub meantDecision : List ℕ → Letter → Meant → Decision
-meantDecision ws l (Meant.Request q) = requestDecision ws l q
-meantDecision ws l (Meant.Record message) = recordDecision ws l message
-meantDecision ws l Meant.NotHere = Refuse 3 Sends.Nothing
+abbrev pub meantDecision : List ℕ → Letter → ℕ → Meant → Decision
+meantDecision ws l at (Meant.Request q) = requestDecision ws l q
+meantDecision ws l at (Meant.Record message) = recordDecision ws l at message
+meantDecision ws l at Meant.NotHere = Refuse 3 Sends.Nothing
 
-unfoldable pub messageDecision : List ℕ → Letter → Decision
-messageDecision ws l = meantDecision ws l (messageFor (l .body))
+unfoldable pub messageDecision : List ℕ → Letter → ℕ → Decision
+messageDecision ws l at = meantDecision ws l at (messageFor (l .body))
 
 -- ---- acts: 6, 7; the guard: 6
-abbrev pub ownFound : List ℕ → Row → Found → Decision
-ownFound ws row Nothing = Refuse 6 Sends.Nothing
-ownFound ws row (At i) = pick (holdsFor row (getD (records ws) i blank)) (Take i row) (Refuse 7 Sends.Nothing)
+abbrev pub heldDecision : List ℕ → ℕ → Row → Decision
+heldDecision ws i row = pick (holdsFor row (getD (records ws) i blank)) (Take i row) (Refuse 7 Sends.Nothing)
 
-unfoldable pub ownDecision : List ℕ → Words → Row → Decision
-ownDecision ws identifier row = ownFound ws row (meant identifier (records ws))
+abbrev pub ownMeant : List ℕ → Row → Means → Decision
+ownMeant ws row Means.Nothing = Refuse 6 Sends.Nothing
+ownMeant ws row Means.NotNow = Refuse 7 Sends.Nothing
+ownMeant ws row (Means.At i) = heldDecision ws i row
 
-abbrev pub actDecision : List ℕ → Words → Act → Decision
-actDecision ws identifier act = ownDecision ws identifier (rowOfAct act)
+unfoldable pub ownDecision : List ℕ → Name → Row → Decision
+ownDecision ws name row = ownMeant ws row (named name (records ws))
 
-abbrev pub guardDecision : List ℕ → Words → Decision
-guardDecision ws identifier = ownDecision ws identifier GuardRunsOut
+abbrev pub actDecision : List ℕ → Name → Act → Decision
+actDecision ws name act = ownDecision ws name (rowOfAct act)
+
+abbrev pub guardDecision : List ℕ → Name → Decision
+guardDecision ws name = ownDecision ws name GuardRunsOut
 
 -- ---- a line report: 10
 abbrev pub reportFound : Bool → Found → Decision
@@ -157,8 +166,8 @@ lookDecision ws number = lookFound ws number (lineAt number (lines ws))
 
 -- ---- every input
 unfoldable pub decided : List ℕ → Input → Decision
-decided ws (Input.Message l) = messageDecision ws l
-decided ws (Input.Act identifier act) = actDecision ws identifier act
-decided ws (Input.Guard identifier) = guardDecision ws identifier
+decided ws (Input.Message l at) = messageDecision ws l at
+decided ws (Input.Act name act) = actDecision ws name act
+decided ws (Input.Guard name) = guardDecision ws name
 decided ws (Input.Report number busy) = reportDecision ws number busy
 decided ws (Input.Look number) = lookDecision ws number

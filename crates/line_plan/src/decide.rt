@@ -8,7 +8,8 @@ use desk::sends::Sends;
 use line_records::WORDS;
 use line_records::lines::find_line;
 use line_records::lines::load_line;
-use line_records::places::find_meant;
+use line_records::meaning::find_meant;
+use line_records::meaning::find_named;
 use line_records::places::find_place;
 use line_records::places::load;
 use line_records::search::count_line;
@@ -31,12 +32,16 @@ use line_table::table::holds_in;
 use line_table::table::home_of;
 use lists::Found;
 use lists::words::Words;
+use terms::means::Means;
+use terms::request::Name;
 use terms::request::Names;
 use terms::request::Request;
 use terms::request::letter_names;
 ghost use mathlib.Core.Path.{_≡_};
+ghost use lib.ListN.{getD};
 ghost use Rattle.line_table.specs.Inputs.{rowFor};
-ghost use Rattle.line_plan.specs.Decide.{holdsFor, takesCall, rowDecision, recordDecision, countedDecision, admittedDecision, requestDecision, messageDecision, ownDecision, reportDecision, offerAt, lookDecision, decided};
+ghost use Rattle.line_records.specs.Records.{blank, records};
+ghost use Rattle.line_plan.specs.Decide.{holdsFor, takesCall, rowDecision, placeDecision, recordDecision, countedDecision, admittedDecision, requestDecision, messageDecision, heldDecision, ownDecision, reportDecision, offerAt, lookDecision, decided};
 
 // At most so many records for one line.
 const LINE_MOST: usize = 5;
@@ -97,20 +102,27 @@ fn decide_row(place: usize, r: Record, l: Letter, message: RecordMessage, row: R
     Decision::Refuse(7, reply_missed(message))
 }
 
-// A message about a record: 6, 7, 8.
-fn decide_record(words: &[u64; WORDS], l: Letter, message: RecordMessage) -> Decision
-    ensures { λ r. ⌜ r ≡ recordDecision (now (words .entry)) l message ⌝ }
+// A message about the record of a place: 7, 8.
+fn decide_place(words: &[u64; WORDS], place: usize, l: Letter, message: RecordMessage) -> Decision
+    ensures { λ r. ⌜ r ≡ placeDecision (now (words .entry)) place (getD (records (now (words .entry))) place blank) l message ⌝ }
 {
-    let identifier = l.identifier;
-    let Found::At(place) = find_meant(words, identifier) else {
-        return Decision::Refuse(6, reply_missed(message));
-    };
     let r = load(words, place);
     let agreed = r.terms;
     let number = agreed.numberB;
     let keep = agreed.keep;
     let row = row_meant(words, message, number, keep);
     decide_row(place, r, l, message, row)
+}
+
+// A message about a record, with the place that the host names for it: 6; 7 too where some fit and none is in a state that the message is for; then 7, 8.
+fn decide_record(words: &[u64; WORDS], l: Letter, at: usize, message: RecordMessage) -> Decision
+    ensures { λ r. ⌜ r ≡ recordDecision (now (words .entry)) l at message ⌝ }
+{
+    match find_meant(words, l, at) {
+        Means::Nothing => Decision::Refuse(6, reply_missed(message)),
+        Means::NotNow => Decision::Refuse(7, reply_missed(message)),
+        Means::At(place) => decide_place(words, place, l, message),
+    }
 }
 
 // Short if the line has 5 or the desk has 32, else stored.
@@ -160,29 +172,37 @@ fn decide_request(words: &[u64; WORDS], l: Letter, q: Request) -> Decision
 }
 
 // A message: 3, then a request or a message about a record.
-fn decide_message(words: &[u64; WORDS], l: Letter) -> Decision
-    ensures { λ r. ⌜ r ≡ messageDecision (now (words .entry)) l ⌝ }
+fn decide_message(words: &[u64; WORDS], l: Letter, at: usize) -> Decision
+    ensures { λ r. ⌜ r ≡ messageDecision (now (words .entry)) l at ⌝ }
 {
     let body = l.body;
     match message_for(body) {
         Meant::Request(q) => decide_request(words, l, q),
-        Meant::Record(message) => decide_record(words, l, message),
+        Meant::Record(message) => decide_record(words, l, at, message),
         Meant::NotHere => Decision::Refuse(3, Sends::Nothing),
     }
 }
 
-// The line's own row, of an act or the guard: 6, 7.
-fn decide_own(words: &[u64; WORDS], identifier: Words, row: Row) -> Decision
-    ensures { λ r. ⌜ r ≡ ownDecision (now (words .entry)) identifier row ⌝ }
+// The line's own row for the record of a place: 7.
+fn decide_held(words: &[u64; WORDS], place: usize, row: Row) -> Decision
+    ensures { λ r. ⌜ r ≡ heldDecision (now (words .entry)) place row ⌝ }
 {
-    let Found::At(place) = find_meant(words, identifier) else {
-        return Decision::Refuse(6, Sends::Nothing);
-    };
     let r = load(words, place);
     if holds_for(row, r) {
         return Decision::Take(place, row);
     }
     Decision::Refuse(7, Sends::Nothing)
+}
+
+// The line's own row, of an act or the guard: 6, 7.
+fn decide_own(words: &[u64; WORDS], name: Name, row: Row) -> Decision
+    ensures { λ r. ⌜ r ≡ ownDecision (now (words .entry)) name row ⌝ }
+{
+    match find_named(words, name) {
+        Means::Nothing => Decision::Refuse(6, Sends::Nothing),
+        Means::NotNow => Decision::Refuse(7, Sends::Nothing),
+        Means::At(place) => decide_held(words, place, row),
+    }
 }
 
 // A line report: 10.
@@ -227,12 +247,12 @@ pub fn decide(words: &[u64; WORDS], input: Input) -> Decision
     ensures { λ r. ⌜ r ≡ decided (now (words .entry)) input ⌝ }
 {
     match input {
-        Input::Message(l) => decide_message(words, l),
-        Input::Act(identifier, act) => {
+        Input::Message(l, at) => decide_message(words, l, at),
+        Input::Act(name, act) => {
             let row = row_of_act(act);
-            decide_own(words, identifier, row)
+            decide_own(words, name, row)
         }
-        Input::Guard(identifier) => decide_own(words, identifier, Row::GuardRunsOut),
+        Input::Guard(name) => decide_own(words, name, Row::GuardRunsOut),
         Input::Report(number, busy) => decide_report(words, number, busy),
         Input::Look(number) => decide_look(words, number),
     }

@@ -1,6 +1,7 @@
 // What each input plans at the line desk, on words that are lent for reading: it is decided, and of the decision the change and the outcome are made, here and nowhere
 // else. For the faces of this desk; no public operations.
 use crate::decide::decide;
+use desk::letter::Identifier;
 use desk::outcome::Sending;
 use desk::outcome::done;
 use desk::outcome::no_timers;
@@ -25,8 +26,10 @@ use line_table::record::refused_plan;
 use line_table::step::only_guard;
 use line_table::step::take_row;
 use line_table::table::State;
+use lists::Found;
 use lists::words::Words;
 use message::Body;
+use terms::elements_of;
 use terms::request::Names;
 use terms::request::Request;
 use terms::request::request_terms;
@@ -36,19 +39,19 @@ ghost use Rattle.line_plan.specs.Plan.{deniedPlan, newRecord, storedPlan
 pub mod decide;
 
 // A request that is not accepted: 1 short, 2 long. A completed step that stores nothing.
-fn denied_plan(identifier: Words, error: u8) -> Plan
+pub fn denied_plan(identifier: Identifier, error: u8) -> Plan
     ensures { λ r. ⌜ r ≡ deniedPlan identifier error ⌝ }
 {
     let sending = reply_with(identifier, Body::RequestError { error });
     let none = no_timers();
     Plan {
         change: Change::Stay,
-        outcome: done(sending, none, none),
+        outcome: done(sending, none, none, Found::Nothing),
     }
 }
 
 // The record of an accepted request: Invoked, marked active if its line is busy.
-fn new_record(words: &[u64; WORDS], names: Names, q: Request, busy: bool) -> Record
+pub fn new_record(words: &[u64; WORDS], names: Names, q: Request, busy: bool) -> Record
     ensures { λ r. ⌜ r ≡ newRecord (now (words .entry)) names q busy ⌝ }
 {
     let keep = keep_chosen(q.flags, desk_keeps(words));
@@ -64,18 +67,18 @@ fn new_record(words: &[u64; WORDS], names: Names, q: Request, busy: bool) -> Rec
 }
 
 // A record stored: the result is sent, the guard starts.
-fn stored_plan(place: usize, r: Record) -> Plan
+pub fn stored_plan(place: usize, r: Record) -> Plan
     ensures { λ q. ⌜ q ≡ storedPlan place r ⌝ }
 {
     let agreed = r.terms;
-    let identifier = agreed.identifier;
+    let elements = elements_of(agreed);
     let connection = agreed.connection;
     let keep = agreed.keep;
     let body = Body::RequestResult {
         keep: keep_sent(keep),
     };
-    let sending = sent_for(Sends::One(body), identifier, connection);
-    let outcome = done(sending, only_guard(), no_timers());
+    let sending = sent_for(Sends::One(body), elements, connection);
+    let outcome = done(sending, only_guard(), no_timers(), Found::At(place));
     Plan {
         change: Change::Put(place, r),
         outcome,
@@ -83,13 +86,13 @@ fn stored_plan(place: usize, r: Record) -> Plan
 }
 
 // A line report stored, of the line at a place, with its number.
-fn reported_plan(place: usize, number: Words, busy: bool) -> Plan
+pub fn reported_plan(place: usize, number: Words, busy: bool) -> Plan
     ensures { λ r. ⌜ r ≡ reportedPlan place number busy ⌝ }
 {
     let none = no_timers();
     Plan {
         change: Change::Report(place, number, busy),
-        outcome: done(Sending::Nothing, none, none),
+        outcome: done(Sending::Nothing, none, none, Found::Nothing),
     }
 }
 

@@ -2,3 +2,4 @@ pub mod RecordsLaws
 pub mod LinesLaws
 pub mod ChangeLaws
 pub mod SearchLaws
+pub mod MeaningLaws

@@ -14,9 +14,15 @@ use Rattle.lists.specs.Parts.{over}
 use Rattle.lists.specs.Words.{sameWords}
 use Rattle.lists.specs.declared.words.Words.{Words}
 use Rattle.lists.proofs.Choice.{pick-elim}
-use Rattle.store.specs.Rows.{stateWord, live, free, hasIdentifier, putRow, turnRow, dropRow, blankRow, rowsFit, found}
+use Rattle.store.specs.declared.For.{For}
+use Rattle.store.specs.Rows as Rows
+use Rattle.store.specs.Rows.{stateWord, live, free, hasIdentifier, fitsRow, putRow, turnRow, dropRow, blankRow, rowsFit, found, foundFitting, liveAt}
 use Rattle.store.proofs.RowsLaws.{fit-from}
-use Rattle.store.proofs.Decoded.{identified-live, free-live, decoded-length, decoded-at, decoded-past, decoded-found, decoded-put, decoded-turn, decoded-drop}
+use Rattle.store.proofs.Decoded.{identified-live, fits-live, free-live, decoded-length, decoded-at, decoded-past, decoded-found, decoded-oldest, decoded-live, decoded-put, decoded-turn, decoded-drop}
+use Rattle.message.specs.declared.Body.{Body}
+use Rattle.desk.specs.declared.letter.Letter.{Letter}
+use Rattle.terms.specs.Request.{letterNames}
+use Rattle.terms.specs.declared.request.Names.{Names}
 use Rattle.terms.specs.Terms as Terms
 use Rattle.terms.specs.Terms.{kindAt, termsOf}
 use Rattle.terms.proofs.CodesLaws.{flag-back}
@@ -30,6 +36,7 @@ use Rattle.line_table.specs.declared.record.Record.{Record}
 use Rattle.line_table.specs.declared.record.Turned.{Turned}
 use Rattle.line_records.specs.Layout as Layout
 use Rattle.line_records.specs.Codes.{stateOf, stateCode}
+use Rattle.line_records.specs.Meaning.{isForAwait, statesFor, fitting, inStates, isFor, elementsMean}
 use Rattle.line_records.specs.Records.{recordOf, recordWords, turnedWords, blank, records, unused, identified, meant, place}
 
 -- ---- a record and its words: what is stored is read back, and nothing behind the row is read
@@ -96,6 +103,26 @@ identified-row : (identifier : Words) (row : List ℕ) → hasIdentifier Layout.
 unfolding recordOf termsOf
 identified-row identifier row = identified-live Layout.lastState identifier row (used (recordOf row)) (used-row row)
 
+fitting-row : (names : Names) (row : List ℕ) → fitsRow Layout.lastState names row ≡ fitting names (recordOf row)
+unfolding recordOf
+fitting-row names row = fits-live Layout.lastState names row (used (recordOf row)) (used-row row)
+
+-- Await by its word
+await-told : (w : ℕ) → eqb w 2 ≡ eqb (stateCode (stateOf w)) 2
+unfolding stateOf
+await-told w =
+    let P : State → Type 0 = λ s. eqb w 2 ≡ eqb (stateCode s) 2 in
+    pick-elim P (eqb w 1) (λ t. rw (eqb-true w 1 t)) (λ t1.
+    pick-elim P (eqb w 2) (λ t. rw (eqb-true w 2 t)) (λ t2.
+    pick-elim P (eqb w 3) (λ t. rw (eqb-true w 3 t)) (λ t3. t2)))
+
+for-row : (body : Body) (row : List ℕ) → Rows.isFor (statesFor body) row ≡ isFor body (recordOf row)
+unfolding Rows.isFor recordOf
+for-row body row =
+    pick-elim (λ (states : For). Rows.isFor states row ≡ inStates states (stateCode (stateOf (stateWord row)))) (isForAwait body)
+    (λ t. await-told (stateWord row))
+    (λ f. refl)
+
 unused-row : (row : List ℕ) → free Layout.lastState row ≡ unused (recordOf row)
 unused-row row = free-live Layout.lastState row (used (recordOf row)) (used-row row)
 
@@ -109,6 +136,19 @@ pub meant-rows :
 unfolding meant records
 meant-rows identifier words h =
     decoded-found Layout.width Layout.places recordOf (hasIdentifier Layout.lastState identifier) (identified identifier) (identified-row identifier) words (records-fit words h)
+
+pub fitting-rows :
+    (l : Letter) (words : List ℕ) → Layout.linesAt ≤ length words →
+    foundFitting (statesFor (l .body)) Layout.lastState (letterNames l) Layout.width Layout.places words ≡ elementsMean l (records words)
+unfolding elementsMean records
+fitting-rows l words h =
+    decoded-oldest Layout.width Layout.places recordOf (statesFor (l .body)) Layout.lastState (letterNames l) (fitting (letterNames l)) (isFor (l .body))
+    (fitting-row (letterNames l)) (for-row (l .body)) words (records-fit words h)
+
+pub live-rows :
+    (words : List ℕ) (i : ℕ) → Layout.linesAt ≤ length words → liveAt Layout.lastState Layout.width Layout.places words i ≡ used (getD (records words) i blank)
+unfolding records
+live-rows words i h = decoded-live Layout.width Layout.places recordOf Layout.lastState used used-row words i (records-fit words h)
 
 pub place-rows :
     (words : List ℕ) → Layout.linesAt ≤ length words → found (free Layout.lastState) Layout.width Layout.places words ≡ place (records words)

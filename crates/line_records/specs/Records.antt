@@ -6,10 +6,11 @@ use lib.ListN.{getD}
 use lib.Dec.{ltb, eqb}
 use Rattle.lists.specs.Choice.{pick}
 use Rattle.lists.specs.Lists.{both, first}
-use Rattle.lists.specs.Words.{sameWords}
 use Rattle.lists.specs.declared.Found.{Found}
 use Rattle.lists.specs.declared.words.Words.{Words}
 use Rattle.store.specs.Rows.{stateWord, rows, putRow, turnRow, dropRow}
+use Rattle.desk.specs.Letter.{sameIdentifier}
+use Rattle.desk.specs.declared.letter.Identifier.the-variants.{Is}
 use Rattle.terms.specs.Codes.{kindCode, flagCode}
 use Rattle.terms.specs.Terms.{kindAt, termsOf, termsWords}
 use Rattle.line_table.specs.Search.{used}
@@ -52,9 +53,9 @@ records words = map recordOf (rows width places words)
 abbrev pub unused : Record → Bool
 unused r = pick (used r) false true
 
--- which record is meant: the one in use with that identifier
+-- the record in use with that identifier
 abbrev pub identified : Words → Record → Bool
-identified identifier r = both (sameWords (r .terms .identifier) identifier) (used r)
+identified identifier r = both (sameIdentifier (r .terms .identifier) (Is identifier)) (used r)
 
 unfoldable pub meant : Words → List Record → Found
 meant identifier rs = first (identified identifier) rs

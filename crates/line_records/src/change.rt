@@ -56,7 +56,7 @@ fn store_status(words: &mut [u64; WORDS], k: usize, busy: bool)
 }
 
 // A report of the line at a place, with its number: its status, and the marks that busy sets.
-fn report_line(words: &mut [u64; WORDS], k: usize, number: Words, busy: bool)
+pub fn report_line(words: &mut [u64; WORDS], k: usize, number: Words, busy: bool)
     ensures { λ r. ⌜ now (words .exit) ≡ withReport (now (words .entry)) k number busy ⌝ }
 {
     store_status(words, k, busy);

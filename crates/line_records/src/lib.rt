@@ -3,6 +3,7 @@
 pub mod change;
 pub mod codes;
 pub mod lines;
+pub mod meaning;
 pub mod places;
 pub mod search;
 

@@ -1,4 +1,4 @@
-// The places of a line desk: a record is found, loaded, put, turned and removed, in words that the caller lends.
+// The places of a line desk: the first free one, and a record loaded, put, turned and removed, in words that the caller lends.
 use crate::ACTIVE_AT;
 use crate::DOWN_AT;
 use crate::LAST_STATE;
@@ -12,7 +12,6 @@ use crate::codes::state_of;
 use line_table::record::Record;
 use line_table::record::Turned;
 use lists::Found;
-use lists::words::Words;
 use terms::codes::flag_code;
 use terms::codes::kind_code;
 use terms::put_terms;
@@ -24,7 +23,7 @@ ghost use Rattle.lists.specs.Parts.{over};
 ghost use Rattle.store.specs.Rows.{putRow, turnRow};
 ghost use Rattle.terms.specs.Terms.{kindAt};
 ghost use Rattle.line_records.specs.Layout.{width, places, linesAt};
-ghost use Rattle.line_records.specs.Records.{recordOf, recordWords, turnedWords, blank, records, meant, place, putRecord, turnRecord, removed};
+ghost use Rattle.line_records.specs.Records.{recordOf, recordWords, turnedWords, blank, records, place, putRecord, turnRecord, removed};
 
 // The record of a row.
 fn record_of(row: &[u64]) -> Record
@@ -75,13 +74,6 @@ fn put_words(row: &mut [u64], r: Record)
             down: r.down,
         },
     );
-}
-
-// The place of the record in use with that identifier.
-pub fn find_meant(words: &[u64; WORDS], identifier: Words) -> Found
-    ensures { λ r. ⌜ r ≡ meant identifier (records (now (words .entry))) ⌝ }
-{
-    store::find(words, WIDTH, PLACES, identifier, LAST_STATE)
 }
 
 // The first place that is not used.

@@ -7,10 +7,10 @@ use crate::SUSPENDED_AT;
 use crate::WIDTH;
 use crate::WORDS;
 use crate::codes::state_of;
+use desk::letter::same_identifier;
 use line_table::search::Sought;
 use line_table::search::fits_kind;
 use line_table::search::in_use;
-use line_table::search::is_given;
 use line_table::search::is_invoked;
 use line_table::search::is_waiting;
 use line_table::table::State;
@@ -19,6 +19,7 @@ use lists::words::Words;
 use lists::words::same_words;
 use terms::identifier_at;
 use terms::kind_at;
+use terms::means::is_given;
 use terms::number_a_at;
 use terms::number_b_at;
 use terms::request::Names;
@@ -29,6 +30,7 @@ ghost use lib.ListN.{length, getD, drop};
 ghost use Rattle.lists.specs.Choice.{pick};
 ghost use Rattle.lists.specs.Lists.{first, count};
 ghost use Rattle.lists.specs.Words.{sameWords};
+ghost use Rattle.desk.specs.Letter.{sameIdentifier};
 ghost use Rattle.line_table.specs.Search.{ofLine, invokedOn, marks, blocks, fits, sameNumbers, duplicates, passes};
 ghost use Rattle.line_records.specs.Layout.{width, places, linesAt};
 ghost use Rattle.line_records.specs.Records.{recordOf, blank, records};
@@ -125,16 +127,16 @@ fn has_numbers(row: &[u64], numberA: Words, numberB: Words) -> bool
     false
 }
 
-// The identifier, or the two numbers, of a request.
+// The identifier, where both have one, or the two numbers, of a request.
 fn has_names(row: &[u64], names: Names) -> bool
     requires { ⌜ width ≤ length (now row) ⌝ }
-    ensures { λ q. ⌜ q ≡ pick (sameWords (recordOf (now (row .entry)) .terms .identifier) (names .identifier)) true (sameNumbers (names .numberA) (names .numberB) (recordOf (now (row .entry)))) ⌝ }
+    ensures { λ q. ⌜ q ≡ pick (sameIdentifier (recordOf (now (row .entry)) .terms .identifier) (names .identifier)) true (sameNumbers (names .numberA) (names .numberB) (recordOf (now (row .entry)))) ⌝ }
 {
     let own = identifier_at(row);
     let identifier = names.identifier;
     let numberA = names.numberA;
     let numberB = names.numberB;
-    if same_words(own, identifier) {
+    if same_identifier(own, identifier) {
         return true;
     }
     has_numbers(row, numberA, numberB)

@@ -1,4 +1,4 @@
--- A step about one request keeps a desk sound, by the laws of a list of places: a record that turns keeps its line, a new one finds fewer than 5 of its line, a removal takes from one line. So does a report: it keeps numbers, identifiers and states. The same for the order of acceptance, and for every other request.
+-- A step about one record keeps a desk sound, by the laws of a list of places: a record that turns keeps its line, a new one finds fewer than 5 of its line, a removal takes from one line. So does a report: it keeps numbers, identifiers and states. The same for the order of acceptance, and for every other record.
 use Prim.Native.Nat.{ℕ, zero, suc, _≤_, _<_}
 use mathlib.Core.Path.{_≡_, refl, sym, ap, _∙_, subst}
 use mathlib.Core.Bool.{Bool, true, false}
@@ -8,18 +8,18 @@ use native.Mathlib.Omega.{arith}
 use Rattle.lists.specs.Choice.{pick}
 use Rattle.lists.specs.Lists.{firstFrom, count}
 use Rattle.lists.specs.Words.{sameWords}
-use Rattle.lists.specs.declared.Found.the-variants.{At}
+use Rattle.lists.specs.declared.Found.{Found}
+use Rattle.lists.specs.declared.Found.the-variants.{At, Nothing}
 use Rattle.lists.specs.declared.words.Words.{Words}
 use Rattle.lists.proofs.Choice.{pick-elim}
 use Rattle.lists.proofs.WordsLaws.{same-words-true}
 use Rattle.places.specs.Places as P
-use Rattle.places.specs.Places.{Placed, placeIn, held, names, Queued, Moved}
+use Rattle.places.specs.Places.{Placed, placeIn, names, Queued, Moved, OthersStay}
 use Rattle.places.proofs.Staying.{place-inside, place-unused, at-map, change-placed}
 use Rattle.places.proofs.Moving.{moved-placed, moved-each, moved-order, moved-others}
 use Rattle.places.proofs.Ordering.{names-change}
 use Rattle.places.proofs.Counting.{stored-filled, stored-same, stored-without, stored-change}
 use Rattle.terms.specs.declared.Terms.{Terms}
-use Rattle.line_table.specs.Inputs.{namesOf}
 use Rattle.line_table.specs.Line.{withStatus}
 use Rattle.line_table.specs.Search.{used, ofLine, marks}
 use Rattle.line_table.specs.declared.line.Line.{Line}
@@ -35,7 +35,7 @@ use Rattle.line_records.specs.Lines.{noLine, lines, hasNumber, lineAt}
 use Rattle.line_records.specs.Change.{applied, marking, recordsAfter, linesAfter}
 use Rattle.line_plan.specs.Decide.{lineMost}
 use Rattle.line_records.proofs.ChangeLaws.{applied-length, records-applied, lines-applied}
-use Rattle.line_sound.specs.Sound.{lineView, Whole, Sound, NamesRequest}
+use Rattle.line_sound.specs.Sound.{lineView, Whole, Sound, NoReport}
 use Rattle.line_sound.proofs.Starting.{ofLineView, blank-of-line, Apart}
 
 -- ---- a desk's records and lines
@@ -61,7 +61,7 @@ of-line-same number a b u e = rw (u, e)
 of-line-unused : (number : Words) (r : Record) → used r ≡ false → ofLine number r ≡ false
 of-line-unused number r f = rw f
 
--- ---- a step about one request
+-- ---- a step about the record of one place, or about none
 -- a record keeps its line where it turns, and a new one finds fewer than 5 of its line
 pub record Turned (ls : List Line) (a b : Record) : Type 0 where
   pub numberB : b .terms .numberB ≡ a .terms .numberB
@@ -71,8 +71,8 @@ pub record Added (rs : List Record) (ls : List Line) (r : Record) : Type 0 where
   pub few : count (ofLine (r .terms .numberB)) rs < lineMost
   pub whole : Whole ls r
 
-abbrev pub Moves : List Record → List Line → Words → List Record → Type 0
-Moves rs ls identifier after = Moved lineView (Turned ls) (Added rs ls) identifier rs after
+abbrev pub Moves : List Record → List Line → Found → List Record → Type 0
+Moves rs ls about after = Moved lineView (Turned ls) (Added rs ls) about rs after
 
 module _ (rs : List Record) (ls : List Line) (five : (number : Words) → count (ofLine number) rs ≤ lineMost) where
   added-five :
@@ -93,19 +93,19 @@ module _ (rs : List Record) (ls : List Line) (five : (number : Words) → count 
           let other : ofLine number r ≡ false = rw (is, f) in
           omega (arith, stored-same (ofLineView number) rs i r (other ∙ sym before), five number)
 
-  moved-five : {identifier : Words} {after : List Record} → Moves rs ls identifier after → (number : Words) → count (ofLine number) after ≤ lineMost
-  moved-five (P.stays e) number = rw e (five number)
-  moved-five (P.turns i r was its is own turn e) number =
+  moved-five : {about : Found} {after : List Record} → Moves rs ls about after → (number : Words) → count (ofLine number) after ≤ lineMost
+  moved-five (P.stays here e) number = rw e (five number)
+  moved-five (P.turns i r here was is own turn e) number =
       rw e
       (omega (
         arith,
         stored-same (ofLineView number) rs i r (of-line-same number r (getD rs i blank) (is ∙ sym was) (turn .numberB)),
         five number,
       ))
-  moved-five (P.stores i r free new is own added e) number = rw e (added-five i r free is (added .few) number)
-  moved-five (P.removes i was its e) number = rw e (omega (arith, stored-without (ofLineView number) rs i (blank-of-line number), five number))
+  moved-five (P.stores i r here free new is added e) number = rw e (added-five i r free is (added .few) number)
+  moved-five (P.removes i here was e) number = rw e (omega (arith, stored-without (ofLineView number) rs i (blank-of-line number), five number))
 
-moved-parts : {rs : List Record} {ls : List Line} {identifier : Words} {after : List Record} → Parts rs ls → Moves rs ls identifier after → Parts after ls
+moved-parts : {rs : List Record} {ls : List Line} {about : Found} {after : List Record} → Parts rs ls → Moves rs ls about after → Parts after ls
 moved-parts {rs} {ls} parts moves =
     record {
       placed = moved-placed lineView (parts .placed) moves;
@@ -164,7 +164,7 @@ marking-terms number r = pick-elim (λ (x : Record). x .terms ≡ r .terms) (mar
 pub marking-name : (number : Words) (r : Record) → marking number r .terms .identifier ≡ r .terms .identifier
 marking-name number r = ap (λ (t : Terms). t .identifier) (marking-terms number r)
 
-marking-blank : (number : Words) → marking number blank ≡ blank
+pub marking-blank : (number : Words) → marking number blank ≡ blank
 unfolding recordOf stateOf
 marking-blank number = refl
 
@@ -198,29 +198,19 @@ report-parts rs ls k number busy parts =
     status-parts (pick busy (map (marking number) rs) rs) ls k busy
     (pick-elim (λ (x : List Record). Parts x ls) busy (λ t. marked-parts number rs ls parts) (λ f. parts))
 
--- ---- what a change makes of a desk
-pub data Goes (ws : List ℕ) : Input → Change → Type 0 where
-  -- about the request that the input names
-  named :
-      {input : Input} {c : Change} → linesAfter (lines ws) c ≡ lines ws → Moves (records ws) (lines ws) (namesOf input .identifier) (recordsAfter (records ws) c) →
-      Goes ws input c
-  -- about the request that a Look offers
-  offered :
-      {number : Words} {c : Change} (identifier : Words) → linesAfter (lines ws) c ≡ lines ws → Moves (records ws) (lines ws) identifier (recordsAfter (records ws) c) →
-      Goes ws (Input.Look number) c
-  reported : (k : ℕ) (number : Words) (busy : Bool) → Goes ws (Input.Report number busy) (Report k number busy)
+-- ---- what a change makes of a desk, with the place that the outcome tells
+pub data Goes (ws : List ℕ) : Input → Found → Change → Type 0 where
+  -- about the record of one place, or about none
+  moved :
+      {input : Input} {about : Found} {c : Change} → linesAfter (lines ws) c ≡ lines ws → Moves (records ws) (lines ws) about (recordsAfter (records ws) c) →
+      Goes ws input about c
+  reported : (k : ℕ) (number : Words) (busy : Bool) → Goes ws (Input.Report number busy) Nothing (Report k number busy)
 
 module _ (ws : List ℕ) (sound : Sound ws) where
-  moves-sound :
-      (c : Change) {identifier : Words} → linesAfter (lines ws) c ≡ lines ws → Moves (records ws) (lines ws) identifier (recordsAfter (records ws) c) →
-      Sound (applied ws c)
-  moves-sound c same moves =
+  pub goes-sound : {input : Input} {about : Found} {c : Change} → Goes ws input about c → Sound (applied ws c)
+  goes-sound {c = c} (moved same moves) =
       sound-of (applied ws c) (applied-length ws c (sound .full)) (records-applied ws c (sound .full)) (lines-applied ws c (sound .full) ∙ same)
       (moved-parts (parts-of ws sound) moves)
-
-  pub goes-sound : {input : Input} {c : Change} → Goes ws input c → Sound (applied ws c)
-  goes-sound {c = c} (named same moves) = moves-sound c same moves
-  goes-sound {c = c} (offered identifier same moves) = moves-sound c same moves
   goes-sound (reported k number busy) =
       sound-of (applied ws (Report k number busy)) (applied-length ws (Report k number busy) (sound .full))
       (records-applied ws (Report k number busy) (sound .full)) (lines-applied ws (Report k number busy) (sound .full))
@@ -230,9 +220,8 @@ module _ (ws : List ℕ) (sound : Sound ws) where
   abbrev Ordered : List Record → Type 0
   Ordered after = Queued (names lineView (records ws)) (names lineView after)
 
-  pub goes-order : {input : Input} {c : Change} → Goes ws input c → Ordered (records (applied ws c))
-  goes-order {c = c} (named same moves) = subst Ordered (sym (records-applied ws c (sound .full))) (moved-order lineView (sound .placed) moves)
-  goes-order {c = c} (offered identifier same moves) = subst Ordered (sym (records-applied ws c (sound .full))) (moved-order lineView (sound .placed) moves)
+  pub goes-order : {input : Input} {about : Found} {c : Change} → Goes ws input about c → Ordered (records (applied ws c))
+  goes-order {c = c} (moved same moves) = subst Ordered (sym (records-applied ws c (sound .full))) (moved-order lineView (sound .placed) moves)
   goes-order (reported k number busy) =
       subst Ordered (sym (records-applied ws (Report k number busy) (sound .full)))
       (pick-elim Ordered busy
@@ -241,11 +230,9 @@ module _ (ws : List ℕ) (sound : Sound ws) where
       (sym (names-change lineView (records ws) (marking number) (marking-used number) (marking-name number))) P.same)
       (λ f. P.same))
 
-  -- ---- every other request
+  -- ---- every other record
   pub goes-others :
-      {input : Input} {c : Change} → Goes ws input c → NamesRequest input → (other : Words) → (namesOf input .identifier ≡ other → ⊥) →
-      held lineView other (records (applied ws c)) ≡ held lineView other (records ws)
-  goes-others {c = c} (named same moves) request other n =
-      ap (held lineView other) (records-applied ws c (sound .full)) ∙ moved-others lineView (sound .placed) moves other n
-  goes-others (offered identifier same moves) request other n = absurd request
-  goes-others (reported k number busy) request other n = absurd request
+      {input : Input} {about : Found} {c : Change} → Goes ws input about c → NoReport input → OthersStay lineView about (records ws) (records (applied ws c))
+  goes-others {about = about} {c = c} (moved same moves) silent =
+      subst (OthersStay lineView about (records ws)) (sym (records-applied ws c (sound .full))) (moved-others lineView moves)
+  goes-others (reported k number busy) silent = absurd silent

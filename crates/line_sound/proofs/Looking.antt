@@ -61,7 +61,9 @@ none-found p rs none = by (first p rs) refl
 -- ---- a Look that is not refused
 module _ (d : Desk) (number : Words) (full : length (d .words) ≡ Layout.words) where
   abbrev Tells : Decision → Type 0
-  Tells decision = planOf (d .words) (Input.Look number) decision .outcome .refusal ≡ 0 → Offered d number (made d (planOf (d .words) (Input.Look number) decision) .desk)
+  Tells decision =
+      planOf (d .words) (Input.Look number) decision .outcome .refusal ≡ 0 →
+      Offered d number (made d (planOf (d .words) (Input.Look number) decision) .desk) (planOf (d .words) (Input.Look number) decision .outcome .at)
 
   module _ (k : ℕ) (its : lineAt number (lines (d .words)) ≡ At k) (free : canTake (getD (lines (d .words)) k noLine) ≡ true) where
     tells-fitting :
@@ -73,6 +75,7 @@ module _ (d : Desk) (number : Words) (full : length (d .words) ≡ Layout.words)
         let t : Turned = record { kind = recordAt d i .terms .kind; state = Await; active = recordAt d i .active; suspended = recordAt d i .suspended; down = recordAt d i .down } in
         record {
           place = i;
+          at = refl;
           line = k;
           its = its;
           free = free;
@@ -97,7 +100,7 @@ module _ (d : Desk) (number : Words) (full : length (d .words) ≡ Layout.words)
       (λ t. tells-blocking k e t (first (passes (Blocking number)) (records (d .words))) refl)
       (λ f zero. absurd (omega (arith, zero)))
 
-  look-offers : step d (Input.Look number) .outcome .refusal ≡ 0 → Offered d number (step d (Input.Look number) .desk)
+  look-offers : step d (Input.Look number) .outcome .refusal ≡ 0 → Offered d number (step d (Input.Look number) .desk) (step d (Input.Look number) .outcome .at)
   unfolding step planFor decided lookDecision
   look-offers = tells-found (lineAt number (lines (d .words))) refl
 

@@ -6,18 +6,20 @@ use mathlib.Core.List.{List}
 use lib.ListN.{take, drop}
 use lib.Dec.{eqb}
 use native.Mathlib.Omega.{arith}
+use Rattle.lists.specs.Choice.{pick}
 use Rattle.lists.specs.Words.{Bytes}
 use Rattle.lists.specs.declared.Found.the-variants.{Nothing}
 use Rattle.lists.proofs.Choice.{no-true, pick-elim}
 use Rattle.lists.proofs.WordsLaws.{bytes-take, bytes-drop}
 use Rattle.message.specs.Reading.{Read, took, refused}
 use Rattle.message.specs.Number.{fieldAt}
-use Rattle.message.specs.Format.{requestInRange, fieldsInRange, inRange}
-use Rattle.message.specs.Wire.{carrierOf, identifierAt, fieldsAt, between, messageWith, behindHead, messageAt}
+use Rattle.message.specs.Format.{hasElements, requestInRange, fieldsInRange, elementsInRange, inRange}
+use Rattle.message.specs.Wire.{carrierOf, identifiedAt, identifierAt, fieldsAt, between, messageWith, behindIdentified, behindHead, messageAt}
 use Rattle.message.specs.declared.Carrier.{Carrier}
 use Rattle.message.specs.declared.Body.{Body}
 use Rattle.message.specs.declared.Body.the-variants.{CcbsRequest, CcnrRequest, RequestResult, RequestError, CcExecPossible, CcRingout, RingoutError, CcSuspend, CcResume, CcCancel, CallAlerts, CallFailed}
 use Rattle.message.specs.declared.Fault.{Fault}
+use Rattle.message.specs.declared.Service.{Service}
 use Rattle.message.specs.declared.Message.{Message}
 use Rattle.message.proofs.Reading.{never-took, then-elim}
 use Rattle.message.proofs.RangeLaws.{RequestRanged, request-ranged}
@@ -74,22 +76,22 @@ no-request : {q : Request} → Meant.NotHere ≡ Meant.Request q → ⊥
 no-request e = let z : _≡_ {A = ℕ} 0 1 = cc in omega arith
 
 request-fields :
-    (a b : List ℕ) (body : Body) (q : Request) → messageFor body ≡ Meant.Request q → fieldsInRange a b body ≡ true →
-    requestInRange a b (q .service) (q .flags) ≡ true
-request-fields a b (CcbsRequest service flags) q e h =
+    (a b : List ℕ) (service : Service) (carrier : Carrier) (body : Body) (q : Request) → messageFor body ≡ Meant.Request q →
+    pick (hasElements body carrier) (elementsInRange a b service) (fieldsInRange a b body) ≡ true → requestInRange a b (q .service) (q .flags) ≡ true
+request-fields a b s c (CcbsRequest flags service) q e h =
     subst (λ (x : Request). requestInRange a b (x .service) (x .flags) ≡ true) (same-request _ q e) h
-request-fields a b (CcnrRequest service flags) q e h =
+request-fields a b s c (CcnrRequest flags service) q e h =
     subst (λ (x : Request). requestInRange a b (x .service) (x .flags) ≡ true) (same-request _ q e) h
-request-fields a b (RequestResult keep) q e h = absurd (no-request e)
-request-fields a b (RequestError error) q e h = absurd (no-request e)
-request-fields a b CcExecPossible q e h = absurd (no-request e)
-request-fields a b CcRingout q e h = absurd (let z : _≡_ {A = ℕ} 0 1 = cc in omega arith)
-request-fields a b (RingoutError error) q e h = absurd (no-request e)
-request-fields a b CcSuspend q e h = absurd (let z : _≡_ {A = ℕ} 0 1 = cc in omega arith)
-request-fields a b CcResume q e h = absurd (let z : _≡_ {A = ℕ} 0 1 = cc in omega arith)
-request-fields a b CcCancel q e h = absurd (let z : _≡_ {A = ℕ} 0 1 = cc in omega arith)
-request-fields a b CallAlerts q e h = absurd (no-request e)
-request-fields a b CallFailed q e h = absurd (no-request e)
+request-fields a b s c (RequestResult keep) q e h = absurd (no-request e)
+request-fields a b s c (RequestError error) q e h = absurd (no-request e)
+request-fields a b s c CcExecPossible q e h = absurd (no-request e)
+request-fields a b s c CcRingout q e h = absurd (let z : _≡_ {A = ℕ} 0 1 = cc in omega arith)
+request-fields a b s c (RingoutError error) q e h = absurd (no-request e)
+request-fields a b s c CcSuspend q e h = absurd (let z : _≡_ {A = ℕ} 0 1 = cc in omega arith)
+request-fields a b s c CcResume q e h = absurd (let z : _≡_ {A = ℕ} 0 1 = cc in omega arith)
+request-fields a b s c CcCancel q e h = absurd (let z : _≡_ {A = ℕ} 0 1 = cc in omega arith)
+request-fields a b s c CallAlerts q e h = absurd (no-request e)
+request-fields a b s c CallFailed q e h = absurd (no-request e)
 
 -- a new record of a line is whole
 pub request-whole :
@@ -98,7 +100,7 @@ pub request-whole :
 unfolding inRange letterOf
 request-whole ws m typed ranged q e busy line =
     let r : RequestRanged (m .numberA) (m .numberB) (q .service) (q .flags) =
-    request-ranged (m .numberA) (m .numberB) (q .service) (q .flags) (request-fields (m .numberA) (m .numberB) (m .body) q e ranged) in
+    request-ranged (m .numberA) (m .numberB) (q .service) (q .flags) (request-fields (m .numberA) (m .numberB) (m .service) (m .carrier) (m .body) q e ranged) in
     record {
       agreed = record {
         keep = keep-chosen (q .flags) (keeps ws);
@@ -122,14 +124,19 @@ BytesRead r = (m : Message) (n : ℕ) → r ≡ took m n → Bytes (m .numberA) 
 not-read : (x : Fault) → BytesRead (refused x)
 not-read x m n e = absurd (never-took e)
 
+identified-bytes : (type : ℕ) (carrier : Carrier) (identified : Bool) (s : List ℕ) (at : ℕ) → Bytes s → BytesRead (behindIdentified type carrier identified s at)
+unfolding behindIdentified
+identified-bytes type carrier identified s at b =
+    then-elim BytesRead (identifierAt identified s at) _ not-read (λ identifier next ei.
+    then-elim BytesRead (fieldsAt type carrier s next) _ not-read (λ f behind ef.
+    λ m n e.
+    let q : messageWith carrier identified identifier s next f ≡ m = cc in
+    rw (← q) (between-bytes s next (f .behindA) b, between-bytes s (f .behindA) (f .behindB) b)))
+
 head-bytes : (type : ℕ) (carrier : Carrier) (s : List ℕ) (at : ℕ) → Bytes s → BytesRead (behindHead type carrier s at)
 unfolding behindHead
 head-bytes type carrier s at b =
-    then-elim BytesRead (identifierAt s at) _ not-read (λ identifier next ei.
-    then-elim BytesRead (fieldsAt type s next) _ not-read (λ f behind ef.
-    λ m n e.
-    let q : messageWith carrier identifier s next f ≡ m = cc in
-    rw (← q) (between-bytes s next (f .behindA) b, between-bytes s (f .behindA) (f .behindB) b)))
+    then-elim BytesRead (identifiedAt s at) _ not-read (λ identified next ei. identified-bytes type carrier identified s next b)
 
 read-bytes : (s : List ℕ) → Bytes s → BytesRead (messageAt s)
 unfolding messageAt

@@ -1,4 +1,4 @@
--- A fair input is decided well, so its step is about one request, or a report: every reached desk is sound, its records stand in the order of acceptance, and a step leaves every other request as it was.
+-- A fair input is decided well, so its step is about one record, or a report: every reached desk is sound, its records stand in the order of acceptance, and a step leaves every other record as it was.
 use Prim.Native.Nat.{ℕ}
 use mathlib.Core.Path.{_≡_, refl, subst}
 use mathlib.Core.Bool.{Bool, true, false}
@@ -35,23 +35,26 @@ use Rattle.line_sound.proofs.Decisions.{Good, goes-plan, good-own, good
 use Rattle.line_sound.proofs.Ranges.{request-whole, read-typed}
 
 -- ---- a fair input is decided well
-good-entry : (ws : List ℕ) (m : Message) → Typed m → (b : Bool) → inRange m ≡ b → {input : Input} → pick b (Given (Input.Message (letterOf m))) (Refused 2) ≡ Given input → Good ws input (decided ws input)
+good-entry :
+    (ws : List ℕ) (m : Message) (place : ℕ) → Typed m → (b : Bool) → inRange m ≡ b → {input : Input} →
+    pick b (Given (Input.Message (letterOf m) place)) (Refused 2) ≡ Given input → Good ws input (decided ws input)
 unfolding decided
-good-entry ws m typed true ranged {input} e =
-    let same : Input.Message (letterOf m) ≡ input = cc in
-    subst (λ (x : Input). Good ws x (decided ws x)) same (good-message ws (letterOf m) (request-whole ws m typed ranged))
-good-entry ws m typed false ranged e = absurd (let z : _≡_ {A = ℕ} 0 1 = cc in omega arith)
+good-entry ws m place typed true ranged {input} e =
+    let same : Input.Message (letterOf m) place ≡ input = cc in
+    subst (λ (x : Input). Good ws x (decided ws x)) same (good-message ws (letterOf m) place (request-whole ws m typed ranged))
+good-entry ws m place typed false ranged e = absurd (let z : _≡_ {A = ℕ} 0 1 = cc in omega arith)
 
 good-input : (ws : List ℕ) {input : Input} → Fair input → Good ws input (decided ws input)
 unfolding decided messageEntry
-good-input ws (hears m typed e) = good-entry ws m typed (inRange m) refl e
-good-input ws (acts identifier act) = good-own ws (Input.Act identifier act) (rowOfAct act)
-good-input ws (guards identifier) = good-own ws (Input.Guard identifier) GuardRunsOut
+good-input ws (hears m place typed e) = good-entry ws m place typed (inRange m) refl e
+good-input ws (acts name act) = good-own ws (Input.Act name act) name (rowOfAct act)
+good-input ws (guards name) = good-own ws (Input.Guard name) name GuardRunsOut
 good-input ws (reports number busy) = good-report ws number busy
 good-input ws (looks number) = good-look ws number
 
 -- ---- a step
-step-goes : (d : Desk) → Sound (d .words) → {input : Input} → Fair input → Goes (d .words) input (planFor (d .words) input .change)
+step-goes :
+    (d : Desk) → Sound (d .words) → {input : Input} → Fair input → Goes (d .words) input (planFor (d .words) input .outcome .at) (planFor (d .words) input .change)
 unfolding planFor
 step-goes d sound fair = goes-plan (d .words) sound (good-input (d .words) fair)
 
@@ -63,13 +66,13 @@ sound-step d sound fair = goes-sound (d .words) sound (step-goes d sound fair)
 abbrev pub FairEntry : Entry → Type 0
 FairEntry entry = (input : Input) → entry ≡ Given input → Fair input
 
-read-fair : (r : Read Message) → ((m : Message) (n : ℕ) → r ≡ took m n → Typed m) → FairEntry (readEntry r .entry)
-read-fair (took m next) typed = λ input e. hears m (typed m next refl) e
-read-fair (refused number) typed = λ input e. absurd (let z : _≡_ {A = ℕ} 0 1 = cc in omega arith)
+read-fair : (r : Read Message) (place : ℕ) → ((m : Message) (n : ℕ) → r ≡ took m n → Typed m) → FairEntry (readEntry r place .entry)
+read-fair (took m next) place typed = λ input e. hears m place (typed m next refl) e
+read-fair (refused number) place typed = λ input e. absurd (let z : _≡_ {A = ℕ} 0 1 = cc in omega arith)
 
-pub bytes-fair : (bytes : List ℕ) → Bytes bytes → FairEntry (bytesEntry bytes .entry)
+pub bytes-fair : (bytes : List ℕ) (place : ℕ) → Bytes bytes → FairEntry (bytesEntry bytes place .entry)
 unfolding bytesEntry
-bytes-fair bytes b = read-fair (messageAt bytes) (read-typed bytes b)
+bytes-fair bytes place b = read-fair (messageAt bytes) place (read-typed bytes b)
 
 sound-entered : (d : Desk) → Sound (d .words) → (entry : Entry) → FairEntry entry → Sound (entered d entry .desk .words)
 unfolding entered
@@ -81,7 +84,7 @@ sound-reached : {d : Desk} → Reached d → Sound (d .words)
 unfolding receivedBytes
 sound-reached (S.starts given keep retain b) = start-sound given keep retain
 sound-reached (S.steps {d} fair r) = sound-step d (sound-reached r) fair
-sound-reached (S.reads {d} bytes b r) = sound-entered d (sound-reached r) (bytesEntry bytes .entry) (bytes-fair bytes b)
+sound-reached (S.reads {d} bytes place b r) = sound-entered d (sound-reached r) (bytesEntry bytes place .entry) (bytes-fair bytes place b)
 
 pub reached-sound : ReachedSound
 reached-sound d r = sound-reached r
@@ -90,7 +93,8 @@ pub reached-most : ReachedMost
 reached-most d r = stored-most lineView (records (d .words)) Layout.places (records-length (d .words))
 
 -- what a reached desk's step is about
-pub reached-goes : (d : Desk) → Reached d → {input : Input} → Fair input → Goes (d .words) input (planFor (d .words) input .change)
+pub reached-goes :
+    (d : Desk) → Reached d → {input : Input} → Fair input → Goes (d .words) input (planFor (d .words) input .outcome .at) (planFor (d .words) input .change)
 reached-goes d reached fair = step-goes d (reached-sound d reached) fair
 
 -- a desk that is reached, after what comes in at the entry
@@ -99,10 +103,10 @@ unfolding entered
 reached-entered d reached (Refused number) fair = reached
 reached-entered d reached (Given input) fair = S.steps (fair input refl) reached
 
-pub reached-received : (d : Desk) → Reached d → (m : Message) → Typed m → Reached (received d m .desk)
-reached-received d reached m typed = reached-entered d reached (messageEntry m) (λ input e. hears m typed e)
+pub reached-received : (d : Desk) → Reached d → (m : Message) (place : ℕ) → Typed m → Reached (received d m place .desk)
+reached-received d reached m place typed = reached-entered d reached (messageEntry m place) (λ input e. hears m place typed e)
 
--- ---- the order of acceptance, and every other request
+-- ---- the order of acceptance, and every other record
 step-order : (d : Desk) → Reached d → {input : Input} → Fair input → InOrder d (step d input .desk)
 unfolding step
 step-order d reached fair = goes-order (d .words) (reached-sound d reached) (reached-goes d reached fair)
@@ -112,13 +116,13 @@ unfolding entered
 entered-order d reached (Refused number) fair = same
 entered-order d reached (Given input) fair = step-order d reached (fair input refl)
 
-bytes-order : (d : Desk) → Reached d → (bytes : List ℕ) → Bytes bytes → InOrder d (receivedBytes d bytes .desk)
+bytes-order : (d : Desk) → Reached d → (bytes : List ℕ) (place : ℕ) → Bytes bytes → InOrder d (receivedBytes d bytes place .desk)
 unfolding receivedBytes
-bytes-order d reached bytes b = entered-order d reached (bytesEntry bytes .entry) (bytes-fair bytes b)
+bytes-order d reached bytes place b = entered-order d reached (bytesEntry bytes place .entry) (bytes-fair bytes place b)
 
 pub order-of-acceptance : OrderOfAcceptance
 order-of-acceptance = record { steps = λ d reached input fair. step-order d reached fair; bytes = bytes-order }
 
 pub others-held : OthersHeld
 unfolding step
-others-held d reached input fair request other n = goes-others (d .words) (reached-sound d reached) (reached-goes d reached fair) request other n
+others-held d reached input fair silent = goes-others (d .words) (reached-sound d reached) (reached-goes d reached fair) silent

@@ -52,9 +52,9 @@ unfolding entered
 same-entered d (Refused number) = λ never. (refl, refl)
 same-entered d (Given input) = same-step d input
 
-same-bytes : (d : Desk) (bytes : List ℕ) → Same d (receivedBytes d bytes .desk) (receivedBytes d bytes .outcome)
+same-bytes : (d : Desk) (bytes : List ℕ) (place : ℕ) → Same d (receivedBytes d bytes place .desk) (receivedBytes d bytes place .outcome)
 unfolding receivedBytes
-same-bytes d bytes = same-entered d (bytesEntry bytes .entry)
+same-bytes d bytes place = same-entered d (bytesEntry bytes place .entry)
 
 -- ---- a start
 abbrev Blank : Stepped → Type 0

@@ -18,6 +18,7 @@ use Rattle.message.specs.Number.{digitsInRange}
 use Rattle.store.specs.Rows.{rows}
 use Rattle.desk.specs.Letter.{numberWords}
 use Rattle.desk.specs.Sends.{noNumber}
+use Rattle.desk.specs.declared.letter.Identifier.the-variants.{Is}
 use Rattle.places.specs.Places.{View}
 use Rattle.places.proofs.Staying.{set-elim, start-placed}
 use Rattle.places.proofs.Counting.{stored-none}
@@ -57,7 +58,7 @@ Apart ls = (k m : ℕ) → (getD ls k noLine .number ≡ noNumber → ⊥) → g
 
 -- a line, as a record of the places of lines
 abbrev placeOfLine : View Line
-placeOfLine = record { used = λ line. true; name = λ line. line .number; blank = noLine }
+placeOfLine = record { used = λ line. true; name = λ line. Is (line .number); blank = noLine }
 
 -- a number that is no line's, put at a place
 module _ (ls : List Line) (k : ℕ) (line : Line) (inside : k < length ls) (apart : Apart ls) (new : lineAt (line .number) ls ≡ Nothing) where

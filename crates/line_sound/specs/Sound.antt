@@ -7,6 +7,7 @@ use lib.ListN.{length, getD, set, replicate}
 use Rattle.lists.specs.Choice.{pick}
 use Rattle.lists.specs.Lists.{both, count}
 use Rattle.lists.specs.Words.{Bytes, bytesOf}
+use Rattle.lists.specs.declared.Found.{Found}
 use Rattle.lists.specs.declared.Found.the-variants.{At, Nothing}
 use Rattle.lists.specs.declared.words.Words.{Words}
 use Rattle.message.specs.Number.{digitsInRange}
@@ -17,10 +18,10 @@ use Rattle.desk.specs.declared.outcome.Outcome.{Outcome}
 use Rattle.desk.specs.declared.Connection.the-variants as Connection
 use Rattle.desk.specs.declared.Keep.the-variants as Keep
 use Rattle.terms.specs.declared.Terms.{Terms}
+use Rattle.terms.specs.declared.request.Name.{Name}
 use Rattle.terms.specs.declared.request.Names.{Names}
 use Rattle.terms.specs.declared.request.Request.{Request}
-use Rattle.places.specs.Places.{View, Placed, stored, held, names, Queued}
-use Rattle.line_table.specs.Inputs.{namesOf}
+use Rattle.places.specs.Places.{View, Placed, stored, names, Queued, OthersStay}
 use Rattle.line_table.specs.Line.{canTake, withStatus}
 use Rattle.line_table.specs.Record.{withState, withActivity, turned, activated}
 use Rattle.line_table.specs.Search.{used, ofLine, marks, blocks, fits}
@@ -55,13 +56,13 @@ lineView = record { used = used; name = λ r. r .terms .identifier; blank = blan
 abbrev pub recordAt : Desk → ℕ → Record
 recordAt d i = getD (records (d .words)) i blank
 
--- ---- a refusal leaves everything as it was: lines, status, settings, every place; and tells its number and perhaps a reply: no timer
+-- ---- a refusal leaves everything as it was: lines, status, settings, every place; and tells its number and perhaps a reply: no timer, no place
 abbrev pub Same : Desk → Desk → Outcome → Type 0
 Same before after outcome = (outcome .refusal ≡ 0 → ⊥) → (after ≡ before) × (outcome ≡ refusedWith (outcome .refusal) (outcome .sending))
 
 pub record RefusedSame : Type 0 where
   pub steps : (d : Desk) (entry : Entry) → Same d (entered d entry .desk) (entered d entry .outcome)
-  pub bytes : (d : Desk) (bytes : List ℕ) → Same d (receivedBytes d bytes .desk) (receivedBytes d bytes .outcome)
+  pub bytes : (d : Desk) (bytes : List ℕ) (place : ℕ) → Same d (receivedBytes d bytes place .desk) (receivedBytes d bytes place .outcome)
   -- no desk is made: the answer has one without lines
   pub starts :
       (given : List ℕ) (keep retain : Bool) → (started given keep retain .outcome .refusal ≡ 0 → ⊥) →
@@ -86,7 +87,7 @@ pub record Whole (ls : List Line) (r : Record) : Type 0 where
 
 pub record Sound (words : List ℕ) : Type 0 where
   pub full : length words ≡ Layout.words
-  -- used places come first, a free one is blank, identifiers all differ
+  -- used places come first, a free one is blank, identifiers all differ, of records that have one
   pub placed : Placed lineView (records words)
   pub each : (i : ℕ) → used (getD (records words) i blank) ≡ true → Whole (lines words) (getD (records words) i blank)
   -- at most 5 records a line
@@ -103,18 +104,18 @@ pub record Typed (m : Message) : Type 0 where
   pub lengthB : length (m .numberB) ≡ 16
   pub bytesB : Bytes (m .numberB)
 
--- an input that the entry makes of values of the code's types: a message in range; any identifier, and any number
+-- an input that the entry makes of values of the code's types: a message in range, with any place; any name, and any number
 pub data Fair : Input → Type 0 where
-  hears : {input : Input} (m : Message) → Typed m → messageEntry m ≡ Given input → Fair input
-  acts : (identifier : Words) (act : Act) → Fair (Input.Act identifier act)
-  guards : (identifier : Words) → Fair (Input.Guard identifier)
+  hears : {input : Input} (m : Message) (place : ℕ) → Typed m → messageEntry m place ≡ Given input → Fair input
+  acts : (name : Name) (act : Act) → Fair (Input.Act name act)
+  guards : (name : Name) → Fair (Input.Guard name)
   reports : (number : Words) (busy : Bool) → Fair (Input.Report number busy)
   looks : (number : Words) → Fair (Input.Look number)
 
 pub data Reached : Desk → Type 0 where
   starts : (given : List ℕ) (keep retain : Bool) → Bytes given → Reached (started given keep retain .desk)
   steps : {d : Desk} {input : Input} → Fair input → Reached d → Reached (step d input .desk)
-  reads : {d : Desk} (bytes : List ℕ) → Bytes bytes → Reached d → Reached (receivedBytes d bytes .desk)
+  reads : {d : Desk} (bytes : List ℕ) (place : ℕ) → Bytes bytes → Reached d → Reached (receivedBytes d bytes place .desk)
 
 abbrev pub ReachedSound : Type 0
 ReachedSound = (d : Desk) → Reached d → Sound (d .words)
@@ -128,20 +129,20 @@ InOrder before after = Queued (names lineView (records (before .words))) (names 
 
 pub record OrderOfAcceptance : Type 0 where
   pub steps : (d : Desk) → Reached d → (input : Input) → Fair input → InOrder d (step d input .desk)
-  pub bytes : (d : Desk) → Reached d → (bytes : List ℕ) → Bytes bytes → InOrder d (receivedBytes d bytes .desk)
+  pub bytes : (d : Desk) → Reached d → (bytes : List ℕ) (place : ℕ) → Bytes bytes → InOrder d (receivedBytes d bytes place .desk)
 
--- ---- a message, an act and the guard are about the request that they name: every other is held as before. A Look puts one record (`Offered`), a report marks some (`Reports`)
-abbrev pub NamesRequest : Input → Type 0
-NamesRequest (Input.Message l) = Unit
-NamesRequest (Input.Act identifier act) = Unit
-NamesRequest (Input.Guard identifier) = Unit
-NamesRequest (Input.Report number busy) = ⊥
-NamesRequest (Input.Look number) = ⊥
+-- ---- a step is about the record at the place that its outcome tells: every other stays, behind a removed one a place further to the front. A line report is about none, and marks some (`Reports`)
+abbrev pub NoReport : Input → Type 0
+NoReport (Input.Message l place) = Unit
+NoReport (Input.Act name act) = Unit
+NoReport (Input.Guard name) = Unit
+NoReport (Input.Report number busy) = ⊥
+NoReport (Input.Look number) = Unit
 
 abbrev pub OthersHeld : Type 0
 OthersHeld =
-    (d : Desk) → Reached d → (input : Input) → Fair input → NamesRequest input → (other : Words) → (namesOf input .identifier ≡ other → ⊥) →
-    held lineView other (records (step d input .desk .words)) ≡ held lineView other (records (d .words))
+    (d : Desk) → Reached d → (input : Input) → Fair input → NoReport input →
+    OthersStay lineView (step d input .outcome .at) (records (d .words)) (records (step d input .desk .words))
 
 -- ---- 5 against 6 on one line, 32 against 33 records: a request that is neither long nor a duplicate
 pub record Admitted : Type 0 where
@@ -158,8 +159,10 @@ pub record Admitted : Type 0 where
       countedDecision (d .words) asked q busy ≡ Deny 1
 
 -- ---- which record a Look offers, on every desk: the oldest of the line that fits
-pub record Offered (d : Desk) (number : Words) (after : Desk) : Type 0 where
+pub record Offered (d : Desk) (number : Words) (after : Desk) (told : Found) : Type 0 where
   pub place : ℕ
+  -- the outcome tells its place
+  pub at : told ≡ At place
   pub line : ℕ
   pub its : lineAt number (lines (d .words)) ≡ At line
   pub free : canTake (getD (lines (d .words)) line noLine) ≡ true
@@ -173,7 +176,7 @@ pub record Offered (d : Desk) (number : Words) (after : Desk) : Type 0 where
 pub record OldestOffered : Type 0 where
   pub offers :
       (d : Desk) (number : Words) → length (d .words) ≡ Layout.words → step d (Input.Look number) .outcome .refusal ≡ 0 →
-      Offered d number (step d (Input.Look number) .desk)
+      Offered d number (step d (Input.Look number) .desk) (step d (Input.Look number) .outcome .at)
   -- 11 only if the line is busy, a record of the line blocks it, or none fits
   pub nothing :
       (d : Desk) (number : Words) (k : ℕ) → lineAt number (lines (d .words)) ≡ At k → canTake (getD (lines (d .words)) k noLine) ≡ true →

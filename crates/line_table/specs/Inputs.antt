@@ -27,16 +27,16 @@ use Rattle.line_table.specs.declared.inputs.Meant.the-variants.{Request,
 
 -- ---- whom an input names
 abbrev pub namesOf : Input → Names
-namesOf (Input.Message l) = letterNames l
-namesOf (Input.Act identifier act) = onlyIdentifier identifier
-namesOf (Input.Guard identifier) = onlyIdentifier identifier
+namesOf (Input.Message l place) = letterNames l
+namesOf (Input.Act name act) = onlyIdentifier (name .identifier)
+namesOf (Input.Guard name) = onlyIdentifier (name .identifier)
 namesOf (Input.Report number busy) = onlyLine number
 namesOf (Input.Look number) = onlyLine number
 
 -- ---- messages: types 3, 4, 5, 7, 11 and 12 go to the clerk
 abbrev pub messageFor : Body → Meant
-messageFor (CcbsRequest service flags) = Request (record { kind = Ccbs; service = service; flags = flags })
-messageFor (CcnrRequest service flags) = Request (record { kind = Ccnr; service = service; flags = flags })
+messageFor (CcbsRequest flags service) = Request (record { kind = Ccbs; service = service; flags = flags })
+messageFor (CcnrRequest flags service) = Request (record { kind = Ccnr; service = service; flags = flags })
 messageFor (RequestResult keep) = NotHere
 messageFor (RequestError error) = NotHere
 messageFor CcExecPossible = NotHere
@@ -70,7 +70,7 @@ rowOfAct Act.CallFailed = CallFails
 rowOfAct Act.Cancel = LineCancels
 rowOfAct Act.Fell = Falls
 
--- ---- replies on 6 or 7, with the refused message's identifier: ringout error failureToMatch to a ccRingout, ccCancel to a ccResume (8.2.2.2)
+-- ---- replies on 6 or 7: ringout error failureToMatch to a ccRingout, ccCancel to a ccResume (8.2.2.2)
 abbrev pub replyMissed : RecordMessage → Sends
 replyMissed Suspend = Sends.Nothing
 replyMissed Resume = Sends.One CcCancel

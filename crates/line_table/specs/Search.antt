@@ -6,7 +6,8 @@ use Rattle.lists.specs.Words.{sameWords}
 use Rattle.lists.specs.declared.words.Words.{Words}
 use Rattle.message.specs.declared.Kind.{Kind}
 use Rattle.message.specs.declared.Kind.the-variants.{Ccbs, Ccnr}
-use Rattle.desk.specs.Sends.{noNumber}
+use Rattle.desk.specs.Letter.{sameIdentifier}
+use Rattle.terms.specs.Means.{given}
 use Rattle.terms.specs.declared.request.Names.{Names}
 use Rattle.line_table.specs.Table.{inUse}
 use Rattle.line_table.specs.declared.table.State.{State}
@@ -54,16 +55,13 @@ fitsKind Ccnr active = active
 abbrev pub fits : Words → Record → Bool
 fits number r = both (invokedOn number r) (fitsKind (r .terms .kind) (r .active))
 
--- ---- a duplicate has the identifier of a live record, or both numberA are given and equal and numberB is equal, either kind
-abbrev pub given : Words → Bool
-given number = not (sameWords number noNumber)
-
+-- ---- a duplicate has the identifier of a live record, where both have one, or both numberA are given and equal and numberB is equal, either kind
 abbrev pub sameNumbers : Words → Words → Record → Bool
 sameNumbers numberA numberB r = both (given (r .terms .numberA)) (both (sameWords (r .terms .numberA) numberA) (sameWords (r .terms .numberB) numberB))
 
 abbrev pub duplicates : Names → Record → Bool
 duplicates names r =
-    both (used r) (pick (sameWords (r .terms .identifier) (names .identifier)) true (sameNumbers (names .numberA) (names .numberB) r))
+    both (used r) (pick (sameIdentifier (r .terms .identifier) (names .identifier)) true (sameNumbers (names .numberA) (names .numberB) r))
 
 -- ---- what is looked for
 abbrev pub passes : Sought → Record → Bool

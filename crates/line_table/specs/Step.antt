@@ -1,11 +1,12 @@
--- A row of the line's table taken for a record: the change of the desk and the outcome that its effect means.
+-- A row of the line's table taken for a record: the change of the desk and the outcome that its effect means, which tells the record's place.
 use Prim.Native.Nat.{ℕ}
 use mathlib.Core.Bool.{Bool, true, false}
+use Rattle.lists.specs.declared.Found.the-variants.{At}
 use Rattle.desk.specs.Carriers.{sendsAs}
 use Rattle.desk.specs.Outcome.{noTimers, doneWith}
 use Rattle.desk.specs.Sends.{sent}
 use Rattle.desk.specs.declared.outcome.Timers.{Timers}
-use Rattle.terms.specs.Terms.{kindAfter}
+use Rattle.terms.specs.Terms.{kindAfter, elementsOf}
 use Rattle.line_table.specs.Table.{effectOf}
 use Rattle.line_table.specs.declared.table.State.{State}
 use Rattle.line_table.specs.declared.table.Row.{Row}
@@ -55,5 +56,5 @@ unfoldable pub rowTaken : ℕ → Record → Row → Plan
 rowTaken place r row =
     record {
       change = changed (effectOf row .next) (effectOf row) place r;
-      outcome = doneWith (sent (effectOf row .sends) (r .terms .identifier) (sendsAs (r .terms .connection) (r .down))) noTimers (stopped (effectOf row .next));
+      outcome = doneWith (sent (effectOf row .sends) (elementsOf (r .terms)) (sendsAs (r .terms .connection) (r .down))) noTimers (stopped (effectOf row .next)) (At place);
     }

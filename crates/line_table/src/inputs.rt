@@ -8,6 +8,7 @@ use desk::sends::Sends;
 use lists::words::Words;
 use message::Body;
 use message::Kind;
+use terms::request::Name;
 use terms::request::Names;
 use terms::request::Request;
 use terms::request::can_keep_sent;
@@ -25,11 +26,12 @@ pub enum Act {
     Fell,
 }
 
-// An input in range: a message; an act, and the guard reported, by the request's identifier; a line reported busy or free, and a Look at a line, by its number.
+// An input in range: a message, with the place that the host names for it; an act, and the guard reported, by the request's identifier or its record's place; a line
+// reported busy or free, and a Look at a line, by its number.
 pub enum Input {
-    Message(Letter),
-    Act(Words, Act),
-    Guard(Words),
+    Message(Letter, usize),
+    Act(Name, Act),
+    Guard(Name),
     Report(Words, bool),
     Look(Words),
 }
@@ -54,9 +56,15 @@ pub fn names_of(input: Input) -> Names
     ensures { λ r. ⌜ r ≡ namesOf input ⌝ }
 {
     match input {
-        Input::Message(l) => letter_names(l),
-        Input::Act(identifier, _) => only_identifier(identifier),
-        Input::Guard(identifier) => only_identifier(identifier),
+        Input::Message(l, _) => letter_names(l),
+        Input::Act(name, _) => {
+            let identifier = name.identifier;
+            only_identifier(identifier)
+        }
+        Input::Guard(name) => {
+            let identifier = name.identifier;
+            only_identifier(identifier)
+        }
         Input::Report(number, _) => only_line(number),
         Input::Look(number) => only_line(number),
     }

@@ -1,12 +1,11 @@
 // Which records a search is for: those that block a line, those that fit a Look, and those that a request would duplicate.
 use crate::table::State;
 use lists::words::Words;
-use lists::words::same_words;
 use message::Kind;
 use terms::request::Names;
 ghost use mathlib.Core.Path.{_≡_};
 ghost use Rattle.line_table.specs.Table.{inUse};
-ghost use Rattle.line_table.specs.Search.{waits, invoked, fitsKind, given};
+ghost use Rattle.line_table.specs.Search.{waits, invoked, fitsKind};
 
 // What is looked for: by a line's number, or by whom a request names.
 pub enum Sought {
@@ -56,12 +55,4 @@ pub fn fits_kind(kind: Kind, active: bool) -> bool
         Kind::Ccbs => true,
         Kind::Ccnr => active,
     }
-}
-
-// A number that is not withheld.
-pub fn is_given(number: Words) -> bool
-    ensures { λ r. ⌜ r ≡ given number ⌝ }
-{
-    let none = Words { low: 0, high: 0 };
-    !same_words(number, none)
 }

@@ -14,6 +14,8 @@ use desk::outcome::Timers;
 use desk::outcome::done;
 use desk::outcome::no_timers;
 use desk::sends::sent_for;
+use lists::Found;
+use terms::elements_of;
 use terms::kind_after;
 ghost use mathlib.Core.Path.{_≡_};
 ghost use Rattle.line_table.specs.Step.{guard, markedBy, turnedTo, changed, stopped, rowTaken};
@@ -95,12 +97,12 @@ pub fn take_row(place: usize, r: Record, row: Row) -> Plan
     let next = effect.next;
     let sends = effect.sends;
     let terms = r.terms;
-    let identifier = terms.identifier;
+    let elements = elements_of(terms);
     let chosen = terms.connection;
     let connection = sends_as(chosen, r.down);
     let change = changed_to(next, effect, place, r);
-    let sending = sent_for(sends, identifier, connection);
+    let sending = sent_for(sends, elements, connection);
     let stops = timers_stopped(next);
-    let outcome = done(sending, no_timers(), stops);
+    let outcome = done(sending, no_timers(), stops, Found::At(place));
     Plan { change, outcome }
 }

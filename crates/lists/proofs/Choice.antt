@@ -14,6 +14,11 @@ pub pick-elim : {A : Type 0} (P : A → Type 0) (b : Bool) {x y : A} → (b ≡ 
 pick-elim P true f g = f refl
 pick-elim P false f g = g refl
 
+-- what holds of two choices by one test
+pub pick-both : {A B : Type 0} (P : A → B → Type 0) (b : Bool) {x y : A} {v w : B} → (b ≡ true → P x v) → (b ≡ false → P y w) → P (pick b x y) (pick b v w)
+pick-both P true f g = f refl
+pick-both P false f g = g refl
+
 pub pick-cases : {A : Type 0} (b : Bool) (x y z : A) → pick b x y ≡ z → ((b ≡ true) × (x ≡ z)) ⊎ ((b ≡ false) × (y ≡ z))
 pick-cases true x y z e = inl (refl, e)
 pick-cases false x y z e = inr (refl, e)

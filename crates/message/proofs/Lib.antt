@@ -3,3 +3,4 @@ pub mod NumberLaws
 pub mod NumberBack
 pub mod RangeLaws
 pub mod CopiedLaws
+pub mod IdentifierLaws

@@ -13,7 +13,7 @@ use native.Mathlib.Nat.{not-suc-le-zero, add-zero}
 use native.Mathlib.Numerals.{add-one}
 use borrow.Author.Tests.{ltb-true, ltb-false, leb-false, eqb-false, le-ltb, lt-ltb, le-leb, lt-leb, ne-eqb}
 use Rattle.lists.specs.Choice.{pick}
-use Rattle.lists.proofs.Choice.{pick-elim, pick-cases, pick-then, pick-else}
+use Rattle.lists.proofs.Choice.{pick-elim, pick-both, pick-cases, pick-then, pick-else}
 use Rattle.lists.proofs.Parts.{at-in}
 use Rattle.message.specs.Reading.{Read, took, refused, andThen, wrongAt, endedIn}
 use Rattle.message.specs.Number.{numberAt, numberBytes, within, fieldAt, scanAt, digitsAt, isTaken}
@@ -43,7 +43,7 @@ number-shape s at v n e =
     )
 
 -- a number ends behind its place and within the bytes
-number-ends : (s : List ℕ) (at v n : ℕ) → numberAt s at ≡ took v n → (at < n) × (n ≤ length s)
+pub number-ends : (s : List ℕ) (at v n : ℕ) → numberAt s at ≡ took v n → (at < n) × (n ≤ length s)
 number-ends s at v n e = let h = number-shape s at v n e in ⊎-elim (λ p. omega arith) (λ p. omega arith) (h .1)
 
 -- ---- fields
@@ -77,11 +77,6 @@ unfolding fieldAt
 field-read s at low high v n e = field-by s at low high v n (numberAt s at) refl e
 
 -- ---- digits
--- what holds of two choices by one test
-pick-both : {A B : Type 0} (P : A → B → Type 0) (b : Bool) {x y : A} {v w : B} → (b ≡ true → P x v) → (b ≡ false → P y w) → P (pick b x y) (pick b v w)
-pick-both P true f g = f refl
-pick-both P false f g = g refl
-
 pub digits-step :
     (s : List ℕ) (at end : ℕ) → at < end →
     digitsEnd (end - at) s at ≡ pick (ltb 9 (getD s at 0)) at (digitsEnd (end - (at + 1)) s (at + 1))

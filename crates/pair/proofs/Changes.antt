@@ -1,59 +1,33 @@
--- A change of a desk's records that is about one identifier: what is held under it afterwards. It is said once for both desks, over any type of record, by the laws of places.
+-- A change of a desk's records about one place: what it leaves there. It is said once for both desks, over any type of record.
 use Prim.Native.Nat.{ℕ}
-use mathlib.Core.Path.{_≡_, refl, sym, ap, _∙_, subst}
+use mathlib.Core.Path.{_≡_, refl, sym, _∙_}
 use mathlib.Core.Bool.{Bool, true, false}
 use mathlib.Core.List.{List}
-use lib.ListN.{getD, set}
-use native.Mathlib.Omega.{arith}
+use lib.ListN.{set}
 use Rattle.lists.specs.Choice.{pick}
 use Rattle.lists.specs.Lists.{without}
+use Rattle.lists.specs.declared.Found.{Found}
 use Rattle.lists.specs.declared.Found.the-variants.{At, Nothing}
-use Rattle.lists.specs.declared.words.Words.{Words}
-use Rattle.places.specs.Places.{View, Placed, placeIn, meantIn, Held, none, one, held}
-use Rattle.places.proofs.Holding.{meant-its, held-found, held-put, held-add, held-remove}
+use Rattle.desk.specs.declared.sends.Elements.{Elements}
+use Rattle.places.specs.Places.{placeIn, Held, none, one}
+use Rattle.pair.specs.World.{Of, Touch, nothing, storing, turning, removing}
+use Rattle.pair.proofs.Sits.{Sight, view, there, Its, Did, stayed, turned, stored, removed}
 
--- a list after a change, and what it leaves under the identifier: nothing is changed; the record under it is turned, or removed; a new one is stored
-pub data Own {A : Type 0} (v : View A) (rs : List A) (j : Words) : List A → Held A → Type 0 where
-  stays : Own v rs j rs (held v j rs)
-  turns : (i : ℕ) (r : A) → meantIn v j rs ≡ At i → Own v rs j (set rs i r) (one r)
-  stores : (i : ℕ) (r : A) → placeIn v rs ≡ At i → meantIn v j rs ≡ Nothing → Own v rs j (set rs i r) (one r)
-  removes : (i : ℕ) → meantIn v j rs ≡ At i → Own v rs j (without (v .blank) rs i) none
+-- the place that it is about, what it touches, the list afterwards and what it leaves there: nothing is changed; the record is turned, or removed; a new one is stored
+pub data Own {A : Type 0} (v : Sight A) (rs : List A) : Found → Touch → List A → Held A → Type 0 where
+  stays : {f : Found} → Own v rs f nothing rs (there v rs f)
+  turns : (i : ℕ) (r : A) → Own v rs (At i) (turning i) (set rs i r) (one r)
+  stores : (i : ℕ) (r : A) → placeIn (view v) rs ≡ At i → Own v rs Nothing (storing i) (set rs i r) (one r)
+  removes : (i : ℕ) → Own v rs (At i) (removing i) (without (v .blank) rs i) none
 
--- the record that is found is the one held, so a turn of it is one of what is held
-pub turns-found :
-    {A : Type 0} (v : View A) (rs : List A) (j : Words) (i : ℕ) {r : A} (leaves : Held A → Held A) → meantIn v j rs ≡ At i →
-    leaves (one (getD rs i (v .blank))) ≡ one r → Own v rs j (set rs i r) (leaves (held v j rs))
-turns-found v rs j i {r} leaves e left =
-    subst (Own v rs j (set rs i r)) (sym (ap leaves (held-found v rs j i e) ∙ left)) (turns i r e)
-
--- what may be held under it: none, or a used record that has it
-abbrev pub Its : {A : Type 0} → View A → Words → Held A → Type 0
-Its v j none = Unit
-Its v j (one r) = (v .used r ≡ true) × (v .name r ≡ j)
-
-pub own-held :
-    {A : Type 0} (v : View A) (rs : List A) → Placed v rs → {j : Words} {after : List A} {left : Held A} → Own v rs j after left → Its v j left →
-    held v j after ≡ left
-own-held v rs placed stays its = refl
-own-held v rs placed {j} (turns i r e) its =
-    let was = meant-its v rs j i e in
-    ap (λ (x : Words). held v x (set rs i r)) (sym (its .1)) ∙ held-put v rs i r placed (was .0) (its .0) (its .1 ∙ sym (was .1))
-own-held v rs placed (stores i r e new) its =
-    ap (λ (x : Words). held v x (set rs i r)) (sym (its .1)) ∙ held-add v rs i r e (ap (λ (x : Words). meantIn v x rs) (its .1) ∙ new) (its .0)
-own-held v rs placed {j} (removes i e) its =
-    let was = meant-its v rs j i e in
-    ap (λ (x : Words). held v x (without (v .blank) rs i)) (sym (was .1)) ∙ held-remove v rs i placed (was .0)
-
--- ---- what is held is one record or none
-pub not-one : {A B : Type 0} {r : A} → none ≡ one r → B
-not-one e = let z : _≡_ {A = ℕ} 0 1 = cc in absurd (omega (arith, z))
-
-abbrev recordIn : {A : Type 0} → A → Held A → A
-recordIn other none = other
-recordIn other (one r) = r
-
-pub the-one : {A : Type 0} (q r : A) → one q ≡ one r → q ≡ r
-the-one q r e = ap (recordIn q) e
+-- with elements that what is there before and what is left has, and that came in
+pub own-did :
+    {A : Type 0} (v : Sight A) (rs : List A) (j : Elements) (given : Of Elements) {f : Found} {touch : Touch} {after : List A} {left : Held A} → Own v rs f touch after left →
+    Its v j (there v rs f) → Its v j left → ((i : ℕ) → touch ≡ storing i → given .it ≡ j) → Did v rs given f touch after left
+own-did v rs j given stays was is came = stayed
+own-did v rs j given (turns i r) was is came = turned i r (was .0) (is .0) (is .1 ∙ sym (was .1))
+own-did v rs j given (stores i r free) was is came = stored i r free (is .0) (is .1 ∙ sym (came i refl))
+own-did v rs j given (removes i) was is came = removed i (was .0)
 
 -- ---- a function of a choice
 pub pick-ap : {A B : Type 0} (f : A → B) (b : Bool) (x y : A) → f (pick b x y) ≡ pick b (f x) (f y)

@@ -1,189 +1,101 @@
 -- The five claims of demand 3: what holds of one request's net holds of the world that it is read from.
 use Prim.Native.Nat.{ℕ}
 use mathlib.Core.Path.{_≡_, refl, sym, _∙_, ap, subst}
-use mathlib.Core.Bool.{Bool, true, false, true≢false, false≢true}
+use mathlib.Core.Bool.{Bool, true, false, false≢true}
 use mathlib.Core.Logic.{_⊎_, inl, inr}
 use mathlib.Core.List.{List, [], _∷_, map}
 use native.Mathlib.Omega.{arith}
 use Rattle.lists.specs.Words.{Bytes}
-use Rattle.lists.specs.declared.words.Words.{Words}
-use Rattle.message.specs.Format.{requestBody}
 use Rattle.message.specs.declared.Kind.{Kind}
-use Rattle.message.specs.declared.Kind.the-variants.{Ccbs, Ccnr}
 use Rattle.message.specs.declared.Message.{Message}
 use Rattle.desk.specs.Letter.{messageOf}
+use Rattle.desk.specs.declared.sends.Elements.{Elements}
 use Rattle.places.specs.Places as P
 use Rattle.clerk.specs.Entry.{askFlags}
 use Rattle.clerk_table.specs.declared.record.Record as ClerkRecord
 use Rattle.line_table.specs.declared.record.Record as LineRecord
 use Rattle.pair_request.specs.Reading as R
 use Rattle.pair_request.specs.Listed as RL
-use Rattle.pair_request.proofs.Over.{Over}
-use Rattle.pair_request.proofs.Claims.{acked-was-accepted, TakesUp, accepts-by-request, both-hold-waiting, both-hold-live, quiet-pair, over-now, over-next}
-use Rattle.pair.specs.World.{World, Event, lineHears, clerkHolds, lineHolds, messagesOf, next, Allowed, Run, stop, then, startWorld, Reached, reached}
-use Rattle.pair.specs.Demand3.{Acknowledged, isRequest, Requests, Heads, Stores, Accepted, Agree, Listed, no-record, invoked, wait-answer, suspended, ringout, Quiet, NoRequest}
+use Rattle.pair_request.proofs.Over as O
+use Rattle.pair_request.proofs.Claims.{acked-was-accepted, TakesUp, accepts-by-request, both-hold-live, quiet-pair, over-now, over-next}
+use Rattle.pair.specs.World.{Of, Naming, World, Event, lineHears, lineHolds, messagesOf, next, Run, stop, then, startWorld, isRequest}
+use Rattle.pair.specs.Demand3.{Acknowledged, Requests, Heads, Stores, Accepted, Agree, Listed, no-record, invoked, wait-answer, suspended, ringout, Quiet, NoRequest, Over}
 use Rattle.pair.specs.Demand3.{AcknowledgedWasAccepted, DataAgree, KindAgrees, QuietListed, OverForGood, GoneForGood}
+use Rattle.pair.proofs.Keys.{Tells}
+use Rattle.pair.proofs.Sits.{not-one, the-one}
 use Rattle.pair.proofs.Ends.{waitingRecord, liveRecord, clerkRead, lineRead, lineRecord, messageRead, keepRead, connRead}
 use Rattle.pair.proofs.Wires.{messages-hit}
-use Rattle.pair.proofs.Changes.{not-one, the-one}
-use Rattle.pair.proofs.Notes.{told-false}
-use Rattle.pair.proofs.Sim.{Sim, Known, Good, Hearing}
-use Rattle.pair.proofs.Runs.{Follows, stays, moves, step-world, follows-reach, startPolicy, good-start, start-sim, known-start, run-good}
-
-pub known-world : (w : World) → Reached w → (p : R.Policy) × (Good p w × Known p w)
-known-world w (reached given keep retain b run) =
-    (startPolicy given keep retain, run-good run (good-start given keep retain b) (known-start given keep retain))
+use Rattle.pair.proofs.Notes.{knows-false}
+use Rattle.pair.proofs.Sim.{Good, Hearing}
+use Rattle.pair.proofs.LineSteps.{request-body, body-plain}
+use Rattle.pair.proofs.Runs.{Follows, stays, steps, Known, clerk-reads, line-reads, Fines, step-known, run-good, startPolicy, good-start, known-start, known-world}
 
 -- ---- 1. accepted first
 -- the head of the wire, which is the request's, is the request message that the net takes up
-request-body : (k : Kind) (service flags : ℕ) → isRequest (requestBody k service flags) ≡ true
-request-body Ccbs service flags = refl
-request-body Ccnr service flags = refl
-
 abbrev first : Message → List Message → Message
 first m [] = m
 first m (x ∷ xs) = x
 
-requests-head :
-    (j : Words) (d : R.Data) (kind : Kind) (q : ℕ) (left : List R.Msg) (ms : List Message) → Heads ms j →
-    messagesOf j ms ≡ map (messageRead j) (R.request d kind q ∷ left) → Requests ms j
-unfolding messageOf
-requests-head j d kind q left [] h e = h
-requests-head j d kind q left (m ∷ ms) h e =
-    let same : m ≡ messageRead j (R.request d kind q) = ap (first m) (sym (messages-hit j m ms h) ∙ e) in
-    (h, subst (λ (x : Message). isRequest (x .body) ≡ true) (sym same) (request-body kind (d .service) (askFlags (d .canKeep) q)))
-
--- a step by which the net was accepted: the line's end, which held nothing, heard the request and stored it
-stores-now :
-    {p : R.Policy} {w : World} {e : Event} {j : Words} {n m : R.Net} → Sim j w n → Sim j (next w e) m → TakesUp p n m →
-    (e ≡ lineHears) × Heads (w .up) j → Stores j w e
-stores-now {p} {w} {e} {j} {n} {m} sim after t h =
-    record {
-      heard = h .0;
-      request =
-          requests-head j (t .asked-data) (t .asked-kind) (t .preference) (t .rest) (w .up) (h .1)
-          (sim .up ∙ ap (map (messageRead j)) (t .under-way));
-      absent = sim .line ∙ ap (lineRead j (sim .active)) (t .held-none);
-      stored = lineRecord j (after .active) (R.termsOf p (t .asked-data) (t .preference)) (R.has (t .asked-kind) false) R.idle;
-      present = after .line ∙ ap (lineRead j (after .active)) (t .holds-now);
-    }
-
--- the net of a world at the end of a run, with how it came to be accepted
-abbrev Told : {first w : World} → R.Policy → Words → Run first w → Type 0
-Told {first} {w} p j run = (n : R.Net) × (R.Reach p n × (Sim j w n × (n .accepted ≡ true → Accepted j run)))
-
-accepted-step :
-    {p : R.Policy} {first w : World} {e : Event} {j : Words} {n m : R.Net} (run : Run first w) (once : Allowed w e) → R.Reach p n → Sim j w n → Sim j (next w e) m →
-    (n .accepted ≡ true → Accepted j run) → Follows p w e j n m → m .accepted ≡ true → Stores j w e ⊎ Accepted j run
-accepted-step run once r sim after before stays h = inr (before h)
-accepted-step {w} {e} {j} {n} run once r sim after before (moves x heard) h = go (n .accepted) refl
-  where
-    go : (b : Bool) → n .accepted ≡ b → Stores j w e ⊎ Accepted j run
-    go true q = inr (before q)
-    go false q =
-        let t = accepts-by-request x r q h in
-        inl (stores-now sim after (t .2) (subst (Hearing w e j) (t .1) heard))
-
-run-told :
-    (given : List ℕ) (keep retain : Bool) → Bytes given → {w : World} (run : Run (startWorld given keep retain) w) (j : Words) →
-    Told (startPolicy given keep retain) j run
-unfolding Accepted
-run-told given keep retain b stop j = (R.start, (R.begin, (start-sim given keep retain j, λ e. absurd (false≢true e))))
-run-told given keep retain b (then run e once) j =
-    let h = run-told given keep retain b run j in
-    let g = run-good run (good-start given keep retain b) (known-start given keep retain) in
-    let s = step-world (g .0) (g .1) e once j (h .0) (h .1 .0) (h .1 .1 .0) in
-    (s .0, (follows-reach (s .1 .0) (h .1 .0), (s .1 .1, accepted-step run once (h .1 .0) (h .1 .1 .0) (s .1 .1) (h .1 .1 .1) (s .1 .0))))
-
 -- an acknowledged record is read as a live one
 acknowledged-accepted :
-    {p : R.Policy} (n : R.Net) (j : Words) (c : ClerkRecord.Record) (k : R.Clerk) → R.Reach p n → n .clerk ≡ k → P.one c ≡ clerkRead j k → Acknowledged c → n .accepted ≡ true
+    {p : R.Policy} (n : R.Net) (j : Elements) (c : ClerkRecord.Record) (k : R.Clerk) → R.Reach p n → n .clerk ≡ k → P.one c ≡ clerkRead j k → Acknowledged c → n .accepted ≡ true
 acknowledged-accepted n j c R.absent r q e a = not-one (sym e)
 acknowledged-accepted n j c (R.waiting d kind) r q e a =
     absurd (a (ap (λ (x : ClerkRecord.Record). x .terms .connection) (the-one c (waitingRecord j d kind) e)))
 acknowledged-accepted n j c (R.live t own s) r q e a = acked-was-accepted t own s r q
 
-pub acknowledged-was-accepted : AcknowledgedWasAccepted
-acknowledged-was-accepted given keep retain b w run j c e a =
-    let h = run-told given keep retain b run j in
-    h .1 .1 .1 (acknowledged-accepted (h .0) j c (h .0 .clerk) (h .1 .0) refl (sym e ∙ h .1 .1 .0 .clerk) a)
-
 -- ---- 2. the data agree
 agree-waiting :
-    (j : Words) (active : Bool) (d : R.Data) (t : R.Terms) (kind : Kind) (own′ : R.Own) (s : R.LState) → d ≡ R.asked t →
-    Agree (waitingRecord j d kind) (lineRecord j active t own′ s)
-agree-waiting j active d t kind own′ s e =
+    (j : Elements) (active : Bool) (d : R.Data) (t : R.Terms) (kind : Kind) (own′ : R.Own) (s : R.LState) → Agree (waitingRecord j d kind) (lineRecord j active t own′ s)
+agree-waiting j active d t kind own′ s =
     record {
-      numberA = ap (λ (x : R.Data). x .numberA) e;
-      numberB = ap (λ (x : R.Data). x .numberB) e;
-      service = ap (λ (x : R.Data). x .service) e;
+      identifier = refl;
+      numberA = refl;
+      numberB = refl;
+      service = refl;
       keep = λ a. absurd (a refl);
       connection = λ a. absurd (a refl);
     }
 
 agree-live :
-    (j : Words) (active : Bool) (t t′ : R.Terms) (own own′ : R.Own) (x : R.CState) (y : R.LState) → t ≡ t′ →
+    (j : Elements) (active : Bool) (t t′ : R.Terms) (own own′ : R.Own) (x : R.CState) (y : R.LState) → t ≡ t′ →
     Agree (liveRecord j t own x) (lineRecord j active t′ own′ y)
 agree-live j active t t′ own own′ x y e =
     record {
-      numberA = ap (λ (z : R.Terms). R.asked z .numberA) e;
-      numberB = ap (λ (z : R.Terms). R.asked z .numberB) e;
-      service = ap (λ (z : R.Terms). R.asked z .service) e;
+      identifier = refl;
+      numberA = refl;
+      numberB = refl;
+      service = refl;
       keep = λ a. ap (λ (z : R.Terms). keepRead (R.keep z)) e;
       connection = λ a. ap (λ (z : R.Terms). connRead (R.conn z)) e;
     }
 
 agree-net :
-    {p : R.Policy} (n : R.Net) → R.Reach p n → (j : Words) (active : Bool) (c : ClerkRecord.Record) (l : LineRecord.Record) (k : R.Clerk) (m : R.Line) →
+    {p : R.Policy} (n : R.Net) → R.Reach p n → (j : Elements) (active : Bool) (c : ClerkRecord.Record) (l : LineRecord.Record) (k : R.Clerk) (m : R.Line) →
     n .clerk ≡ k → n .line ≡ m → P.one c ≡ clerkRead j k → P.one l ≡ lineRead j active m → Agree c l
 agree-net n r j active c l R.absent m q s e f = not-one (sym e)
 agree-net n r j active c l (R.waiting d kind) R.none q s e f = not-one (sym f)
 agree-net n r j active c l (R.waiting d kind) (R.holds t own′ y) q s e f =
     subst (λ a. Agree a l) (sym (the-one c (waitingRecord j d kind) e))
     (subst (λ b. Agree (waitingRecord j d kind) b) (sym (the-one l (lineRecord j active t own′ y) f))
-    (agree-waiting j active d t kind own′ y (both-hold-waiting d t kind own′ y r q s)))
+    (agree-waiting j active d t kind own′ y))
 agree-net n r j active c l (R.live t own x) R.none q s e f = not-one (sym f)
 agree-net n r j active c l (R.live t own x) (R.holds t′ own′ y) q s e f =
     subst (λ a. Agree a l) (sym (the-one c (liveRecord j t own x) e))
     (subst (λ b. Agree (liveRecord j t own x) b) (sym (the-one l (lineRecord j active t′ own′ y) f))
     (agree-live j active t t′ own own′ x y (both-hold-live t t′ own own′ x y r q s)))
 
-pub data-agree : DataAgree
-data-agree w reach j c l e f =
-    let k = known-world w reach .1 .1 j in
-    let sim = k .1 .1 in
-    agree-net (k .0) (k .1 .0) j (sim .active) c l (k .0 .clerk) (k .0 .line) refl refl (sym e ∙ sim .clerk) (sym f ∙ sim .line)
-
 -- ---- 3. quiet wires mean a listed pair
-listed-read : {c : R.Clerk} {l : R.Line} (j : Words) (active : Bool) → RL.Listed c l → Listed (clerkRead j c) (lineRead j active l)
+listed-read : {c : R.Clerk} {l : R.Line} (j : Elements) (active : Bool) → RL.Listed c l → Listed (clerkRead j c) (lineRead j active l)
 listed-read j active RL.no-record = no-record
 listed-read j active RL.invoked-invoked = invoked refl refl
 listed-read j active RL.answer-await = wait-answer refl refl
 listed-read j active RL.suspended-await = suspended refl refl refl
 listed-read j active RL.ringout-alert = ringout refl refl
 
-quiet-wire : (j : Words) (ms : List R.Msg) → map (messageRead j) ms ≡ [] → ms ≡ []
+quiet-wire : (j : Elements) (ms : List R.Msg) → map (messageRead j) ms ≡ [] → ms ≡ []
 quiet-wire j [] e = refl
 quiet-wire j (m ∷ ms) e = let z : _≡_ {A = ℕ} 0 1 = cc in absurd (omega (arith, z))
-
--- the reading of a request whose wires are quiet
-module _ (w : World) (reach : Reached w) (j : Words) (quiet : Quiet w j) where
-  abbrev n : R.Net
-  n = known-world w reach .1 .1 j .0
-
-  sim : Sim j w n
-  sim = known-world w reach .1 .1 j .1 .1
-
-  quiet-net : RL.Listed (n .clerk) (n .line)
-  quiet-net =
-      quiet-pair (known-world w reach .1 .1 j .1 .0) (told-false (n .dropped) (sim .dropped) (quiet .undropped)) (quiet-wire j (n .up) (sym (sim .up) ∙ quiet .up))
-      (quiet-wire j (n .down) (sym (sim .down) ∙ quiet .down))
-
-pub quiet-listed : QuietListed
-quiet-listed w reach j quiet =
-    let s = sim w reach j quiet in
-    subst (λ x. Listed x (lineHolds w j)) (sym (s .clerk))
-    (subst (λ x. Listed (clerkRead j (n w reach j quiet .clerk)) x) (sym (s .line)) (listed-read j (s .active) (quiet-net w reach j quiet)))
 
 -- a listed pair has one kind
 kind-same :
@@ -193,7 +105,7 @@ kind-same c l c′ l′ e f h =
     ap (λ (x : ClerkRecord.Record). x .terms .kind) (the-one c c′ e) ∙ h ∙ sym (ap (λ (x : LineRecord.Record). x .terms .kind) (the-one l l′ f))
 
 kind-read :
-    {a : R.Clerk} {b : R.Line} (j : Words) (active : Bool) (c : ClerkRecord.Record) (l : LineRecord.Record) → RL.Listed a b →
+    {a : R.Clerk} {b : R.Line} (j : Elements) (active : Bool) (c : ClerkRecord.Record) (l : LineRecord.Record) → RL.Listed a b →
     P.one c ≡ clerkRead j a → P.one l ≡ lineRead j active b → c .terms .kind ≡ l .terms .kind
 kind-read j active c l RL.no-record e f = not-one (sym e)
 kind-read j active c l RL.invoked-invoked e f = kind-same c l _ _ e f refl
@@ -201,82 +113,139 @@ kind-read j active c l RL.answer-await e f = kind-same c l _ _ e f refl
 kind-read j active c l RL.suspended-await e f = kind-same c l _ _ e f refl
 kind-read j active c l RL.ringout-alert e f = kind-same c l _ _ e f refl
 
-pub kind-agrees : KindAgrees
-kind-agrees w reach j quiet c l e f =
-    let s = sim w reach j quiet in
-    kind-read j (s .active) c l (quiet-net w reach j quiet) (sym e ∙ s .clerk) (sym f ∙ s .line)
-
 -- ---- 4. run-out timers mean nobody holds it
-follows-over : {p : R.Policy} {w : World} {e : Event} {j : Words} {n m : R.Net} → Follows p w e j n m → Over n → Over m
-follows-over stays h = h
-follows-over {p} (moves x heard) h = over-next p x h
-
-run-over :
-    {p : R.Policy} {first w : World} → Run first w → Good p first → Known p first → (j : Words) (n : R.Net) → R.Reach p n → Sim j first n → Over n →
-    (m : R.Net) × (R.Reach p m × (Sim j w m × Over m))
-run-over stop g known j n r sim h = (n, (r, (sim, h)))
-run-over (then run e once) g known j n r sim h =
-    let i = run-over run g known j n r sim h in
-    let here = run-good run g known in
-    let s = step-world (here .0) (here .1) e once j (i .0) (i .1 .0) (i .1 .1 .0) in
-    (s .0, (follows-reach (s .1 .0) (i .1 .0), (s .1 .1, follows-over (s .1 .0) (i .1 .1 .1))))
-
--- a request that is over is held by nobody, now and later
-stays-over :
-    (w : World) (reach : Reached w) (j : Words) → Over (known-world w reach .1 .1 j .0) →
-    (later : World) → Run w later → (clerkHolds later j ≡ P.none) × (lineHolds later j ≡ P.none)
-stays-over w reach j over later run =
-    let g = known-world w reach in
-    let k = g .1 .1 j in
-    let o = run-over run (g .1 .0) (g .1 .1) j (k .0) (k .1 .0) (k .1 .1) over in
-    let there = o .1 .1 .0 in
-    (there .clerk ∙ ap (clerkRead j) (o .1 .1 .1 .clerk-none), there .line ∙ ap (lineRead j (there .active)) (o .1 .1 .1 .line-none))
-
-pub over-for-good : OverForGood
-over-for-good w reach j t u none later run =
-    let k = known-world w reach .1 .1 j in
-    let sim = k .1 .1 in
-    stays-over w reach j (over-now (k .1 .0) (sim .timedOut .no t) (sim .guarded .no u)) later run
-
 -- nothing held is read as no record, and a wire without a request as one
-clerk-absent : (j : Words) (c : R.Clerk) → clerkRead j c ≡ P.none → c ≡ R.absent
+clerk-absent : (j : Elements) (c : R.Clerk) → clerkRead j c ≡ P.none → c ≡ R.absent
 clerk-absent j R.absent e = refl
 clerk-absent j (R.waiting d kind) e = not-one (sym e)
 clerk-absent j (R.live t own s) e = not-one (sym e)
 
-line-absent : (j : Words) (active : Bool) (l : R.Line) → lineRead j active l ≡ P.none → l ≡ R.none
+line-absent : (j : Elements) (active : Bool) (l : R.Line) → lineRead j active l ≡ P.none → l ≡ R.none
 line-absent j active R.none e = refl
 line-absent j active (R.holds t own s) e = not-one (sym e)
 
-plain-read : (j : Words) (m : R.Msg) → isRequest (messageRead j m .body) ≡ false → RL.NotReq m
-unfolding messageOf
-plain-read j (R.request d kind q) h = absurd (true≢false (sym (request-body kind (d .service) (askFlags (d .canKeep) q)) ∙ h))
-plain-read j (R.result k n) h = tt
-plain-read j (R.denied short) h = tt
-plain-read j (R.exec n) h = tt
-plain-read j R.ringout h = tt
-plain-read j R.busyAgain h = tt
-plain-read j R.noMatch h = tt
-plain-read j (R.suspend n) h = tt
-plain-read j (R.resume n) h = tt
-plain-read j (R.cancel n) h = tt
-plain-read j R.alerts h = tt
-plain-read j R.failed h = tt
-
-no-request : (j : Words) (ms : List R.Msg) → NoRequest (map (messageRead j) ms) → RL.NoReq ms
+no-request : (j : Elements) (ms : List R.Msg) → NoRequest (map (messageRead j) ms) → RL.NoReq ms
 no-request j [] h = tt
-no-request j (m ∷ ms) h = (plain-read j m (h .0), no-request j ms (h .1))
+no-request j (m ∷ ms) h = (body-plain j m (h .0), no-request j ms (h .1))
 
-pub gone-for-good : GoneForGood
-gone-for-good w reach j t c l none later run =
-    let k = known-world w reach .1 .1 j in
-    let n = k .0 in
-    let sim = k .1 .1 in
-    stays-over w reach j
-    (record {
-      was-used = sim .used .no t;
-      clerk-none = clerk-absent j (n .clerk) (sym (sim .clerk) ∙ c);
-      line-none = line-absent j (sim .active) (n .line) (sym (sim .line) ∙ l);
-      no-request = no-request j (n .up) (subst NoRequest (sim .up) none);
-    })
-    later run
+-- ---- of the world
+module _ {K : Type 0} {n : Naming K} (tells : Tells n) {Holds : K → World → Event → Type 0} (fines : Fines n Holds) where
+  requests-head :
+      (k : K) (j : Elements) (d : R.Data) (kind : Kind) (q : ℕ) (left : List R.Msg) (xs : List (Of Message)) → Heads n xs k →
+      messagesOf n k xs ≡ map (messageRead j) (R.request d kind q ∷ left) → Requests n xs k
+  unfolding messageOf
+  requests-head k j d kind q left [] h e = h
+  requests-head k j d kind q left (x ∷ xs) h e =
+      let same : x .it ≡ messageRead j (R.request d kind q) = ap (first (x .it)) (sym (messages-hit tells k x xs h) ∙ e) in
+      (h, subst (λ (m : Message). isRequest (m .body) ≡ true) (sym same) (request-body kind (j .service) (askFlags (d .canKeep) q)))
+
+  -- a step by which the net was accepted: the line's end, which held nothing, heard the request and stored it
+  stores-now :
+      {p : R.Policy} {w : World} {e : Event} {k : K} → Good p w → Good p (next w e) → (x : Known n (fines .Inv) k p w) (y : Known n (fines .Inv) k p (next w e)) → TakesUp p (x .net) (y .net) →
+      (place : ℕ) × ((e ≡ lineHears place) × Heads n (w .up) k) → Stores n k w e
+  stores-now {p} {w} {e} {k} g h x y t head =
+      record {
+        place = head .0;
+        heard = head .1 .0;
+        request =
+            requests-head k (x .sim .name) (t .asked-data) (t .asked-kind) (t .preference) (t .rest) (w .up) (head .1 .1)
+            (x .sim .up ∙ ap (map (messageRead (x .sim .name))) (t .under-way));
+        absent = line-reads tells g x ∙ ap (lineRead (x .sim .name) (x .sim .active)) (t .held-none);
+        stored = lineRecord (y .sim .name) (y .sim .active) (R.termsOf p (t .asked-data) (t .preference)) (R.has (t .asked-kind) false) R.idle;
+        present = line-reads tells h y ∙ ap (lineRead (y .sim .name) (y .sim .active)) (t .holds-now);
+      }
+
+  accepted-step :
+      {P : World → Event → Type 0} {p : R.Policy} {first w : World} {e : Event} {k : K} (run : Run P first w) → Good p w → Good p (next w e) →
+      (x : Known n (fines .Inv) k p w) (y : Known n (fines .Inv) k p (next w e)) → (x .net .accepted ≡ true → Accepted n k run) → {m : R.Net} → m ≡ y .net → Follows n p k w e (x .net) m → m .accepted ≡ true →
+      Stores n k w e ⊎ Accepted n k run
+  accepted-step run g h x y before same stays so = inr (before so)
+  accepted-step {p = p} {w = w} {e} {k} run g h x y before same (steps r heard) so = go (x .net .accepted) refl
+    where
+      go : (b : Bool) → x .net .accepted ≡ b → Stores n k w e ⊎ Accepted n k run
+      go true q = inr (before q)
+      go false q =
+          let t = accepts-by-request r (x .reach) q so in
+          inl (stores-now g h x y (subst (TakesUp p (x .net)) same (t .2)) (subst (Hearing n k w e) (t .1) heard))
+
+  run-told :
+      (given : List ℕ) (keep retain : Bool) → Bytes given → {k : K} {w : World} (run : Run (Holds k) (startWorld given keep retain) w) →
+      (x : Known n (fines .Inv) k (startPolicy given keep retain) w) × (x .net .accepted ≡ true → Accepted n k run)
+  unfolding Accepted
+  run-told given keep retain b {k} stop = (known-start tells fines k given keep retain, λ e. absurd (false≢true e))
+  run-told given keep retain b {k} (then run e allowed so) =
+      let h = run-told given keep retain b run in
+      let g = run-good run (good-start given keep retain b) in
+      let y = step-known tells fines g (h .0) e allowed so in
+      let after = run-good (then run e allowed so) (good-start given keep retain b) in
+      (y .0, λ q. accepted-step run g after (h .0) (y .0) (h .1) refl (y .1) q)
+
+  pub acknowledged-was-accepted : AcknowledgedWasAccepted n Holds
+  acknowledged-was-accepted k given keep retain b w run c e a =
+      let h = run-told given keep retain b run in
+      let x = h .0 in
+      let g = run-good run (good-start given keep retain b) in
+      h .1 (acknowledged-accepted (x .net) (x .sim .name) c (x .net .clerk) (x .reach) refl (sym e ∙ clerk-reads tells g x) a)
+
+  pub data-agree : DataAgree n Holds
+  data-agree k w reach c l e f =
+      let z = known-world tells fines k w reach in
+      let x = z .1 .1 in
+      agree-net (x .net) (x .reach) (x .sim .name) (x .sim .active) c l (x .net .clerk) (x .net .line) refl refl (sym e ∙ clerk-reads tells (z .1 .0) x) (sym f ∙ line-reads tells (z .1 .0) x)
+
+  quiet-net : {k : K} {p : R.Policy} {w : World} → (x : Known n (fines .Inv) k p w) → Quiet n k w → RL.Listed (x .net .clerk) (x .net .line)
+  quiet-net {k} x quiet =
+      quiet-pair (x .reach) (knows-false n k (x .net .dropped) (x .sim .dropped) (quiet .undropped)) (quiet-wire (x .sim .name) (x .net .up) (sym (x .sim .up) ∙ quiet .up))
+      (quiet-wire (x .sim .name) (x .net .down) (sym (x .sim .down) ∙ quiet .down))
+
+  pub quiet-listed : QuietListed n Holds
+  quiet-listed k w reach quiet =
+      let z = known-world tells fines k w reach in
+      let x = z .1 .1 in
+      subst (λ h. Listed h (lineHolds n w k)) (sym (clerk-reads tells (z .1 .0) x))
+      (subst (λ h. Listed (clerkRead (x .sim .name) (x .net .clerk)) h) (sym (line-reads tells (z .1 .0) x)) (listed-read (x .sim .name) (x .sim .active) (quiet-net x quiet)))
+
+  pub kind-agrees : KindAgrees n Holds
+  kind-agrees k w reach quiet c l e f =
+      let z = known-world tells fines k w reach in
+      let x = z .1 .1 in
+      kind-read (x .sim .name) (x .sim .active) c l (quiet-net x quiet) (sym e ∙ clerk-reads tells (z .1 .0) x) (sym f ∙ line-reads tells (z .1 .0) x)
+
+  follows-over : {p : R.Policy} {w : World} {e : Event} {k : K} {s m : R.Net} → Follows n p k w e s m → O.Over s → O.Over m
+  follows-over stays h = h
+  follows-over {p} (steps r heard) h = over-next p r h
+
+  run-over :
+      {p : R.Policy} {first w : World} {k : K} → Run (Holds k) first w → Good p first → (x : Known n (fines .Inv) k p first) → O.Over (x .net) →
+      (y : Known n (fines .Inv) k p w) × O.Over (y .net)
+  run-over stop g x h = (x, h)
+  run-over (then run e allowed so) g x h =
+      let i = run-over run g x h in
+      let y = step-known tells fines (run-good run g) (i .0) e allowed so in
+      (y .0, follows-over (y .1) (i .1))
+
+  -- a request that is over is held by nobody, now and later
+  stays-over : {k : K} {p : R.Policy} {w : World} → Good p w → (x : Known n (fines .Inv) k p w) → O.Over (x .net) → Over n Holds k w
+  stays-over g x over later run =
+      let o = run-over run g x over in
+      let there = run-good run g in
+      let y = o .0 in
+      (clerk-reads tells there y ∙ ap (clerkRead (y .sim .name)) (o .1 .clerk-none), line-reads tells there y ∙ ap (lineRead (y .sim .name) (y .sim .active)) (o .1 .line-none))
+
+  pub over-for-good : OverForGood n Holds
+  over-for-good k w reach t u none =
+      let z = known-world tells fines k w reach in
+      let x = z .1 .1 in
+      stays-over (z .1 .0) x (over-now (x .reach) (x .sim .timedOut .no t) (x .sim .guarded .no u))
+
+  pub gone-for-good : GoneForGood n Holds
+  gone-for-good k w reach t c l none =
+      let z = known-world tells fines k w reach in
+      let x = z .1 .1 in
+      stays-over (z .1 .0) x
+      (record {
+        was-used = x .sim .used .no t;
+        clerk-none = clerk-absent (x .sim .name) (x .net .clerk) (sym (clerk-reads tells (z .1 .0) x) ∙ c);
+        line-none = line-absent (x .sim .name) (x .sim .active) (x .net .line) (sym (line-reads tells (z .1 .0) x) ∙ l);
+        no-request = no-request (x .sim .name) (x .net .up) (subst NoRequest (x .sim .up) none);
+      })

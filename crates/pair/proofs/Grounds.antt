@@ -1,26 +1,16 @@
 -- What the laws of each desk give to a world: a reached desk has its records placed and all its words, a step leaves the requests that it does not name, and a started desk holds nothing.
-use Prim.Native.Nat.{ℕ}
-use mathlib.Core.Path.{_≡_, _∙_, ap}
-use mathlib.Core.Bool.{Bool}
-use mathlib.Core.List.{List}
+use mathlib.Core.Path.{_≡_}
 use lib.ListN.{length}
-use Rattle.lists.specs.declared.words.Words.{Words}
 use Rattle.places.specs.Places as P
-use Rattle.places.proofs.Holding.{held-nothing}
 use Rattle.clerk_records.specs.Layout as ClerkLayout
 use Rattle.clerk_records.specs.Records as ClerkRecords
-use Rattle.clerk.specs.Steps.{startedDesk}
 use Rattle.clerk.specs.declared.Desk as ClerkDesk
 use Rattle.clerk_sound.specs.Sound as ClerkSound
-use Rattle.clerk_sound.proofs.Start as ClerkStart
 use Rattle.clerk_sound.proofs.Reaching as ClerkReaching
-use Rattle.line_table.specs.Search.{used}
 use Rattle.line_records.specs.Layout as LineLayout
 use Rattle.line_records.specs.Records as LineRecords
-use Rattle.line.specs.Start.{started}
 use Rattle.line.specs.declared.Desk as LineDesk
 use Rattle.line_sound.specs.Sound as LineSound
-use Rattle.line_sound.proofs.Starting as LineStarting
 use Rattle.line_sound.proofs.Reaching as LineReaching
 
 pub clerk-placed : {d : ClerkDesk.Desk} → ClerkSound.Reached d → P.Placed ClerkSound.clerkView (ClerkRecords.records (d .words))
@@ -34,12 +24,3 @@ line-placed {d} r = LineReaching.reached-sound d r .placed
 
 pub line-full : {d : LineDesk.Desk} → LineSound.Reached d → length (d .words) ≡ LineLayout.words
 line-full {d} r = LineReaching.reached-sound d r .full
-
-pub clerk-started : (j : Words) → P.held ClerkSound.clerkView j (ClerkRecords.records (startedDesk .words)) ≡ P.none
-clerk-started j = ClerkStart.start-empty j
-
-pub line-started :
-    (given : List ℕ) (keep retain : Bool) (j : Words) → P.held LineSound.lineView j (LineRecords.records (started given keep retain .desk .words)) ≡ P.none
-line-started given keep retain j =
-    held-nothing LineSound.lineView j (LineRecords.records (started given keep retain .desk .words))
-    (λ i. ap used (LineStarting.start-free given keep retain i) ∙ LineStarting.blank-unused)

@@ -10,16 +10,15 @@ use borrow.Author.Tests.{eq-eqb}
 use Rattle.lists.specs.Lists.{first, count}
 use Rattle.lists.specs.declared.Found.{Found}
 use Rattle.lists.specs.declared.Found.the-variants.{At, Nothing}
-use Rattle.lists.specs.declared.words.Words.{Words}
 use Rattle.lists.proofs.Choice.{pick-elim}
 use Rattle.message.specs.declared.Kind.{Kind}
 use Rattle.message.specs.declared.Message.{Message}
 use Rattle.desk.specs.Carriers.{carrierFits}
 use Rattle.desk.specs.declared.letter.Letter.{Letter}
+use Rattle.desk.specs.declared.sends.Elements.{Elements}
+use Rattle.terms.specs.declared.means.Means.{Means}
 use Rattle.terms.specs.declared.request.Names.{Names}
 use Rattle.terms.specs.declared.request.Request.{Request}
-use Rattle.places.specs.Places as P
-use Rattle.places.proofs.Holding.{held-missed, held-found}
 use Rattle.line_table.specs.Inputs.{rowFor}
 use Rattle.line_table.specs.Line.{allows}
 use Rattle.line_table.specs.Search.{ofLine, passes}
@@ -33,27 +32,30 @@ use Rattle.line_table.specs.declared.record.Decision.the-variants.{Refuse, Deny
 use Rattle.line_table.specs.declared.record.Record.{Record}
 use Rattle.line_table.specs.declared.search.Sought.the-variants.{Duplicate}
 use Rattle.line_table.specs.declared.table.Row.{Row}
-use Rattle.line_records.specs.Records.{blank, records, meant, place}
+use Rattle.line_records.specs.Records.{blank, records, place}
+use Rattle.line_records.specs.Meaning.{meaning}
 use Rattle.line_records.specs.Lines.{noLine, lines, lineAt}
-use Rattle.line_plan.specs.Decide.{lineMost, holdsFor, takesCall, rowDecision, placeDecision, recordFound, recordDecision, storeFound, countedDecision, duplicateFound, admittedDecision, lineFound, requestDecision, messageDecision, decided}
+use Rattle.line_plan.specs.Decide.{lineMost, holdsFor, takesCall, rowDecision, recordMeant, recordDecision, storeFound, countedDecision, duplicateFound, admittedDecision, lineFound, requestDecision, messageDecision, decided}
 use Rattle.line_plan.specs.Plan.{planOf, planFor}
 use Rattle.clerk.specs.Entry.{askFlags}
-use Rattle.line.specs.Steps.{step, received}
-use Rattle.line.specs.declared.steps.Stepped.{Stepped}
-use Rattle.line_sound.specs.Sound.{lineView}
+use Rattle.line.specs.Steps.{step, entered, received}
+use Rattle.line.specs.declared.entry.Entry.{Entry}
 use Rattle.pair_request.specs.Reading as R
 use Rattle.pair_request.proofs.Effects.{Carried}
 use Rattle.pair_request.proofs.Claims.{line-carried}
-use Rattle.pair.specs.World.{World, lineHolds}
-use Rattle.pair.proofs.Ends.{lineRecord, lineRead, namesRead, requestRead, letterRead, messageRead}
-use Rattle.pair.proofs.Changes.{not-one}
-use Rattle.pair.proofs.Letters.{clear-kept, sent-name}
-use Rattle.pair.proofs.Wires.{head-own, Worded, word}
+use Rattle.pair_request.specs.Listed.{NotReq}
+use Rattle.pair.specs.World.{Of, Naming, World, lineHears, labelOf}
+use Rattle.pair.proofs.Keys.{Tells}
+use Rattle.pair.proofs.Sits.{label, there, not-one}
+use Rattle.pair.proofs.Ends.{lineSight, lineRecord, lineRead, namesRead, requestRead, letterRead, setOf}
+use Rattle.pair.proofs.Letters.{clear-name}
+use Rattle.pair.proofs.Means.{Meant, found, late, missed, no-longer}
+use Rattle.pair.proofs.Wires.{Worded, word, worded-label}
 use Rattle.pair.proofs.LineRows.{recordMessage}
-use Rattle.pair.proofs.LineChanges.{found-read}
-use Rattle.pair.proofs.LineEnd.{request-meant, request-carried}
-use Rattle.pair.proofs.LineSteps.{hears-as}
-use Rattle.pair.proofs.Sim.{Sim, Known, Good}
+use Rattle.pair.proofs.LineEnd.{found-read, readyFor, request-meant, request-carried}
+use Rattle.pair.proofs.LineSteps.{entry-as, hear-head, hear-means}
+use Rattle.pair.proofs.Sim.{Asked, Good, Fine}
+use Rattle.pair.proofs.Runs.{Known}
 
 -- ---- a decision that refuses with 8
 abbrev eight : Decision → Bool
@@ -80,7 +82,7 @@ record-fits i r l message row fits =
 
 -- ---- a message about a record, by what is held
 message-fits :
-    (j : Words) (b : Bool) (t : R.Terms) (own : R.Own) (s : R.LState) (message : RecordMessage) (n : R.Conn) → Carried t (recordMessage message n) →
+    (j : Elements) (b : Bool) (t : R.Terms) (own : R.Own) (s : R.LState) (message : RecordMessage) (n : R.Conn) → Carried t (recordMessage message n) →
     carrierFits (letterRead j (recordMessage message n) .body) (lineRecord j b t own s .terms .connection) (letterRead j (recordMessage message n) .carrier) ≡ true
 unfolding carrierFits
 message-fits j b t own s Message.Ringout n h = refl
@@ -96,27 +98,22 @@ message-fits j b t own s Message.Cancel R.ret h = refl
 message-fits j b t own s Message.Cancel R.rls h = refl
 
 -- ---- on the desk
-module _ (ws : List ℕ) (j : Words) (l : R.Line) (b : Bool) (held : P.held lineView j (records ws) ≡ lineRead j b l) where
-  record-eight :
-      (message : RecordMessage) (n : R.Conn) (f : Found) → meant j (records ws) ≡ f →
-      ((t : R.Terms) (own : R.Own) (s : R.LState) → l ≡ R.holds t own s → Carried t (recordMessage message n)) →
-      eight (recordFound ws (letterRead j (recordMessage message n)) message f) ≡ false
-  unfolding meant
-  record-eight message n Nothing e carried = refl
-  record-eight message n (At i) e carried = by l held carried
-    where
-      by :
-          (x : R.Line) → P.held lineView j (records ws) ≡ lineRead j b x →
-          ((t : R.Terms) (own : R.Own) (s : R.LState) → x ≡ R.holds t own s → Carried t (recordMessage message n)) →
-          eight (placeDecision ws i (getD (records ws) i blank) (letterRead j (recordMessage message n)) message) ≡ false
-      by R.none h all = not-one (sym h ∙ held-found lineView (records ws) j i e)
-      by (R.holds t own s) h all =
-          let its : Record = getD (records ws) i blank in
-          record-fits i its (letterRead j (recordMessage message n)) message (rowFor message (takesCall ws (its .terms .numberB)) (its .terms .keep))
-          (subst
-          (λ (r : Record). carrierFits (letterRead j (recordMessage message n) .body) (r .terms .connection) (letterRead j (recordMessage message n) .carrier) ≡ true)
-          (sym (found-read ws j b t own s i e h))
-          (message-fits j b t own s message n (all t own s refl)))
+record-eight :
+    (ws : List ℕ) (j : Elements) (l : R.Line) (b : Bool) (message : RecordMessage) (n : R.Conn) (f : Found) (means : Means) →
+    Meant lineSight (records ws) (setOf j (recordMessage message n)) (readyFor j (recordMessage message n)) f means → there lineSight (records ws) f ≡ lineRead j b l →
+    ((t : R.Terms) (own : R.Own) (s : R.LState) → l ≡ R.holds t own s → Carried t (recordMessage message n)) →
+    eight (recordMeant ws (letterRead j (recordMessage message n)) message means) ≡ false
+record-eight ws j l b message n f means missed h carried = refl
+record-eight ws j l b message n f means (no-longer set) h carried = refl
+record-eight ws j l b message n f means (late i set ready) h carried = refl
+record-eight ws j R.none b message n f means (found i) h carried = not-one (sym h)
+record-eight ws j (R.holds t own s) b message n f means (found i) h carried =
+    let its : Record = getD (records ws) i blank in
+    record-fits i its (letterRead j (recordMessage message n)) message (rowFor message (takesCall ws (its .terms .numberB)) (its .terms .keep))
+    (subst
+    (λ (r : Record). carrierFits (letterRead j (recordMessage message n) .body) (r .terms .connection) (letterRead j (recordMessage message n) .carrier) ≡ true)
+    (sym (found-read ws j b t own s i h))
+    (message-fits j b t own s message n (carried t own s refl)))
 
 -- ---- a request is stored or denied
 module _ (ws : List ℕ) (names : Names) (q : Request) where
@@ -141,38 +138,51 @@ module _ (ws : List ℕ) (names : Names) (q : Request) where
       (λ t. duplicate-eight (line .busy) (first (passes (Duplicate names)) (records ws)))
       (λ t. refl)
 
--- ---- every message
-message-eight :
-    (ws : List ℕ) (j : Words) (l : R.Line) (b : Bool) (m : R.Msg) → P.held lineView j (records ws) ≡ lineRead j b l →
-    ((t : R.Terms) (own : R.Own) (s : R.LState) → l ≡ R.holds t own s → Carried t m) → eight (messageDecision ws (letterRead j m)) ≡ false
-unfolding messageDecision recordDecision requestDecision
-message-eight ws j l b (R.request d kind q) held carried =
-    rw (request-meant kind (d .service) (askFlags (d .canKeep) q), request-carried kind (d .service) (askFlags (d .canKeep) q))
-    (line-eight ws (namesRead j d) (requestRead d kind q) (lineAt (d .numberB) (lines ws)))
-message-eight ws j l b (R.result k n) held carried = refl
-message-eight ws j l b (R.denied short) held carried = refl
-message-eight ws j l b (R.exec n) held carried = refl
-message-eight ws j l b R.ringout held carried = record-eight ws j l b held Message.Ringout R.ret (meant j (records ws)) refl carried
-message-eight ws j l b R.busyAgain held carried = refl
-message-eight ws j l b R.noMatch held carried = refl
-message-eight ws j l b (R.suspend n) held carried = record-eight ws j l b held Message.Suspend n (meant j (records ws)) refl carried
-message-eight ws j l b (R.resume n) held carried = record-eight ws j l b held Message.Resume n (meant j (records ws)) refl carried
-message-eight ws j l b (R.cancel n) held carried = record-eight ws j l b held Message.Cancel n (meant j (records ws)) refl carried
-message-eight ws j l b R.alerts held carried = refl
-message-eight ws j l b R.failed held carried = refl
+-- ---- every message, by what it means
+module _ (ws : List ℕ) (j : Elements) (place : ℕ) where
+  request-eight : (d : R.Data) (kind : Kind) (q : ℕ) → eight (messageDecision ws (letterRead j (R.request d kind q)) place) ≡ false
+  unfolding messageDecision requestDecision
+  request-eight d kind q =
+      rw (request-meant kind (j .service) (askFlags (d .canKeep) q), request-carried kind (j .service) (askFlags (d .canKeep) q))
+      (line-eight ws (namesRead j) (requestRead j d kind q) (lineAt (j .numberB) (lines ws)))
+
+  module _ (l : R.Line) (b : Bool) (f : Found) (h : there lineSight (records ws) f ≡ lineRead j b l) where
+    message-eight :
+        (m : R.Msg) → (NotReq m → Meant lineSight (records ws) (setOf j m) (readyFor j m) f (meaning (letterRead j m) place (records ws))) →
+        ((t : R.Terms) (own : R.Own) (s : R.LState) → l ≡ R.holds t own s → Carried t m) → eight (messageDecision ws (letterRead j m) place) ≡ false
+    unfolding messageDecision recordDecision
+    message-eight (R.request d kind q) e carried = request-eight d kind q
+    message-eight (R.result k n) e carried = refl
+    message-eight (R.denied short) e carried = refl
+    message-eight (R.exec R.ret) e carried = refl
+    message-eight (R.exec R.rls) e carried = refl
+    message-eight R.ringout e carried = record-eight ws j l b Message.Ringout R.ret f _ (e tt) h carried
+    message-eight R.busyAgain e carried = refl
+    message-eight R.noMatch e carried = refl
+    message-eight (R.suspend n) e carried = record-eight ws j l b Message.Suspend n f _ (e tt) h carried
+    message-eight (R.resume R.ret) e carried = record-eight ws j l b Message.Resume R.ret f _ (e tt) h carried
+    message-eight (R.resume R.rls) e carried = record-eight ws j l b Message.Resume R.rls f _ (e tt) h carried
+    message-eight (R.cancel R.ret) e carried = record-eight ws j l b Message.Cancel R.ret f _ (e tt) h carried
+    message-eight (R.cancel R.rls) e carried = record-eight ws j l b Message.Cancel R.rls f _ (e tt) h carried
+    message-eight R.alerts e carried = refl
+    message-eight R.failed e carried = refl
 
 -- ---- in a world of a run
 pub line-fits :
-    {p : R.Policy} {w : World} → Good p w → Known p w → (m : Message) (rest : List Message) → w .up ≡ m ∷ rest → Worded (m ∷ rest) →
-    received (w .line) m .outcome .refusal ≡ 8 → ⊥
-unfolding step planFor decided
-line-fits {w = w} g known m rest e (word k c clear others) refused =
-    let n = known k .0 in
-    let sim = known k .1 .1 in
-    let head = head-own e (sent-name k c (clear-kept k c clear)) (sim .upClear) (sim .up) in
-    let said = ap (λ (s : Stepped). s .outcome .refusal) (sym (hears-as g known k (head .code) (head .same) (head .clear))) ∙ refused in
-    let so = plan-eight (w .line .words) (Input.Message (letterRead k (head .code))) (messageDecision (w .line .words) (letterRead k (head .code))) said in
+    {K : Type 0} {n : Naming K} (tells : Tells n) {Inv : World → Type 0} {k : K} {p : R.Policy} {w : World} (g : Good p w) → Known n Inv k p w → (x : Of Message) (rest : List (Of Message)) (place : ℕ) →
+    n .key (labelOf x) ≡ k → w .up ≡ x ∷ rest → Worded (Asked (w .history)) (x ∷ rest) → Fine n k w (lineHears place) → received (w .line) (x .it) place .outcome .refusal ≡ 8 → ⊥
+unfolding entered step planFor decided
+line-fits {n = n} tells {k = k} {w = w} g known x rest place key e (word l m taken clear others) fine refused =
+    let ws = w .line .words in
+    let own : n .key (label l) ≡ k = sym (ap (n .key) (worded-label l m (clear-name (l .it) m clear))) ∙ key in
+    let head = hear-head tells g place l m rest e taken clear others k (known .net) (known .sim) own in
+    let h = head .0 in
+    let heard : planFor ws (Input.Message (letterRead (l .it) m) place) .outcome .refusal ≡ 8 =
+    ap (λ (y : Entry). entered (w .line) y .outcome .refusal) (sym (entry-as tells g place l m rest e taken clear others)) ∙ refused in
+    let said = subst (λ (y : Letter). planFor ws (Input.Message y place) .outcome .refusal ≡ 8) (head .1) heard in
+    let so = plan-eight ws (Input.Message (letterRead (known .sim .name) (h .code)) place) (messageDecision ws (letterRead (known .sim .name) (h .code)) place) said in
     let fits =
-    message-eight (w .line .words) k (n .line) (sim .active) (head .code) (sim .line)
-    (λ t own s q. line-carried t own s (head .code) (head .left) (known k .1 .0) q (head .whole)) in
+    message-eight ws (known .sim .name) place (known .net .line) (known .sim .active) (known .sim .linePlace) (known .sim .line) (h .code)
+    (hear-means tells g place l m rest e taken clear others k (known .net) (known .sim) fine own)
+    (λ t own s q. line-carried t own s (h .code) (h .left) (known .reach) q (h .whole)) in
     false≢true (sym fits ∙ so)

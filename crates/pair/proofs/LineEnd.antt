@@ -1,42 +1,51 @@
--- A message, an act and the guard's report at the line desk do what the reading says: to the request that they name, and to no other.
+-- A message, an act and the guard's report at the line desk do what the reading says at the place of the about that they mean, and a request that is stored at a free place.
 use Prim.Native.Nat.{ℕ}
 use mathlib.Core.Path.{_≡_, refl, sym, ap, _∙_, subst}
 use mathlib.Core.Bool.{Bool, true, false}
-use mathlib.Core.List.{List, []}
+use mathlib.Core.List.{List, [], _∷_, map}
 use lib.ListN.{getD}
 use lib.Dec.{ltb}
-use native.Mathlib.Omega.{arith}
 use Rattle.lists.specs.Choice.{pick}
 use Rattle.lists.specs.Lists.{first, count}
-use Rattle.lists.specs.Words.{sameWords}
 use Rattle.lists.specs.declared.Found.{Found}
-use Rattle.lists.specs.declared.Found.the-variants.{At, Nothing}
-use Rattle.lists.specs.declared.words.Words.{Words}
-use Rattle.lists.proofs.Choice.{pick-elim, no-true}
-use Rattle.lists.proofs.Lists.{first-below, first-none}
-use Rattle.lists.proofs.WordsLaws.{words-same}
-use Rattle.message.specs.Format.{requestBody}
+use Rattle.lists.specs.declared.Found.the-variants as Found
+use Rattle.lists.proofs.Choice.{pick-elim}
+use Rattle.lists.proofs.Lists.{both-true}
+use Rattle.message.specs.Format.{requestBody, hasElements}
+use Rattle.message.specs.declared.Body.the-variants.{CcCancel, RingoutError}
 use Rattle.message.specs.declared.Kind.{Kind}
 use Rattle.message.specs.declared.Kind.the-variants.{Ccbs, Ccnr}
 use Rattle.message.specs.declared.Carrier.the-variants as Carrier
 use Rattle.desk.specs.Carriers.{carrierFits}
 use Rattle.desk.specs.declared.Connection.the-variants as Connection
+use Rattle.desk.specs.Letter.{messageOf}
+use Rattle.desk.specs.Sends.{plainLetter}
+use Rattle.desk.specs.declared.letter.Identifier.{Identifier}
+use Rattle.desk.specs.declared.letter.Identifier.the-variants.{Absent, Is}
 use Rattle.desk.specs.declared.letter.Letter.{Letter}
 use Rattle.desk.specs.declared.outcome.Sending.the-variants as Sending
+use Rattle.desk.specs.declared.sends.Elements.{Elements}
+use Rattle.desk.specs.declared.sends.Sends.the-variants as Sends
+use Rattle.terms.specs.Terms.{elementsOf}
+use Rattle.terms.specs.Means.{fits, oldest}
+use Rattle.terms.specs.Request.{letterNames}
 use Rattle.terms.specs.declared.request.Names.{Names}
+use Rattle.terms.specs.declared.means.Means.{Means}
+use Rattle.terms.specs.declared.means.Means.the-variants as Means
+use Rattle.terms.specs.declared.request.Name.{Name}
 use Rattle.places.specs.Places as P
-use Rattle.places.proofs.Holding.{held-found, held-missed, meant-its}
 use Rattle.clerk.specs.Entry.{askFlags}
 use Rattle.line_table.specs.Inputs.{messageFor, rowFor, rowOfAct, replyMissed}
 use Rattle.line_table.specs.Line.{allows}
 use Rattle.line_table.specs.Record.{refusedPlan}
-use Rattle.line_table.specs.Search.{ofLine, passes}
+use Rattle.line_table.specs.Search.{used, ofLine, passes}
 use Rattle.line_table.specs.Step.{rowTaken}
 use Rattle.line_table.specs.declared.table.Row.{Row}
 use Rattle.line_table.specs.declared.table.Row.the-variants.{GuardRunsOut}
 use Rattle.line_table.specs.declared.record.Record.{Record}
 use Rattle.line_table.specs.declared.record.Decision.{Decision}
-use Rattle.line_table.specs.declared.record.Decision.the-variants.{Refuse, Deny}
+use Rattle.line_table.specs.declared.record.Decision.the-variants.{Refuse, Deny, Take, Store, Report}
+use Rattle.line_table.specs.declared.record.Change.the-variants.{Stay}
 use Rattle.line_table.specs.declared.record.Plan.{Plan}
 use Rattle.line_table.specs.declared.inputs.Act.{Act}
 use Rattle.line_table.specs.declared.inputs.Input.{Input}
@@ -46,22 +55,24 @@ use Rattle.line_table.specs.declared.inputs.RecordMessage.the-variants as Messa
 use Rattle.line_table.specs.declared.inputs.Meant.the-variants as Meant
 use Rattle.line_table.specs.declared.search.Sought.the-variants.{Duplicate}
 use Rattle.line_records.specs.Records.{blank, records, meant, place}
+use Rattle.line_records.specs.Meaning as Meaning
+use Rattle.line_records.specs.Meaning.{isFor, meaning, named}
+use Rattle.line_records.proofs.MeaningLaws.{named-uses}
 use Rattle.line_records.specs.Lines.{noLine, lines, lineAt}
-use Rattle.line_plan.specs.Decide.{lineMost, holdsFor, takesCall, rowDecision, recordFound, recordDecision, storeFound, countedDecision, duplicateFound, admittedDecision, lineFound, requestDecision, messageDecision, ownFound, ownDecision, decided}
-use Rattle.line_plan.specs.Plan.{newRecord, storedPlan, planOf, planFor}
-use Rattle.line.specs.Steps.{made, step}
+use Rattle.line_plan.specs.Decide.{lineMost, holdsFor, takesCall, rowDecision, recordMeant, recordDecision, storeFound, countedDecision, duplicateFound, admittedDecision, lineFound, requestDecision, messageDecision, ownMeant, ownDecision, decided}
+use Rattle.line_plan.specs.Plan.{newRecord, planOf, planFor}
 use Rattle.line.specs.declared.Desk.{Desk}
-use Rattle.line_sound.specs.Sound.{lineView, Reached}
+use Rattle.line_sound.specs.Sound.{Reached}
 use Rattle.pair_request.specs.Reading as R
-use Rattle.pair.proofs.Ends.{done, keepRead, lineRecord, lineRead, namesRead, requestRead, letterRead, lineActRead, policyOf, LineStep}
-use Rattle.pair.proofs.Changes.{stays, stores, not-one, pick-ap}
-use Rattle.pair.proofs.LineRows.{Answers, wordOf, nothing-done, recordMessage, rowPlan, record-found, record-missed, ownRow, own-missed, act-found, guard-found, request-stored, request-denied}
-use Rattle.pair.proofs.LineChanges.{OwnChange, found-read, own-row, Does, plan-step, missed-does, found-does}
-
--- whether the line of what is held can take a call
-abbrev freeHeld : List ℕ → P.Held Record → Bool
-freeHeld ws P.none = true
-freeHeld ws (P.one r) = takesCall ws (r .terms .numberB)
+use Rattle.pair_request.specs.Listed.{NotReq, NoReq}
+use Rattle.pair.specs.World.{Of, lineChange, sentBy}
+use Rattle.pair.proofs.Ends.{lineSight, lineRecord, lineRead, namesRead, requestRead, letterRead, setOf, messageRead, lineActRead, policyOf, LineStep}
+use Rattle.pair.proofs.Letters.{letter-name, letter-body, letter-carrier, set-names}
+use Rattle.pair.proofs.Means.{orElse, placeMeans, meaningIn, own-fits, Meant, found, late, missed, no-longer}
+use Rattle.pair.proofs.Sits.{view, there, Touches, not-one, the-one}
+use Rattle.pair.proofs.Changes.{stays, stores, pick-ap}
+use Rattle.pair.proofs.LineRows.{Answers, wordOf, nothing-done, recordMessage, rowPlan, record-found, record-missed, record-late, ownRow, act-found, guard-found, request-stored, request-denied}
+use Rattle.pair.proofs.LineChanges.{OwnChange, plan-step, own-row, touches-row, Acted, refuses, takes-row}
 
 pub request-meant :
     (kind : Kind) (service flags : ℕ) →
@@ -74,19 +85,36 @@ unfolding carrierFits
 request-carried Ccbs service flags = refl
 request-carried Ccnr service flags = refl
 
-module _ (ws : List ℕ) (identifier : Words) where
+-- the about that is found is the one that is read
+pub found-read :
+    (ws : List ℕ) (e : Elements) (b : Bool) (t : R.Terms) (own : R.Own) (s : R.LState) (i : ℕ) →
+    P.one (getD (records ws) i blank) ≡ lineRead e b (R.holds t own s) → getD (records ws) i blank ≡ lineRecord e b t own s
+found-read ws e b t own s i h = the-one (getD (records ws) i blank) (lineRecord e b t own s) h
+
+-- whether a record is in a state that a message is for
+abbrev pub readyFor : Elements → R.Msg → Record → Bool
+readyFor e m r = isFor (letterRead e m .body) r
+
+abbrev heard : Elements → R.Msg → ℕ → Input
+heard e m place = Input.Message (letterRead e m) place
+
+-- the place that is named is no part of a plan, but for the about that it means
+plan-place : (ws : List ℕ) (e : Elements) (m : R.Msg) (place : ℕ) (d : Decision) → planOf ws (heard e m place) d ≡ planOf ws (heard e m 0) d
+unfolding planOf
+plan-place ws e m place (Refuse number reply) = refl
+plan-place ws e m place (Deny error) = refl
+plan-place ws e m place (Take i row) = refl
+plan-place ws e m place (Store i q busy) = refl
+plan-place ws e m place (Report k busy) = refl
+
+module _ (ws : List ℕ) (e : Elements) (b : Bool) where
   abbrev rs : List Record
   rs = records ws
 
-  abbrev here : P.Held Record
-  here = P.held lineView identifier rs
-
-  abbrev heard : R.Msg → Input
-  heard m = Input.Message (letterRead identifier m)
-
-  -- what a decision on a message does, with the desk's word on it
-  abbrev Heard : R.Msg → Decision → Type 0
-  Heard m decision = (w : R.Word) × Does ws identifier (planOf ws (heard m) decision) (λ l. R.lineTakes (policyOf ws) l m w)
+  -- what a decision on a message does at a place, with the desk's word on it
+  abbrev Does : R.Msg → Found → R.Line → Decision → Type 0
+  Does m f l decision =
+      (w : R.Word) × (OwnChange rs f (planOf ws (heard e m 0) decision .change) × Answers (planOf ws (heard e m 0) decision) e b l (R.lineTakes (policyOf ws) l m w))
 
   -- ---- a message about a record
   module _ (message : RecordMessage) (n′ : R.Conn) where
@@ -94,219 +122,302 @@ module _ (ws : List ℕ) (identifier : Words) where
     code = recordMessage message n′
 
     abbrev letter : Letter
-    letter = letterRead identifier code
+    letter = letterRead e code
 
     abbrev rowAt : Record → Row
     rowAt r = rowFor message (takesCall ws (r .terms .numberB)) (r .terms .keep)
 
     row-at :
         (i : ℕ) →
-        planOf ws (heard code) (rowDecision i (getD rs i blank) letter message (rowAt (getD rs i blank)))
+        planOf ws (heard e code 0) (rowDecision i (getD rs i blank) letter message (rowAt (getD rs i blank)))
         ≡ rowPlan i (getD rs i blank) letter message (rowAt (getD rs i blank))
     unfolding planOf
     row-at i =
         let r = getD rs i blank in
-        pick-ap (planOf ws (heard code)) (holdsFor (rowAt r) r) _ _
-        ∙ ap (λ (plan : Plan). pick (holdsFor (rowAt r) r) plan (planOf ws (heard code) (Refuse 7 (replyMissed message))))
-        (pick-ap (planOf ws (heard code)) (carrierFits (letter .body) (r .terms .connection) (letter .carrier)) _ _)
+        pick-ap (planOf ws (heard e code 0)) (holdsFor (rowAt r) r) _ _
+        ∙ ap (λ (plan : Plan). pick (holdsFor (rowAt r) r) plan (planOf ws (heard e code 0) (Refuse 7 (replyMissed message))))
+        (pick-ap (planOf ws (heard e code 0)) (carrierFits (letter .body) (r .terms .connection) (letter .carrier)) _ _)
 
-    own-at :
-        (i : ℕ) → meant identifier rs ≡ At i →
-        OwnChange rs identifier (rowPlan i (getD rs i blank) letter message (rowAt (getD rs i blank)) .change)
-    own-at i e =
+    own-at : (i : ℕ) → OwnChange rs (Found.At i) (rowPlan i (getD rs i blank) letter message (rowAt (getD rs i blank)) .change)
+    own-at i =
         let r = getD rs i blank in
-        pick-elim (λ (plan : Plan). OwnChange rs identifier (plan .change)) (holdsFor (rowAt r) r)
+        pick-elim (λ (plan : Plan). OwnChange rs (Found.At i) (plan .change)) (holdsFor (rowAt r) r)
         (λ h.
-        pick-elim (λ (plan : Plan). OwnChange rs identifier (plan .change)) (carrierFits (letter .body) (r .terms .connection) (letter .carrier))
-        (λ g. own-row rs identifier i r e (rowAt r))
+        pick-elim (λ (plan : Plan). OwnChange rs (Found.At i) (plan .change)) (carrierFits (letter .body) (r .terms .connection) (letter .carrier))
+        (λ g. own-row rs i r (rowAt r))
         (λ g. stays))
         (λ h. stays)
 
-    record-does :
-        (f : Found) → meant identifier rs ≡ f →
-        Does ws identifier (planOf ws (heard code) (recordFound ws letter message f)) (λ l. R.lineTakes (policyOf ws) l code (wordOf R.takes (freeHeld ws here)))
-    unfolding planOf meant
-    record-does Nothing e =
-        missed-does ws identifier (λ l. R.lineTakes (policyOf ws) l code (wordOf R.takes (freeHeld ws here)))
-        (planOf ws (heard code) (Refuse 6 (replyMissed message))) e stays
-        (λ b. record-missed identifier b (policyOf ws) message n′ (wordOf R.takes (freeHeld ws here)))
-    record-does (At i) e =
-        let reading : R.Line → R.LAnswer = λ l. R.lineTakes (policyOf ws) l code (wordOf R.takes (freeHeld ws here)) in
-        subst (λ (plan : Plan). Does ws identifier plan reading) (sym (row-at i))
-        (found-does ws identifier reading i (λ r. rowPlan i r letter message (rowAt r)) e (own-at i e)
-        (λ b t own s q.
-        let f : takesCall ws (R.asked t .numberB) ≡ freeHeld ws here = sym (ap (freeHeld ws) (held-found lineView rs identifier i e ∙ ap P.one q)) in
-        subst
-        (λ (free : Bool).
-        Answers (rowPlan i (lineRecord identifier b t own s) letter message (rowFor message (takesCall ws (R.asked t .numberB)) (keepRead (R.keep t)))) identifier b
-        (R.holds t own s) (R.lineTakes (policyOf ws) (R.holds t own s) code (wordOf R.takes free)))
-        f (record-found identifier b (policyOf ws) i message n′ (takesCall ws (R.asked t .numberB)) t own s)))
+    found-heard : (i : ℕ) (l : R.Line) → P.one (getD rs i blank) ≡ lineRead e b l → Does code (Found.At i) l (recordMeant ws letter message (Means.At i))
+    found-heard i R.none h = not-one (sym h)
+    found-heard i (R.holds t own s) h =
+        let free = takesCall ws (e .numberB) in
+        let answer = R.lineTakes (policyOf ws) (R.holds t own s) code (wordOf R.takes free) in (
+          wordOf R.takes free,
+          subst (λ (plan : Plan). OwnChange rs (Found.At i) (plan .change) × Answers plan e b (R.holds t own s) answer) (sym (row-at i)) (
+            own-at i,
+            subst (λ (r : Record). Answers (rowPlan i r letter message (rowAt r)) e b (R.holds t own s) answer) (sym (found-read ws e b t own s i h))
+                (record-found e b (policyOf ws) i message n′ free t own s),
+          ),
+        )
 
-    record-heard : Heard code (recordFound ws letter message (meant identifier rs))
-    record-heard = (wordOf R.takes (freeHeld ws here), record-does (meant identifier rs) refl)
+    record-heard :
+        (f : Found) (means : Means) (l : R.Line) → Meant lineSight rs (setOf e code) (readyFor e code) f means → there lineSight rs f ≡ lineRead e b l →
+        Does code f l (recordMeant ws letter message means)
+    unfolding planOf
+    record-heard f means l (found i) h = found-heard i l h
+    record-heard f means R.none missed h = (wordOf R.takes true, (stays, record-missed e b (policyOf ws) 6 message n′ (wordOf R.takes true)))
+    record-heard f means (R.holds t own s) missed h = not-one h
+    record-heard f means R.none (no-longer set) h = (wordOf R.takes true, (stays, record-missed e b (policyOf ws) 7 message n′ (wordOf R.takes true)))
+    record-heard f means (R.holds t own s) (no-longer set) h = not-one h
+    record-heard f means R.none (late i set ready) h = not-one (sym h)
+    record-heard f means (R.holds t own s) (late i set ready) h =
+        let its = ap (λ (r : Record). readyFor e code r) (sym (found-read ws e b t own s i h)) ∙ ready in
+        (wordOf R.takes true, (stays, record-late e b (policyOf ws) message n′ true t own s set its))
 
-  -- ---- a request
-  -- a record with its identifier would be a duplicate
-  new-identifier : (names : Names) → names .identifier ≡ identifier → first (passes (Duplicate names)) rs ≡ Nothing → meant identifier rs ≡ Nothing
-  unfolding meant
-  new-identifier names same none = by (meant identifier rs) refl
-    where
-      by : (f : Found) → meant identifier rs ≡ f → meant identifier rs ≡ Nothing
-      by Nothing e = e
-      by (At i) e =
-          let r = getD rs i blank in
-          let its = meant-its lineView rs identifier i e in
-          let inside = first-below (P.identified lineView identifier) 0 rs i e in
-          let never = first-none (passes (Duplicate names)) rs blank none i (omega (arith, inside)) in
-          let t : sameWords (r .terms .identifier) (names .identifier) ≡ true = words-same (r .terms .identifier) (names .identifier) (its .1 ∙ sym same) in
-          absurd (no-true (sym (rw (its .0, t) at never)))
-
+  -- ---- a request, of which the desk holds nothing
   module _ (d : R.Data) (kind : Kind) (q : ℕ) where
     abbrev asked : R.Msg
     asked = R.request d kind q
 
-    denied : (short : Bool) → Heard asked (Deny (pick short 1 2))
+    denied : (short : Bool) → Does asked Found.Nothing R.none (Deny (pick short 1 2))
     unfolding planOf
-    denied short = (wordOf (R.denies short) true, record { own = stays; answer = λ l b e. request-denied ws identifier b short true d kind q l })
+    denied short = (wordOf (R.denies short) true, (stays, request-denied ws e b short true d kind q R.none))
 
-    store-heard : (busy : Bool) (f : Found) → meant identifier rs ≡ Nothing → place rs ≡ f → Heard asked (storeFound (requestRead d kind q) busy f)
-    unfolding planOf meant place
-    store-heard busy Nothing new e = denied true
-    store-heard busy (At i) new e =
-        let r = newRecord ws (namesRead identifier d) (requestRead d kind q) busy in (
-          wordOf R.takes true,
-          missed-does ws identifier (λ l. R.lineTakes (policyOf ws) l asked (wordOf R.takes true)) (storedPlan i r) new (stores i r e new)
-              (λ b. request-stored ws i identifier b busy true d kind q),
-        )
+    store-heard : (busy : Bool) (free : Found) → place rs ≡ free → Does asked Found.Nothing R.none (storeFound (requestRead e d kind q) busy free)
+    unfolding planOf place
+    store-heard busy Found.Nothing e′ = denied true
+    store-heard busy (Found.At i) e′ =
+        (wordOf R.takes true, (stores i (newRecord ws (namesRead e) (requestRead e d kind q) busy) e′, request-stored ws i e b busy true d kind q))
 
-    duplicate-heard :
-        (busy : Bool) (f : Found) → first (passes (Duplicate (namesRead identifier d))) rs ≡ f →
-        Heard asked (duplicateFound ws (namesRead identifier d) (requestRead d kind q) busy f)
+    duplicate-heard : (busy : Bool) (x : Found) → Does asked Found.Nothing R.none (duplicateFound ws (namesRead e) (requestRead e d kind q) busy x)
     unfolding countedDecision
-    duplicate-heard busy (At i) e = denied true
-    duplicate-heard busy Nothing e =
-        pick-elim (Heard asked) (ltb (count (ofLine (d .numberB)) rs) lineMost)
-        (λ t. store-heard busy (place rs) (new-identifier (namesRead identifier d) refl e) refl)
-        (λ t. denied true)
+    duplicate-heard busy (Found.At i) = denied true
+    duplicate-heard busy Found.Nothing =
+        pick-elim (Does asked Found.Nothing R.none) (ltb (count (ofLine (e .numberB)) rs) lineMost) (λ t. store-heard busy (place rs) refl) (λ t. denied true)
 
-    line-heard : (f : Found) → Heard asked (lineFound ws (namesRead identifier d) (requestRead d kind q) f)
+    line-heard : (x : Found) → Does asked Found.Nothing R.none (lineFound ws (namesRead e) (requestRead e d kind q) x)
     unfolding admittedDecision
-    line-heard Nothing = denied false
-    line-heard (At k) =
+    line-heard Found.Nothing = denied false
+    line-heard (Found.At k) =
         let line = getD (lines ws) k noLine in
-        pick-elim (Heard asked) (allows line kind)
-        (λ t. duplicate-heard (line .busy) (first (passes (Duplicate (namesRead identifier d))) rs) refl)
+        pick-elim (Does asked Found.Nothing R.none) (allows line kind)
+        (λ t. duplicate-heard (line .busy) (first (passes (Duplicate (namesRead e))) rs))
         (λ t. denied false)
 
-    request-heard : Heard asked (messageDecision ws (letterRead identifier asked))
+    request-heard : (at : ℕ) → Does asked Found.Nothing R.none (messageDecision ws (letterRead e asked) at)
     unfolding messageDecision requestDecision
-    request-heard =
-        rw (request-meant kind (d .service) (askFlags (d .canKeep) q), request-carried kind (d .service) (askFlags (d .canKeep) q))
-        (line-heard (lineAt (d .numberB) (lines ws)))
+    request-heard at =
+        rw (request-meant kind (e .service) (askFlags (d .canKeep) q), request-carried kind (e .service) (askFlags (d .canKeep) q))
+        (line-heard (lineAt (e .numberB) (lines ws)))
 
-  -- ---- every message
-  -- a message that goes to the clerk
-  not-here : (w : R.Word) × Does ws identifier (refusedPlan 3 Sending.Nothing) (λ l. (l, []))
-  not-here = (wordOf R.takes true, record { own = stays; answer = λ l b e. nothing-done 3 identifier b l })
+  -- ---- every other message, at the place of the request's record, by what it means
+  module _ (at : ℕ) (f : Found) (l : R.Line) (h : there lineSight rs f ≡ lineRead e b l) where
+    -- a message that goes to the clerk
+    not-here : (w : R.Word) × (OwnChange rs f (refusedPlan 3 Sending.Nothing .change) × Answers (refusedPlan 3 Sending.Nothing) e b l (l, []))
+    not-here = (wordOf R.takes true, (stays, nothing-done 3 e b l))
 
-  message-heard : (m : R.Msg) → Heard m (messageDecision ws (letterRead identifier m))
-  unfolding messageDecision recordDecision planOf R.lineTakes
-  message-heard (R.request d kind q) = request-heard d kind q
-  message-heard (R.result k n) = not-here
-  message-heard (R.denied short) = not-here
-  message-heard (R.exec n) = not-here
-  message-heard R.ringout = record-heard Message.Ringout R.ret
-  message-heard R.busyAgain = not-here
-  message-heard R.noMatch = not-here
-  message-heard (R.suspend n) = record-heard Message.Suspend n
-  message-heard (R.resume n) = record-heard Message.Resume n
-  message-heard (R.cancel n) = record-heard Message.Cancel n
-  message-heard R.alerts = not-here
-  message-heard R.failed = not-here
+    abbrev Its-means : R.Msg → Type 0
+    Its-means m = Meant lineSight rs (setOf e m) (readyFor e m) f (meaning (letterRead e m) at rs)
 
-  -- ---- acts and the guard
-  module _ (input : Input) (row : Row) where
-    abbrev acting : Found → Plan
-    acting f = planOf ws input (ownFound ws row f)
+    message-heard : (m : R.Msg) → NotReq m → Its-means m → Does m f l (messageDecision ws (letterRead e m) at)
+    unfolding messageDecision recordDecision planOf R.lineTakes
+    message-heard (R.request d kind q) never means = absurd never
+    message-heard (R.result k n) plain means = not-here
+    message-heard (R.denied short) plain means = not-here
+    message-heard (R.exec R.ret) plain means = not-here
+    message-heard (R.exec R.rls) plain means = not-here
+    message-heard R.ringout plain means = record-heard Message.Ringout R.ret f _ l means h
+    message-heard R.busyAgain plain means = not-here
+    message-heard R.noMatch plain means = not-here
+    message-heard (R.suspend n) plain means = record-heard Message.Suspend n f _ l means h
+    message-heard (R.resume R.ret) plain means = record-heard Message.Resume R.ret f _ l means h
+    message-heard (R.resume R.rls) plain means = record-heard Message.Resume R.rls f _ l means h
+    message-heard (R.cancel R.ret) plain means = record-heard Message.Cancel R.ret f _ l means h
+    message-heard (R.cancel R.rls) plain means = record-heard Message.Cancel R.rls f _ l means h
+    message-heard R.alerts plain means = not-here
+    message-heard R.failed plain means = not-here
 
-    acting-at : (i : ℕ) → acting (At i) ≡ ownRow i row (getD rs i blank)
-    unfolding planOf
-    acting-at i = pick-ap (planOf ws input) (holdsFor row (getD rs i blank)) _ _
+-- ---- any message but a request, whosever it is: refused, with a reply of its own or none; or taken for the about that it means, as if it were of that one
+pub data Heard (ws : List ℕ) (e : Elements) (m : R.Msg) (means : Means) (plan : Plan) : Type 0 where
+  replies : (ms : List R.Msg) → plan .change ≡ Stay → sentBy (plan .outcome .sending) ≡ map (messageRead e) ms → NoReq ms → Heard ws e m means plan
+  turns-row :
+      (i : ℕ) → means ≡ Means.At i → Touches i (lineChange (plan .change)) → OwnChange (records ws) (Found.At i) (plan .change) →
+      ((y : Elements) (l : R.Line) (b : Bool) → P.one (getD (records ws) i blank) ≡ lineRead y b l → (w : R.Word) × Answers plan y b l (R.lineTakes (policyOf ws) l m w)) → Heard ws e m means plan
 
-    own-does :
-        (x : R.LAct) →
-        ((i : ℕ) (b : Bool) (t : R.Terms) (own : R.Own) (s : R.LState) →
-        Answers (ownRow i row (lineRecord identifier b t own s)) identifier b (R.holds t own s) (R.lineActs (R.holds t own s) x)) →
-        (f : Found) → meant identifier rs ≡ f → Does ws identifier (acting f) (λ l. R.lineActs l x)
-    unfolding planOf
-    own-does x found Nothing e = missed-does ws identifier (λ l. R.lineActs l x) (acting Nothing) e stays (λ b. own-missed identifier b x)
-    own-does x found (At i) e =
-        subst (λ (plan : Plan). Does ws identifier plan (λ l. R.lineActs l x)) (sym (acting-at i))
-        (found-does ws identifier (λ l. R.lineActs l x) i (ownRow i row) e
-        (pick-elim (λ (plan : Plan). OwnChange rs identifier (plan .change)) (holdsFor row (getD rs i blank))
-        (λ h. own-row rs identifier i (getD rs i blank) e row)
-        (λ h. stays))
-        (λ b t own s q. found i b t own s))
+module _ (ws : List ℕ) (e : Elements) (message : RecordMessage) (n : R.Conn) where
+  abbrev about : R.Msg
+  about = recordMessage message n
+
+  record-plain : NotReq about
+  record-plain = by message
+    where
+      by : (x : RecordMessage) → NotReq (recordMessage x n)
+      by Message.Suspend = tt
+      by Message.Resume = tt
+      by Message.Ringout = tt
+      by Message.Cancel = tt
+
+  missed-replies : (means : Means) (number : ℕ) (x : RecordMessage) → Heard ws e about means (planOf ws (heard e about 0) (Refuse number (replyMissed x)))
+  unfolding planOf
+  missed-replies means number Message.Suspend = replies [] refl refl tt
+  missed-replies means number Message.Resume =
+      replies (R.cancel R.ret ∷ []) refl (ap (λ (x : Identifier). messageOf (plainLetter x Carrier.ReleaseComplete CcCancel) ∷ []) (letter-name e about)) (tt, tt)
+  missed-replies means number Message.Ringout =
+      replies (R.noMatch ∷ []) refl (ap (λ (x : Identifier). messageOf (plainLetter x Carrier.ReleaseComplete (RingoutError 2)) ∷ []) (letter-name e about)) (tt, tt)
+  missed-replies means number Message.Cancel = replies [] refl refl tt
+
+  silent-replies : (means : Means) (number : ℕ) → Heard ws e about means (planOf ws (heard e about 0) (Refuse number Sends.Nothing))
+  unfolding planOf
+  silent-replies means number = replies [] refl refl tt
+
+  record-any : (means : Means) → Heard ws e about means (planOf ws (heard e about 0) (recordMeant ws (letterRead e about) message means))
+  unfolding planOf
+  record-any Means.Nothing = missed-replies Means.Nothing 6 message
+  record-any Means.NotNow = missed-replies Means.NotNow 7 message
+  record-any (Means.At i) = by
+      (λ y l b read.
+      let so = found-heard ws y b message n i l read in
+      (so .0, subst (λ (d : Decision). Answers (planOf ws (heard y about 0) d) y b l (R.lineTakes (policyOf ws) l about (so .0))) (same y) (so .1 .1)))
+    where
+      same : (y : Elements) → recordMeant ws (letterRead y about) message (Means.At i) ≡ recordMeant ws (letterRead e about) message (Means.At i)
+      same y = rw (letter-body y e about record-plain, letter-carrier y e about)
+
+      by :
+          ((y : Elements) (l : R.Line) (b : Bool) → P.one (getD (records ws) i blank) ≡ lineRead y b l →
+          (w : R.Word) × Answers (planOf ws (heard y about 0) (recordMeant ws (letterRead e about) message (Means.At i))) y b l (R.lineTakes (policyOf ws) l about w)) →
+          Heard ws e about (Means.At i) (planOf ws (heard e about 0) (recordMeant ws (letterRead e about) message (Means.At i)))
+      by =
+          let row = rowFor message (takesCall ws (getD (records ws) i blank .terms .numberB)) (getD (records ws) i blank .terms .keep) in
+          pick-elim
+          (λ (d : Decision).
+          ((y : Elements) (l : R.Line) (b : Bool) → P.one (getD (records ws) i blank) ≡ lineRead y b l →
+          (w : R.Word) × Answers (planOf ws (heard y about 0) d) y b l (R.lineTakes (policyOf ws) l about w)) → Heard ws e about (Means.At i) (planOf ws (heard e about 0) d))
+          (holdsFor row (getD (records ws) i blank))
+          (λ h.
+          pick-elim
+          (λ (d : Decision).
+          ((y : Elements) (l : R.Line) (b : Bool) → P.one (getD (records ws) i blank) ≡ lineRead y b l →
+          (w : R.Word) × Answers (planOf ws (heard y about 0) d) y b l (R.lineTakes (policyOf ws) l about w)) → Heard ws e about (Means.At i) (planOf ws (heard e about 0) d))
+          (carrierFits (letterRead e about .body) (getD (records ws) i blank .terms .connection) (letterRead e about .carrier))
+          (λ g says. turns-row i refl (touches-row i (getD (records ws) i blank) row) (own-row (records ws) i (getD (records ws) i blank) row) says)
+          (λ g says. silent-replies (Means.At i) 8))
+          (λ h says. missed-replies (Means.At i) 7 message)
+
+module _ (ws : List ℕ) (e : Elements) (at : ℕ) where
+  abbrev AnyHeard : R.Msg → Type 0
+  AnyHeard m = Heard ws e m (meaning (letterRead e m) at (records ws)) (planOf ws (heard e m 0) (messageDecision ws (letterRead e m) at))
+
+  away : (m : R.Msg) → Heard ws e m (meaning (letterRead e m) at (records ws)) (refusedPlan 3 Sending.Nothing)
+  away m = replies [] refl refl tt
+
+  any-heard : (m : R.Msg) → NotReq m → AnyHeard m
+  unfolding messageDecision recordDecision planOf
+  any-heard (R.request d kind q) never = absurd never
+  any-heard (R.result k n) plain = away (R.result k n)
+  any-heard (R.denied short) plain = away (R.denied short)
+  any-heard (R.exec R.ret) plain = away (R.exec R.ret)
+  any-heard (R.exec R.rls) plain = away (R.exec R.rls)
+  any-heard R.ringout plain = record-any ws e Message.Ringout R.ret _
+  any-heard R.busyAgain plain = away R.busyAgain
+  any-heard R.noMatch plain = away R.noMatch
+  any-heard (R.suspend n) plain = record-any ws e Message.Suspend n _
+  any-heard (R.resume R.ret) plain = record-any ws e Message.Resume R.ret _
+  any-heard (R.resume R.rls) plain = record-any ws e Message.Resume R.rls _
+  any-heard (R.cancel R.ret) plain = record-any ws e Message.Cancel R.ret _
+  any-heard (R.cancel R.rls) plain = record-any ws e Message.Cancel R.rls _
+  any-heard R.alerts plain = away R.alerts
+  any-heard R.failed plain = away R.failed
+
+-- ---- acts and the guard
+module _ (ws : List ℕ) (input : Input) (row : Row) (x : R.LAct) where
+  acted-found :
+      ((i : ℕ) (j : Elements) (b : Bool) (t : R.Terms) (own : R.Own) (s : R.LState) →
+      Answers (ownRow i row (lineRecord j b t own s)) j b (R.holds t own s) (R.lineActs (R.holds t own s) x)) →
+      (means : Means) → ((i : ℕ) → means ≡ Means.At i → used (getD (records ws) i blank) ≡ true) → Acted (records ws) x (planOf ws input (ownMeant ws row means))
+  unfolding planOf
+  acted-found ways Means.Nothing u = refuses refl refl
+  acted-found ways Means.NotNow u = refuses refl refl
+  acted-found ways (Means.At i) u =
+      let r = getD (records ws) i blank in
+      pick-elim (λ (d : Decision). Acted (records ws) x (planOf ws input d)) (holdsFor row r)
+      (λ h. takes-row i (u i refl) (touches-row i r row) (own-row (records ws) i r row) (by h))
+      (λ h. refuses refl refl)
+    where
+      by :
+          holdsFor row (getD (records ws) i blank) ≡ true → (j : Elements) (l : R.Line) (b : Bool) → P.one (getD (records ws) i blank) ≡ lineRead j b l →
+          Answers (rowTaken i (getD (records ws) i blank) row) j b l (R.lineActs l x)
+      by h j R.none b read = not-one (sym read)
+      by h j (R.holds t own s) b read =
+          let r = getD (records ws) i blank in
+          subst (λ (so : Bool). Answers (pick so (rowTaken i r row) (refusedPlan 7 Sending.Nothing)) j b (R.holds t own s) (R.lineActs (R.holds t own s) x)) h
+          (subst (λ (y : Record). Answers (ownRow i row y) j b (R.holds t own s) (R.lineActs (R.holds t own s) x)) (sym (found-read ws j b t own s i read)) (ways i j b t own s))
+
+-- ---- which record is meant, as it is said for both desks
+meaning-or : (f : Found) (otherwise : Means) → Meaning.orElse f otherwise ≡ orElse f otherwise
+meaning-or (Found.At i) otherwise = refl
+meaning-or Found.Nothing otherwise = refl
+
+meaning-by :
+    (identifier : Identifier) (set : Bool) (elements : Means) (place : ℕ) (rs : List Record) →
+    Meaning.orElse (Meaning.identifierMeans identifier rs) (pick set elements (Meaning.placeMeans identifier place rs))
+    ≡ orElse (P.knownIn (view lineSight) identifier rs) (pick set elements (placeMeans lineSight identifier place rs))
+unfolding meant
+meaning-by Absent set elements place rs = refl
+meaning-by (Is identifier) set elements place rs = meaning-or (meant identifier rs) (pick set elements Means.Nothing)
+
+pub line-meaning :
+    (l : Letter) (place : ℕ) (rs : List Record) →
+    meaning l place rs ≡ meaningIn lineSight (l .identifier) (hasElements (l .body) (l .carrier)) (Meaning.fitting (letterNames l)) (isFor (l .body)) place rs
+unfolding meaning Meaning.elementsMean
+line-meaning l place rs = meaning-by (l .identifier) (hasElements (l .body) (l .carrier)) (oldest (Meaning.fitting (letterNames l)) (isFor (l .body)) rs) place rs
+
+-- a record with its elements fits a message that has them
+pub line-fitting :
+    (e : Elements) (m : R.Msg) → setOf e m ≡ true → e .identifier ≡ Absent → (r : Record) → used r ≡ true → elementsOf (r .terms) ≡ e →
+    Meaning.fitting (letterNames (letterRead e m)) r ≡ true
+line-fitting e m set absent r u same = both-true u ∙ ap (λ (names : Names). fits names (r .terms)) (set-names e m set) ∙ own-fits e absent (r .terms) same
 
 -- ---- the desk's steps
 module _ (d : Desk) (reached : Reached d) where
+  -- what a decision on a message does is a step
+  does-step :
+      (given : Of Elements) (j : Elements) (m : R.Msg) (at : ℕ) (f : Found) (l : R.Line) (b : Bool) → given .it ≡ j → there lineSight (records (d .words)) f ≡ lineRead j b l →
+      Does (d .words) j b m f l (messageDecision (d .words) (letterRead j m) at) →
+      (w : R.Word) × LineStep d given f (planFor (d .words) (heard j m at)) j (R.lineTakes (policyOf (d .words)) l m w)
+  unfolding planFor decided
+  does-step given j m at f l b came h does = (
+    does .0,
+    subst (λ (plan : Plan). LineStep d given f plan j (R.lineTakes (policyOf (d .words)) l m (does .0))) (sym (plan-place (d .words) j m at (messageDecision (d .words) (letterRead j m) at)))
+        (plan-step d reached given f j (planOf (d .words) (heard j m 0) (messageDecision (d .words) (letterRead j m) at)) (R.lineTakes (policyOf (d .words)) l m (does .0)) l b (does .1 .0) h (does .1 .1)
+        (λ i q. came)),
+  )
+
+  -- a message of a request, by what it means
   pub line-hears :
-      (j : Words) (m : R.Msg) →
-      (w : R.Word) × ((l : R.Line) (b : Bool) → P.held lineView j (records (d .words)) ≡ lineRead j b l →
-      LineStep (step d (Input.Message (letterRead j m))) j (R.lineTakes (policyOf (d .words)) l m w))
-  unfolding step planFor decided
-  line-hears j m =
-      let heard = message-heard (d .words) j m in (
-        heard .0,
-        plan-step d reached j (planFor (d .words) (Input.Message (letterRead j m))) (λ l. R.lineTakes (policyOf (d .words)) l m (heard .0)) (heard .1),
-      )
+      (given : Of Elements) (j : Elements) (m : R.Msg) (at : ℕ) (f : Found) (l : R.Line) (b : Bool) → given .it ≡ j → NotReq m →
+      Meant lineSight (records (d .words)) (setOf j m) (readyFor j m) f (meaning (letterRead j m) at (records (d .words))) → there lineSight (records (d .words)) f ≡ lineRead j b l →
+      (w : R.Word) × LineStep d given f (planFor (d .words) (heard j m at)) j (R.lineTakes (policyOf (d .words)) l m w)
+  line-hears given j m at f l b came plain means h = does-step given j m at f l b came h (message-heard (d .words) j b at f l h m plain means)
 
-  own-step :
-      (j : Words) (input : Input) (row : Row) (x : R.LAct) →
-      ((i : ℕ) (b : Bool) (t : R.Terms) (own : R.Own) (s : R.LState) →
-      Answers (ownRow i row (lineRecord j b t own s)) j b (R.holds t own s) (R.lineActs (R.holds t own s) x)) →
-      (l : R.Line) (b : Bool) → P.held lineView j (records (d .words)) ≡ lineRead j b l →
-      LineStep (made d (planOf (d .words) input (ownFound (d .words) row (meant j (records (d .words)))))) j (R.lineActs l x)
-  own-step j input row x found =
-      plan-step d reached j (planOf (d .words) input (ownFound (d .words) row (meant j (records (d .words))))) (λ l. R.lineActs l x)
-      (own-does (d .words) j input row x found (meant j (records (d .words))) refl)
+  -- its request, of which nothing is held
+  pub line-asked :
+      (given : Of Elements) (j : Elements) (x : R.Data) (kind : Kind) (q at : ℕ) → given .it ≡ j →
+      (w : R.Word) × LineStep d given Found.Nothing (planFor (d .words) (heard j (R.request x kind q) at)) j (R.lineTakes (policyOf (d .words)) R.none (R.request x kind q) w)
+  line-asked given j x kind q at came = does-step given j (R.request x kind q) at Found.Nothing R.none true came refl (request-heard (d .words) j true x kind q at)
 
-  pub line-acts :
-      (j : Words) (act : Act) (l : R.Line) (b : Bool) → P.held lineView j (records (d .words)) ≡ lineRead j b l →
-      LineStep (step d (Input.Act j act)) j (R.lineActs l (lineActRead act))
-  unfolding step planFor decided ownDecision
-  line-acts j act = own-step j (Input.Act j act) (rowOfAct act) (lineActRead act) (λ i b. act-found i j b act)
+  -- any message but a request
+  pub line-heard-any : (j : Elements) (m : R.Msg) (at : ℕ) → NotReq m → Heard (d .words) j m (meaning (letterRead j m) at (records (d .words))) (planFor (d .words) (heard j m at))
+  unfolding planFor decided
+  line-heard-any j m at plain =
+      subst (Heard (d .words) j m (meaning (letterRead j m) at (records (d .words)))) (sym (plan-place (d .words) j m at (messageDecision (d .words) (letterRead j m) at))) (any-heard (d .words) j at m plain)
 
-  pub line-guards :
-      (j : Words) (l : R.Line) (b : Bool) → P.held lineView j (records (d .words)) ≡ lineRead j b l →
-      LineStep (step d (Input.Guard j)) j (R.lineActs l R.guard)
-  unfolding step planFor decided ownDecision
-  line-guards j = own-step j (Input.Guard j) GuardRunsOut R.guard (λ i b. guard-found i j b)
+  pub line-acts : (name : Name) (act : Act) → Acted (records (d .words)) (lineActRead act) (planFor (d .words) (Input.Act name act))
+  unfolding planFor decided ownDecision
+  line-acts name act =
+      acted-found (d .words) (Input.Act name act) (rowOfAct act) (lineActRead act) (λ i y b. act-found i y b act) (named name (records (d .words))) (named-uses name (records (d .words)))
 
--- ---- the guard's report is taken where a request is held
-guard-taken :
-    (i : ℕ) (identifier : Words) (b : Bool) (t : R.Terms) (own : R.Own) (s : R.LState) →
-    done (ownRow i GuardRunsOut (lineRecord identifier b t own s) .outcome) ≡ true
-unfolding rowTaken
-guard-taken i identifier b t own R.idle = refl
-guard-taken i identifier b t own (R.await m) = refl
-guard-taken i identifier b t own R.alert = refl
-
-guard-ends-found :
-    (ws : List ℕ) (identifier : Words) (l : R.Line) (b : Bool) (f : Found) → meant identifier (records ws) ≡ f →
-    P.held lineView identifier (records ws) ≡ lineRead identifier b l →
-    done (acting ws identifier (Input.Guard identifier) GuardRunsOut f .outcome) ≡ R.guardEnds l R.guard
-unfolding meant planOf
-guard-ends-found ws identifier R.none b Nothing e h = refl
-guard-ends-found ws identifier R.none b (At i) e h = not-one (sym h ∙ held-found lineView (records ws) identifier i e)
-guard-ends-found ws identifier (R.holds t own s) b Nothing e h = not-one (sym (held-missed lineView (records ws) identifier e) ∙ h)
-guard-ends-found ws identifier (R.holds t own s) b (At i) e h =
-    ap (λ (plan : Plan). done (plan .outcome)) (acting-at ws identifier (Input.Guard identifier) GuardRunsOut i)
-    ∙ ap (λ (r : Record). done (ownRow i GuardRunsOut r .outcome)) (found-read ws identifier b t own s i e h)
-    ∙ guard-taken i identifier b t own s
-
-pub guard-ends :
-    (d : Desk) (identifier : Words) (l : R.Line) (b : Bool) → P.held lineView identifier (records (d .words)) ≡ lineRead identifier b l →
-    done (step d (Input.Guard identifier) .outcome) ≡ R.guardEnds l R.guard
-unfolding step planFor decided ownDecision
-guard-ends d identifier l b h = guard-ends-found (d .words) identifier l b (meant identifier (records (d .words))) refl h
+  pub line-guards : (name : Name) → Acted (records (d .words)) R.guard (planFor (d .words) (Input.Guard name))
+  unfolding planFor decided ownDecision
+  line-guards name =
+      acted-found (d .words) (Input.Guard name) GuardRunsOut R.guard (λ i y b. guard-found i y b) (named name (records (d .words))) (named-uses name (records (d .words)))

@@ -1,8 +1,9 @@
 -- A Look and a line report at the line desk: a Look does nothing or offers one request as the reading says; a report marks activity, which is no part of the reading.
 use Prim.Native.Nat.{ℕ}
-use mathlib.Core.Path.{_≡_, refl, sym, ap, _∙_}
+use mathlib.Core.Path.{_≡_, refl, sym, ap, _∙_, subst}
+use mathlib.Core.Logic.{_⊎_, inl, inr}
 use mathlib.Core.Bool.{Bool, true, false}
-use mathlib.Core.List.{List}
+use mathlib.Core.List.{List, map}
 use lib.ListN.{getD}
 use native.Mathlib.Omega.{arith}
 use Rattle.lists.specs.Lists.{first}
@@ -12,10 +13,10 @@ use Rattle.lists.specs.declared.Found.the-variants.{At, Nothing}
 use Rattle.lists.specs.declared.words.Words.{Words}
 use Rattle.lists.proofs.Choice.{pick-elim}
 use Rattle.lists.proofs.Lists.{both-parts, first-holds}
-use Rattle.desk.specs.declared.outcome.Sending.{Sending}
+use Rattle.desk.specs.declared.outcome.Sending.the-variants as Sending
+use Rattle.desk.specs.declared.sends.Elements.{Elements}
 use Rattle.desk.specs.declared.sends.Sends.the-variants as Sends
 use Rattle.places.specs.Places as P
-use Rattle.places.proofs.Holding.{meant-own, held-put-other, held-change}
 use Rattle.line_table.specs.Line.{canTake}
 use Rattle.line_table.specs.Table.{inUse}
 use Rattle.line_table.specs.Search.{invoked, marks, fitsKind, fits, passes}
@@ -27,27 +28,23 @@ use Rattle.line_table.specs.declared.line.Line.{Line}
 use Rattle.line_table.specs.declared.record.Record.{Record}
 use Rattle.line_table.specs.declared.record.Decision.{Decision}
 use Rattle.line_table.specs.declared.record.Decision.the-variants as Decision
-use Rattle.line_table.specs.declared.record.Change.the-variants.{Report}
+use Rattle.line_table.specs.declared.record.Plan.{Plan}
 use Rattle.line_table.specs.declared.inputs.Input.the-variants as Input
 use Rattle.line_table.specs.declared.search.Sought.the-variants.{Blocking, Fitting}
-use Rattle.line_records.specs.Records.{blank, records, meant}
+use Rattle.line_records.specs.Records.{blank, records}
 use Rattle.line_records.specs.Lines.{noLine, lines, lineAt}
-use Rattle.line_records.specs.Change.{marking, applied}
-use Rattle.line_records.proofs.ChangeLaws.{applied-stay, records-applied}
+use Rattle.line_records.specs.Change.{marking, recordsAfter}
 use Rattle.line_plan.specs.Decide.{offerFound, offerAt, offerDecision, lookFound, lookDecision, reportFound, reportDecision, decided}
 use Rattle.line_plan.specs.Plan.{planOf, planFor}
-use Rattle.line.specs.Steps.{made, step}
 use Rattle.line.specs.declared.Desk.{Desk}
-use Rattle.line.specs.declared.steps.Stepped.{Stepped}
-use Rattle.line_sound.specs.Sound.{lineView, Reached}
-use Rattle.line_sound.proofs.Changes.{marking-used, marking-name}
 use Rattle.pair_request.specs.Reading as R
-use Rattle.pair.specs.World.{lineDoes}
-use Rattle.pair.specs.Demand3.{Unaltered, same, marked}
-use Rattle.pair.proofs.Ends.{lineRead, LineStep}
-use Rattle.pair.proofs.Grounds.{line-placed, line-full}
-use Rattle.pair.proofs.LineRows.{offer-found}
-use Rattle.pair.proofs.LineChanges.{own-row, Does, plan-step, found-does}
+use Rattle.pair.specs.World.{Touch, lineChange}
+use Rattle.pair.proofs.Ends.{lineRead}
+use Rattle.pair.proofs.Sits.{not-one}
+use Rattle.pair.proofs.LineRows.{Answers, offer-found}
+use Rattle.pair.proofs.LineChanges as Changed
+use Rattle.pair.proofs.LineChanges.{own-row, touches-row, Acted, takes-row}
+use Rattle.pair.proofs.LineEnd.{found-read}
 
 -- ---- a Look
 -- it is refused, or offers a record that fits
@@ -88,77 +85,43 @@ fits-invoked : (number : Words) (r : Record) → fits number r ≡ true → invo
 fits-invoked number r e =
     both-parts (invoked (r .state)) (sameWords (r .terms .numberB) number) (both-parts (marks number r) (fitsKind (r .terms .kind) (r .active)) e .0) .0
 
--- what is sent is of a request
-abbrev pub SentOf : Sending → Words → Type 0
-SentOf Sending.Nothing j = ⊥
-SentOf (Sending.Send l) j = l .identifier ≡ j
-
--- nothing is offered, or one request is
-pub data Looked (d : Desk) (number : Words) (after : Stepped) : Type 0 where
-  nothing : after .desk ≡ d → after .outcome .sending ≡ Sending.Nothing → Looked d number after
-  offers :
-      (j : Words) → SentOf (after .outcome .sending) j →
-      ((l : R.Line) (b : Bool) → P.held lineView j (records (d .words)) ≡ lineRead j b l → LineStep after j (R.lineActs l R.offers)) →
-      ((other : Words) → (j ≡ other → ⊥) →
-      P.held lineView other (records (after .desk .words)) ≡ P.held lineView other (records (d .words))) → Looked d number after
-
-module _ (d : Desk) (reached : Reached d) (number : Words) where
+module _ (d : Desk) (number : Words) where
   abbrev rs : List Record
   rs = records (d .words)
 
-  offer-does :
-      (i : ℕ) → fits number (getD rs i blank) ≡ true →
-      Does (d .words) (getD rs i blank .terms .identifier) (rowTaken i (getD rs i blank) Offers) (λ l. R.lineActs l R.offers)
-  unfolding meant
-  offer-does i fit =
-      let r = getD rs i blank in
-      let t = fits-invoked number r fit in
-      let e = meant-own lineView rs i (line-placed reached) (invoked-used (r .state) t) in
-      found-does (d .words) (r .terms .identifier) (λ l. R.lineActs l R.offers) i (λ r. rowTaken i r Offers) e (own-row rs (r .terms .identifier) i r e Offers)
-      (λ b a own s q. offer-found i (r .terms .identifier) b a own s (sym (ap (λ (x : Record). invoked (x .state)) q) ∙ t))
+  -- a record that fits is Invoked, and is offered
+  offer-answers :
+      (i : ℕ) → fits number (getD rs i blank) ≡ true → (j : Elements) (l : R.Line) (b : Bool) → P.one (getD rs i blank) ≡ lineRead j b l →
+      Answers (rowTaken i (getD rs i blank) Offers) j b l (R.lineActs l R.offers)
+  offer-answers i fit j R.none b read = not-one (sym read)
+  offer-answers i fit j (R.holds t own s) b read =
+      let e = found-read (d .words) j b t own s i read in
+      subst (λ (r : Record). Answers (rowTaken i r Offers) j b (R.holds t own s) (R.lineActs (R.holds t own s) R.offers)) (sym e)
+      (offer-found i j b t own s (sym (ap (λ (r : Record). invoked (r .state)) e) ∙ fits-invoked number (getD rs i blank) fit))
 
-  look-step : (decision : Decision) → decided (d .words) (Input.Look number) ≡ decision → Look rs number decision → Looked d number (step d (Input.Look number))
-  unfolding step planFor planOf rowTaken
-  look-step decision e (refuses refusal) = nothing (rw e (ap (λ (v : List ℕ). record { words = v }) (applied-stay (d .words)))) (rw e)
-  look-step decision e (gives i fit) =
-      let r = getD rs i blank in
-      offers (r .terms .identifier) (rw e refl)
-      (rw e (plan-step d reached (r .terms .identifier) (rowTaken i r Offers) (λ l. R.lineActs l R.offers) (offer-does i fit)))
-      (λ other n.
-      rw (e, records-applied (d .words) (rowTaken i r Offers .change) (line-full reached)) (held-put-other lineView rs i _ other refl n))
-
-  pub line-looks : Looked d number (step d (Input.Look number))
-  unfolding decided lookDecision
-  line-looks = look-step _ refl (found-look (d .words) number (lineAt number (lines (d .words))))
-
--- ---- a line report: it sends nothing, and at most it marks activity
-pub record Reported (d : Desk) (number : Words) (busy : Bool) (after : Stepped) : Type 0 where
-  pub silent : after .outcome .sending ≡ Sending.Nothing
-  pub unaltered :
-      (identifier : Words) →
-      Unaltered (lineDoes (Input.Report number busy)) (P.held lineView identifier (records (d .words))) (P.held lineView identifier (records (after .desk .words)))
-
-marking-held : (number : Words) (h : P.Held Record) → Unaltered (lineDoes (Input.Report number true)) h (P.mapHeld (marking number) h)
-unfolding P.mapHeld
-marking-held number P.none = same
-marking-held number (P.one r) =
-    pick-elim (λ (x : Record). Unaltered (lineDoes (Input.Report number true)) (P.one r) (P.one x)) (marks number r) (λ t. marked r t) (λ t. same)
-
-module _ (d : Desk) (reached : Reached d) (number : Words) where
-  report-unaltered :
-      (k : ℕ) (busy : Bool) (identifier : Words) →
-      Unaltered (lineDoes (Input.Report number busy)) (P.held lineView identifier (records (d .words)))
-      (P.held lineView identifier (records (applied (d .words) (Report k number busy))))
-  report-unaltered k true identifier =
-      rw (records-applied (d .words) (Report k number true) (line-full reached), held-change lineView (records (d .words)) (marking number) identifier (marking-used number) (marking-name number))
-      (marking-held number (P.held lineView identifier (records (d .words))))
-  report-unaltered k false identifier = rw (records-applied (d .words) (Report k number false) (line-full reached)) same
-
-  found-reported : (busy : Bool) (f : Found) → Reported d number busy (made d (planOf (d .words) (Input.Report number busy) (reportFound busy f)))
+  look-acted : (decision : Decision) → Look rs number decision → Acted rs R.offers (planOf (d .words) (Input.Look number) decision)
   unfolding planOf
-  found-reported busy Nothing = record { silent = refl; unaltered = λ identifier. rw (applied-stay (d .words)) same }
-  found-reported busy (At k) = record { silent = refl; unaltered = report-unaltered k busy }
+  look-acted decision (refuses refusal) = Changed.refuses refl refl
+  look-acted decision (gives i fit) =
+      let r = getD rs i blank in
+      takes-row i (invoked-used (r .state) (fits-invoked number r fit)) (touches-row i r Offers) (own-row rs i r Offers) (offer-answers i fit)
 
-  pub line-reports : (busy : Bool) → Reported d number busy (step d (Input.Report number busy))
-  unfolding step planFor decided reportDecision
-  line-reports busy = found-reported busy (lineAt number (lines (d .words)))
+  pub line-looks : Acted rs R.offers (planFor (d .words) (Input.Look number))
+  unfolding planFor decided lookDecision
+  line-looks = look-acted _ (found-look (d .words) number (lineAt number (lines (d .words))))
+
+-- ---- a line report: it sends nothing, touches no place, and at most it marks activity
+pub record Reported (rs : List Record) (number : Words) (busy : Bool) (plan : Plan) : Type 0 where
+  pub silent : plan .outcome .sending ≡ Sending.Nothing
+  pub untouched : lineChange (plan .change) ≡ Touch.nothing
+  pub marks : (recordsAfter rs (plan .change) ≡ rs) ⊎ ((busy ≡ true) × (recordsAfter rs (plan .change) ≡ map (marking number) rs))
+
+found-reported : (ws : List ℕ) (number : Words) (busy : Bool) (f : Found) → Reported (records ws) number busy (planOf ws (Input.Report number busy) (reportFound busy f))
+unfolding planOf
+found-reported ws number busy Nothing = record { silent = refl; untouched = refl; marks = inl refl }
+found-reported ws number true (At k) = record { silent = refl; untouched = refl; marks = inr (refl, refl) }
+found-reported ws number false (At k) = record { silent = refl; untouched = refl; marks = inl refl }
+
+pub line-reports : (d : Desk) (number : Words) (busy : Bool) → Reported (records (d .words)) number busy (planFor (d .words) (Input.Report number busy))
+unfolding planFor decided reportDecision
+line-reports d number busy = found-reported (d .words) number busy (lineAt number (lines (d .words)))

@@ -6,15 +6,16 @@ use mathlib.Core.List.{List, [], _∷_, map}
 use lib.Dec.{eqb}
 use native.Mathlib.Omega.{arith}
 use Rattle.lists.specs.Choice.{pick}
-use Rattle.lists.specs.declared.words.Words.{Words}
 use Rattle.lists.proofs.Choice.{no-true}
 use Rattle.message.specs.declared.Kind.{Kind}
+use Rattle.message.specs.Format.{hasElements}
 use Rattle.desk.specs.Carriers.{carrierFits}
 use Rattle.desk.specs.Sends.{answered}
 use Rattle.desk.specs.declared.Connection.the-variants as Connection
 use Rattle.desk.specs.declared.Keep.the-variants as Keep
 use Rattle.desk.specs.declared.letter.Letter.{Letter}
 use Rattle.desk.specs.declared.outcome.Sending.the-variants as Sending
+use Rattle.desk.specs.declared.sends.Elements.{Elements}
 use Rattle.terms.specs.Request.{canKeepSent}
 use Rattle.places.specs.Places as P
 use Rattle.clerk.specs.Entry.{askFlags}
@@ -33,6 +34,7 @@ use Rattle.line_table.specs.declared.inputs.Act.the-variants as Act
 use Rattle.line_table.specs.declared.inputs.RecordMessage.{RecordMessage}
 use Rattle.line_table.specs.declared.inputs.RecordMessage.the-variants as Message
 use Rattle.line_records.specs.Lines.{keeps, retains}
+use Rattle.line_records.specs.Meaning.{isFor}
 use Rattle.line_plan.specs.Decide.{holdsFor}
 use Rattle.line_plan.specs.Plan.{newRecord, storedPlan, deniedPlan}
 use Rattle.pair_request.specs.Reading as R
@@ -50,7 +52,7 @@ leaves (Remove i) before = P.none
 leaves (Report k number busy) before = before
 
 -- a plan does to what is read as l what the answer says, and sends what it says
-pub data Answers (plan : Plan) (identifier : Words) (active : Bool) (l : R.Line) (answer : R.LAnswer) : Type 0 where
+pub data Answers (plan : Plan) (identifier : Elements) (active : Bool) (l : R.Line) (answer : R.LAnswer) : Type 0 where
   answers :
       (after : Bool) → leaves (plan .change) (lineRead identifier active l) ≡ lineRead identifier after (answer .0) →
       sentBy (plan .outcome .sending) ≡ map (messageRead identifier) (answer .1) → Answers plan identifier active l answer
@@ -60,7 +62,7 @@ abbrev pub wordOf : R.Verdict → Bool → R.Word
 wordOf verdict free = record { verdict = verdict; free = free }
 
 -- ---- a message without a row at the line's end
-pub nothing-done : (number : ℕ) (identifier : Words) (b : Bool) (l : R.Line) → Answers (refusedPlan number Sending.Nothing) identifier b l (l, [])
+pub nothing-done : (number : ℕ) (identifier : Elements) (b : Bool) (l : R.Line) → Answers (refusedPlan number Sending.Nothing) identifier b l (l, [])
 nothing-done number identifier b l = answers b refl refl
 
 -- ---- messages about a record
@@ -78,7 +80,7 @@ rowPlan i r l message row =
     (pick (carrierFits (l .body) (r .terms .connection) (l .carrier)) (rowTaken i r row) (refusedPlan 8 Sending.Nothing))
     (refusedPlan 7 (answered (l .identifier) (replyMissed message)))
 
-module _ (identifier : Words) (b : Bool) (p : R.Policy) where
+module _ (identifier : Elements) (b : Bool) (p : R.Policy) where
   pub record-found :
       (i : ℕ) (message : RecordMessage) (n′ : R.Conn) (free : Bool) (t : R.Terms) (own : R.Own) (s : R.LState) →
       Answers (rowPlan i (lineRecord identifier b t own s) (letterRead identifier (recordMessage message n′)) message (rowFor message free (keepRead (R.keep t))))
@@ -99,12 +101,14 @@ module _ (identifier : Words) (b : Bool) (p : R.Policy) where
   record-found i Message.Suspend R.rls free (R.chosen d k R.ret) own (R.await m) = answers b refl refl
   record-found i Message.Suspend R.rls free (R.chosen d k R.rls) own (R.await m) = answers b refl refl
   record-found i Message.Suspend n′ free t own R.alert = answers b refl refl
-  record-found i Message.Resume n′ free t own R.idle = answers b refl refl
+  record-found i Message.Resume R.ret free t own R.idle = answers b refl refl
+  record-found i Message.Resume R.rls free t own R.idle = answers b refl refl
   record-found i Message.Resume R.ret free (R.chosen d k R.ret) own (R.await m) = answers b refl refl
   record-found i Message.Resume R.ret free (R.chosen d k R.rls) own (R.await m) = answers b refl refl
   record-found i Message.Resume R.rls free (R.chosen d k R.ret) own (R.await m) = answers b refl refl
   record-found i Message.Resume R.rls free (R.chosen d k R.rls) own (R.await m) = answers b refl refl
-  record-found i Message.Resume n′ free t own R.alert = answers b refl refl
+  record-found i Message.Resume R.ret free t own R.alert = answers b refl refl
+  record-found i Message.Resume R.rls free t own R.alert = answers b refl refl
   record-found i Message.Cancel R.ret free t own R.idle = answers b refl refl
   record-found i Message.Cancel R.ret free t own (R.await m) = answers b refl refl
   record-found i Message.Cancel R.ret free t own R.alert = answers b refl refl
@@ -114,25 +118,45 @@ module _ (identifier : Words) (b : Bool) (p : R.Policy) where
 
   -- no record
   pub record-missed :
-      (message : RecordMessage) (n′ : R.Conn) (w : R.Word) →
-      Answers (refusedPlan 6 (answered (letterRead identifier (recordMessage message n′) .identifier) (replyMissed message))) identifier b R.none
+      (number : ℕ) (message : RecordMessage) (n′ : R.Conn) (w : R.Word) →
+      Answers (refusedPlan number (answered (letterRead identifier (recordMessage message n′) .identifier) (replyMissed message))) identifier b R.none
       (R.lineTakes p R.none (recordMessage message n′) w)
   unfolding R.lineTakes
-  record-missed Message.Suspend n′ w = answers b refl refl
-  record-missed Message.Resume n′ w = answers b refl refl
-  record-missed Message.Ringout n′ w = answers b refl refl
-  record-missed Message.Cancel n′ w = answers b refl refl
+  record-missed number Message.Suspend n′ w = answers b refl refl
+  record-missed number Message.Resume R.ret w = answers b refl refl
+  record-missed number Message.Resume R.rls w = answers b refl refl
+  record-missed number Message.Ringout n′ w = answers b refl refl
+  record-missed number Message.Cancel n′ w = answers b refl refl
+
+  -- a record that fits, in no state that the message is for
+  pub record-late :
+      (message : RecordMessage) (n′ : R.Conn) (free : Bool) (t : R.Terms) (own : R.Own) (s : R.LState) →
+      hasElements (letterRead identifier (recordMessage message n′) .body) (letterRead identifier (recordMessage message n′) .carrier) ≡ true →
+      isFor (letterRead identifier (recordMessage message n′) .body) (lineRecord identifier b t own s) ≡ false →
+      Answers (refusedPlan 7 (answered (letterRead identifier (recordMessage message n′) .identifier) (replyMissed message))) identifier b (R.holds t own s)
+      (R.lineTakes p (R.holds t own s) (recordMessage message n′) (wordOf R.takes free))
+  unfolding R.lineTakes R.onRingout R.onResume
+  record-late Message.Suspend n′ free t own s set ready = absurd (no-true set)
+  record-late Message.Resume R.ret free t own s set ready = absurd (no-true set)
+  record-late Message.Resume R.rls free t own R.idle set ready = answers b refl refl
+  record-late Message.Resume R.rls free t own (R.await m) set ready = absurd (no-true (sym ready))
+  record-late Message.Resume R.rls free t own R.alert set ready = answers b refl refl
+  record-late Message.Ringout n′ free t own R.idle set ready = answers b refl refl
+  record-late Message.Ringout n′ free t own (R.await m) set ready = absurd (no-true (sym ready))
+  record-late Message.Ringout n′ free t own R.alert set ready = answers b refl refl
+  record-late Message.Cancel R.ret free t own s set ready = absurd (no-true set)
+  record-late Message.Cancel R.rls free t own s set ready = absurd (no-true (sym ready))
 
 -- ---- acts, the guard, an offer
 -- a row of the desk's own
 abbrev pub ownRow : ℕ → Row → Record → Plan
 ownRow i row r = pick (holdsFor row r) (rowTaken i r row) (refusedPlan 7 Sending.Nothing)
 
-pub own-missed : (identifier : Words) (b : Bool) (x : R.LAct) → Answers (refusedPlan 6 Sending.Nothing) identifier b R.none (R.lineActs R.none x)
+pub own-missed : (identifier : Elements) (b : Bool) (x : R.LAct) → Answers (refusedPlan 6 Sending.Nothing) identifier b R.none (R.lineActs R.none x)
 unfolding R.lineActs
 own-missed identifier b x = answers b refl refl
 
-module _ (i : ℕ) (identifier : Words) (b : Bool) where
+module _ (i : ℕ) (identifier : Elements) (b : Bool) where
   pub act-found :
       (act : Act) (t : R.Terms) (own : R.Own) (s : R.LState) →
       Answers (ownRow i (rowOfAct act) (lineRecord identifier b t own s)) identifier b (R.holds t own s) (R.lineActs (R.holds t own s) (lineActRead act))
@@ -220,13 +244,13 @@ connection-read ck q ws =
     ∙ connection-chosen (eqb q 1) (eqb q 2) (retains ws)
 
 new-read :
-    (ws : List ℕ) (identifier : Words) (busy : Bool) (d : R.Data) (kind : Kind) (q : ℕ) →
-    newRecord ws (namesRead identifier d) (requestRead d kind q) busy
+    (ws : List ℕ) (identifier : Elements) (busy : Bool) (d : R.Data) (kind : Kind) (q : ℕ) →
+    newRecord ws (namesRead identifier) (requestRead identifier d kind q) busy
     ≡ lineRecord identifier busy (R.termsOf (policyOf ws) d q) (R.has kind false) R.idle
 new-read ws identifier busy d kind q = rw (keep-read (d .canKeep) q (keeps ws), connection-read (d .canKeep) q ws)
 
 stored-read :
-    (i : ℕ) (identifier : Words) (b busy : Bool) (t : R.Terms) (kind : Kind) →
+    (i : ℕ) (identifier : Elements) (b busy : Bool) (t : R.Terms) (kind : Kind) →
     Answers (storedPlan i (lineRecord identifier busy t (R.has kind false) R.idle)) identifier b R.none (R.holds t (R.has kind false) R.idle, R.resultOf t ∷ [])
 stored-read i identifier b busy (R.chosen d true R.ret) kind = answers busy refl refl
 stored-read i identifier b busy (R.chosen d true R.rls) kind = answers busy refl refl
@@ -234,8 +258,8 @@ stored-read i identifier b busy (R.chosen d false R.ret) kind = answers busy ref
 stored-read i identifier b busy (R.chosen d false R.rls) kind = answers busy refl refl
 
 pub request-stored :
-    (ws : List ℕ) (i : ℕ) (identifier : Words) (b busy free : Bool) (d : R.Data) (kind : Kind) (q : ℕ) →
-    Answers (storedPlan i (newRecord ws (namesRead identifier d) (requestRead d kind q) busy)) identifier b R.none
+    (ws : List ℕ) (i : ℕ) (identifier : Elements) (b busy free : Bool) (d : R.Data) (kind : Kind) (q : ℕ) →
+    Answers (storedPlan i (newRecord ws (namesRead identifier) (requestRead identifier d kind q) busy)) identifier b R.none
     (R.lineTakes (policyOf ws) R.none (R.request d kind q) (wordOf R.takes free))
 unfolding R.lineTakes R.onRequest
 request-stored ws i identifier b busy free d kind q =
@@ -245,7 +269,7 @@ request-stored ws i identifier b busy free d kind q =
     (stored-read i identifier b busy (R.termsOf (policyOf ws) d q) kind)
 
 pub request-denied :
-    (ws : List ℕ) (identifier : Words) (b short free : Bool) (d : R.Data) (kind : Kind) (q : ℕ) (l : R.Line) →
-    Answers (deniedPlan identifier (pick short 1 2)) identifier b l (R.lineTakes (policyOf ws) l (R.request d kind q) (wordOf (R.denies short) free))
+    (ws : List ℕ) (identifier : Elements) (b short free : Bool) (d : R.Data) (kind : Kind) (q : ℕ) (l : R.Line) →
+    Answers (deniedPlan (identifier .identifier) (pick short 1 2)) identifier b l (R.lineTakes (policyOf ws) l (R.request d kind q) (wordOf (R.denies short) free))
 unfolding R.lineTakes R.onRequest
 request-denied ws identifier b short free d kind q l = answers b refl refl

@@ -1,91 +1,93 @@
--- The history for one identifier: what a note adds to what is told of it, and what a note of another leaves.
+-- The history for one request: what a note adds to what is told of it, and what a note of another leaves.
 use Prim.Native.Nat.{ℕ}
 use mathlib.Core.Path.{_≡_, refl, sym, _∙_, ap}
 use mathlib.Core.Bool.{Bool, true, false, false≢true}
 use mathlib.Core.Logic.{_⊎_, inl, inr}
-use mathlib.Core.List.{List, [], _∷_, _++_, List·Memᴰ as Noted, List·Memᴰ·head, List·Memᴰ·tail, List·Memᴰ·cases-cons}
+use mathlib.Core.List.{List, [], _∷_, List·Memᴰ as Noted, List·Memᴰ·head, List·Memᴰ·tail, List·Memᴰ·cases-cons}
 use lib.Dec.{eqb}
 use borrow.Author.Tests.{eq-eqb}
-use Rattle.lists.specs.Choice.{pick}
-use Rattle.lists.specs.declared.words.Words.{Words}
+use Rattle.desk.specs.declared.letter.Identifier.{Identifier}
 use Rattle.pair_request.specs.Reading.{or}
-use Rattle.pair.specs.World.{Note, takenUp, dropped, runOut, guarded}
+use Rattle.pair.specs.World.{Of, Naming, Note, takenUp, dropped, runOut, guarded}
 
--- a word tells whether a note is in a history
-pub record Told (n : Note) (h : List Note) (b : Bool) : Type 0 where
-  pub yes : b ≡ true → Noted n h
-  pub no : Noted n h → b ≡ true
-
-pub told-false : {n : Note} {h : List Note} (b : Bool) → Told n h b → (Noted n h → ⊥) → b ≡ false
-told-false true t d = absurd (d (t .yes refl))
-told-false false t d = refl
-
-pub told-none : (n : Note) → Told n [] false
-told-none n = record { yes = λ e. absurd (false≢true e); no = λ m. none m }
-  where
-    none : Noted n [] → false ≡ true
-    none m = elim m [ ]
-
--- notes are told apart by their kind and by their identifier
+-- notes are told apart by their kind and by their label
 abbrev kind : Note → ℕ
-kind (takenUp j) = 0
-kind (dropped j) = 1
-kind (runOut j) = 2
-kind (guarded j) = 3
+kind (takenUp l) = 0
+kind (dropped l) = 1
+kind (runOut l) = 2
+kind (guarded l) = 3
 
-abbrev whose : Note → Words
-whose (takenUp j) = j
-whose (dropped j) = j
-whose (runOut j) = j
-whose (guarded j) = j
+abbrev pub whose : Note → Of Identifier
+whose (takenUp l) = l
+whose (dropped l) = l
+whose (runOut l) = l
+whose (guarded l) = l
 
--- ---- what a note in front of a history tells of one: of itself, of one of another kind, of one of another identifier
-abbrev Adds : Note → List Note → List Note → Bool → Type 0
-Adds n after before so = (b : Bool) → Told n before b → Told n after (or so b)
+module _ {K : Type 0} (n : Naming K) (k : K) where
+  -- what is told of a request in a history
+  abbrev pub ToldIn : (Of Identifier → Note) → List Note → Type 0
+  ToldIn note h = (l : Of Identifier) × ((n .key l ≡ k) × Noted (note l) h)
 
-itself : {n : Note} {h : List Note} → Adds n (n ∷ h) h true
-itself b t = record { yes = λ e. List·Memᴰ·head refl; no = λ m. refl }
+  -- a word tells whether it is
+  pub record Knows (note : Of Identifier → Note) (h : List Note) (b : Bool) : Type 0 where
+    pub yes : b ≡ true → ToldIn note h
+    pub no : ToldIn note h → b ≡ true
 
-behind : {n x : Note} {h : List Note} → (n ≡ x → ⊥) → Adds n (x ∷ h) h false
-behind {n} {x} {h} d b t = record { yes = λ e. List·Memᴰ·tail (t .yes e); no = λ m. by (List·Memᴰ·cases-cons m) }
-  where
-    by : (n ≡ x) ⊎ Noted n h → b ≡ true
-    by (inl e) = absurd (d e)
-    by (inr m) = t .no m
+  pub knows-false : {note : Of Identifier → Note} {h : List Note} (b : Bool) → Knows note h b → (ToldIn note h → ⊥) → b ≡ false
+  knows-false true t d = absurd (d (t .yes refl))
+  knows-false false t d = refl
 
-unlike : {n x : Note} {h : List Note} → eqb (kind n) (kind x) ≡ false → Adds n (x ∷ h) h false
-unlike d = behind (λ e. false≢true (sym d ∙ eq-eqb _ _ (ap kind e)))
+  pub knows-none : (note : Of Identifier → Note) → Knows note [] false
+  knows-none note = record { yes = λ e. absurd (false≢true e); no = λ m. never (note (m .0)) (m .1 .1) }
+    where
+      never : (x : Note) → Noted x [] → false ≡ true
+      never x m = elim m [ ]
 
-other : {n x : Note} {h : List Note} → (whose x ≡ whose n → ⊥) → Adds n (x ∷ h) h false
-other d = behind (λ e. d (sym (ap whose e)))
+  -- ---- what a note in front of a history tells: of the request, or nothing of it
+  abbrev Adds : (Of Identifier → Note) → List Note → List Note → Bool → Type 0
+  Adds note after before so = (b : Bool) → Knows note before b → Knows note after (or so b)
 
--- ---- what is told of one identifier after a step: whether it was taken up, ran out, was guarded, lost a message
-pub record Notes (after before : List Note) (j : Words) (u t g x : Bool) : Type 0 where
-  pub takenUp : Adds (Note.takenUp j) after before u
-  pub runOut : Adds (Note.runOut j) after before t
-  pub guarded : Adds (Note.guarded j) after before g
-  pub dropped : Adds (Note.dropped j) after before x
+  itself : {note : Of Identifier → Note} {h : List Note} (l : Of Identifier) → n .key l ≡ k → Adds note (note l ∷ h) h true
+  itself l e b t = record { yes = λ q. (l, (e, List·Memᴰ·head refl)); no = λ m. refl }
 
-abbrev pub Unnoted : List Note → List Note → Words → Type 0
-Unnoted after before j = Notes after before j false false false false
+  behind : {note : Of Identifier → Note} {x : Note} {h : List Note} → ((l : Of Identifier) → n .key l ≡ k → note l ≡ x → ⊥) → Adds note (x ∷ h) h false
+  behind {note} {x} {h} d b t =
+      record { yes = λ e. let m = t .yes e in (m .0, (m .1 .0, List·Memᴰ·tail (m .1 .1))); no = λ m. by m (List·Memᴰ·cases-cons (m .1 .1)) }
+    where
+      by : (m : ToldIn note (x ∷ h)) → (note (m .0) ≡ x) ⊎ Noted (note (m .0)) h → b ≡ true
+      by m (inl e) = absurd (d (m .0) (m .1 .0) e)
+      by m (inr i) = t .no (m .0, (m .1 .0, i))
 
-pub unnoted : (h : List Note) (j : Words) → Unnoted h h j
-unnoted h j = record { takenUp = λ b t. t; runOut = λ b t. t; guarded = λ b t. t; dropped = λ b t. t }
+  unlike : {note : Of Identifier → Note} {x : Note} {h : List Note} → ((l : Of Identifier) → eqb (kind (note l)) (kind x) ≡ false) → Adds note (x ∷ h) h false
+  unlike d = behind (λ l q e. false≢true (sym (d l) ∙ eq-eqb _ _ (ap kind e)))
 
-pub unnoted-other : (so : Bool) (x : Note) (h : List Note) (j : Words) → (whose x ≡ j → ⊥) → Unnoted (pick so (x ∷ []) [] ++ h) h j
-unnoted-other true x h j d = record { takenUp = other d; runOut = other d; guarded = other d; dropped = other d }
-unnoted-other false x h j d = unnoted h j
+  other : {note : Of Identifier → Note} {x : Note} {h : List Note} → ((l : Of Identifier) → whose (note l) ≡ l) → (n .key (whose x) ≡ k → ⊥) → Adds note (x ∷ h) h false
+  other same d = behind (λ l q e. d (ap (n .key) (sym (ap whose e) ∙ same l) ∙ q))
 
-pub noted-ask : (j : Words) (h : List Note) → Notes (takenUp j ∷ h) h j true false false false
-noted-ask j h = record { takenUp = itself; runOut = unlike refl; guarded = unlike refl; dropped = unlike refl }
+  -- ---- what is told of it after a step: whether it was taken up, ran out, was guarded, lost a message
+  pub record Notes (after before : List Note) (u t g x : Bool) : Type 0 where
+    pub takenUp : Adds Note.takenUp after before u
+    pub runOut : Adds Note.runOut after before t
+    pub guarded : Adds Note.guarded after before g
+    pub dropped : Adds Note.dropped after before x
 
-pub noted-timer : (so : Bool) (j : Words) (h : List Note) → Notes (pick so (runOut j ∷ []) [] ++ h) h j false so false false
-noted-timer true j h = record { takenUp = unlike refl; runOut = itself; guarded = unlike refl; dropped = unlike refl }
-noted-timer false j h = unnoted h j
+  abbrev pub Unnoted : List Note → List Note → Type 0
+  Unnoted after before = Notes after before false false false false
 
-pub noted-guard : (so : Bool) (j : Words) (h : List Note) → Notes (pick so (guarded j ∷ []) [] ++ h) h j false false so false
-noted-guard true j h = record { takenUp = unlike refl; runOut = unlike refl; guarded = itself; dropped = unlike refl }
-noted-guard false j h = unnoted h j
+  pub unnoted : (h : List Note) → Unnoted h h
+  unnoted h = record { takenUp = λ b t. t; runOut = λ b t. t; guarded = λ b t. t; dropped = λ b t. t }
 
-pub noted-drop : (j : Words) (h : List Note) → Notes (dropped j ∷ h) h j false false false true
-noted-drop j h = record { takenUp = unlike refl; runOut = unlike refl; guarded = unlike refl; dropped = itself }
+  pub unnoted-other : (x : Note) (h : List Note) → (n .key (whose x) ≡ k → ⊥) → Unnoted (x ∷ h) h
+  unnoted-other x h d = record { takenUp = other (λ l. refl) d; runOut = other (λ l. refl) d; guarded = other (λ l. refl) d; dropped = other (λ l. refl) d }
+
+  pub noted-ask : (l : Of Identifier) (h : List Note) → n .key l ≡ k → Notes (takenUp l ∷ h) h true false false false
+  noted-ask l h e = record { takenUp = itself l e; runOut = unlike (λ x. refl); guarded = unlike (λ x. refl); dropped = unlike (λ x. refl) }
+
+  pub noted-timer : (l : Of Identifier) (h : List Note) → n .key l ≡ k → Notes (runOut l ∷ h) h false true false false
+  noted-timer l h e = record { takenUp = unlike (λ x. refl); runOut = itself l e; guarded = unlike (λ x. refl); dropped = unlike (λ x. refl) }
+
+  pub noted-guard : (l : Of Identifier) (h : List Note) → n .key l ≡ k → Notes (guarded l ∷ h) h false false true false
+  noted-guard l h e = record { takenUp = unlike (λ x. refl); runOut = unlike (λ x. refl); guarded = itself l e; dropped = unlike (λ x. refl) }
+
+  pub noted-drop : (l : Of Identifier) (h : List Note) → n .key l ≡ k → Notes (dropped l ∷ h) h false false false true
+  noted-drop l h e = record { takenUp = unlike (λ x. refl); runOut = unlike (λ x. refl); guarded = unlike (λ x. refl); dropped = itself l e }

@@ -1,100 +1,157 @@
--- In every world of a run each request has its net, and every step of the world is a step of it or leaves it.
+-- In every world of a run a request for which the premise holds at each step has its net, and every step of the world is a step of it or leaves it.
 use Prim.Native.Nat.{ℕ}
-use mathlib.Core.Path.{_≡_, refl, subst}
+use mathlib.Core.Path.{_≡_, refl, sym, _∙_, ap}
 use mathlib.Core.Bool.{Bool, false, false≢true}
-use mathlib.Core.Logic.{_⊎_, inl, inr}
-use mathlib.Core.List.{List}
+use mathlib.Core.List.{List, [], List·Memᴰ as Noted}
+use lib.ListN.{length-replicate}
 use Rattle.lists.specs.Words.{Bytes}
-use Rattle.lists.specs.declared.words.Words.{Words}
+use Rattle.lists.specs.declared.Found.the-variants.{Nothing}
+use Rattle.desk.specs.Sends.{noNumber}
+use Rattle.desk.specs.declared.letter.Identifier.the-variants.{Absent}
+use Rattle.lists.proofs.Choice.{no-true}
+use Rattle.clerk_records.specs.Layout as ClerkLayout
+use Rattle.clerk_records.proofs.RecordsLaws as ClerkLaws
+use Rattle.clerk.specs.Steps.{startedDesk}
 use Rattle.clerk_sound.specs.Sound as ClerkSound
+use Rattle.clerk_sound.proofs.Start as ClerkStart
+use Rattle.line_table.specs.Search.{used}
+use Rattle.line_records.specs.Layout as LineLayout
+use Rattle.line_records.proofs.RecordsLaws as LineLaws
 use Rattle.line.specs.Start.{started}
 use Rattle.line_sound.specs.Sound as LineSound
+use Rattle.line_sound.proofs.Starting as LineStarting
 use Rattle.pair_request.specs.Reading as R
-use Rattle.pair.specs.World.{World, Event, clerkDoes, lineDoes, clerkIsTold, clerkHears, lineHears, dropsUp, dropsDown, messagesOf, next, Allowed, Run, stop, then, startWorld}
-use Rattle.pair.proofs.Ends.{policyOf}
-use Rattle.pair.proofs.Wires.{words?, no-message, quiet}
-use Rattle.pair.proofs.Notes.{told-none}
-use Rattle.pair.proofs.Grounds.{clerk-started, line-started}
-use Rattle.pair.proofs.Sim.{Sim, Known, Good, Hearing, Moves, Turn, nobody, somebody, Turned, left-sim}
-use Rattle.pair.proofs.ClerkSteps.{clerk-does, clerk-told, clerk-hear}
-use Rattle.pair.proofs.LineSteps.{line-does, line-hear, drop-up, drop-down}
+use Rattle.pair.specs.World.{Naming, Note, World, Event, clerkDoes, lineDoes, clerkIsTold, clerkHears, lineHears, dropsUp, dropsDown, clerkHolds, lineHolds, messagesOf, next, Allowed, Run, stop, then, startWorld, Reached, reached}
+use Rattle.pair.proofs.Keys.{Tells, origins-tell}
+use Rattle.pair.proofs.Sits.{nowhere}
+use Rattle.pair.proofs.Ends.{clerkRead, lineRead, policyOf}
+use Rattle.pair.proofs.Wires.{no-message, quiet}
+use Rattle.pair.proofs.Notes.{knows-none}
+use Rattle.pair.proofs.Sim.{Good, Sim, Fine, Hearing, Turn, leaves, moves, Turned, clerk-held, line-held}
+use Rattle.pair.proofs.ClerkSteps.{clerk-does, clerk-tells, clerk-hear}
+use Rattle.pair.proofs.LineSteps.{line-does, line-hear}
+use Rattle.pair.proofs.Drops.{drop-up, drop-down}
 
 -- ---- every step, once
-pub turned : {p : R.Policy} {w : World} → Good p w → Known p w → (e : Event) → Allowed w e → Turned p w e (next w e)
+pub turned : {K : Type 0} {n : Naming K} (tells : Tells n) {p : R.Policy} {w : World} → Good p w → (e : Event) → Allowed w e → Turned n p w e (next w e)
 unfolding next
-turned g known (clerkDoes input) once = clerk-does g known input once
-turned g known (lineDoes input) once = line-does g known input once
-turned g known (clerkIsTold x k busy) once = clerk-told g known x k busy
-turned {w = w} g known (clerkHears busy) once = clerk-hear g known busy (w .down) refl (g .down)
-turned {w = w} g known lineHears once = line-hear g known (w .up) refl (g .up)
-turned g known (dropsUp i) once = drop-up g known i
-turned g known (dropsDown i) once = drop-down g known i
+turned tells g (clerkDoes input) allowed = clerk-does tells g input allowed
+turned tells g (lineDoes input) allowed = line-does tells g input allowed
+turned tells g (clerkIsTold x j busy) allowed = clerk-tells tells g x j busy
+turned tells {w = w} g (clerkHears busy place) allowed = clerk-hear tells g busy place (w .down) refl (g .down)
+turned tells {w = w} g (lineHears place) allowed = line-hear tells g place (w .up) refl (g .up)
+turned tells g (dropsUp i) allowed = drop-up tells g i
+turned tells g (dropsDown i) allowed = drop-down tells g i
 
--- what a step makes of one request's net: it leaves it, or is a step of it
-pub data Follows (p : R.Policy) (w : World) (e : Event) (j : Words) (n : R.Net) : R.Net → Type 0 where
-  stays : Follows p w e j n n
-  moves : (r : R.Event) → Hearing w e j r → Follows p w e j n (R.next p n r)
-
-abbrev pub Step : R.Policy → World → Event → World → Words → R.Net → Type 0
-Step p w e after j n = (m : R.Net) × (Follows p w e j n m × Sim j after m)
-
-turn-step : {p : R.Policy} {w : World} {e : Event} {after : World} → Turn p w e after → (j : Words) (n : R.Net) → R.Reach p n → Sim j w n → Step p w e after j n
-turn-step (nobody left) j n r sim = (n, (stays, left-sim (left j) sim))
-turn-step {p} {w} {e} {after} (somebody k named own left) j n r sim = by (words? k j)
-  where
-    by : (k ≡ j) ⊎ (k ≡ j → ⊥) → Step p w e after j n
-    by (inl q) =
-        let m : Moves p w e after j n =
-        subst (λ (i : Words). (n : R.Net) → R.Reach p n → Sim i w n → Moves p w e after i n) q own n r sim in
-        (R.next p n (m .0), (moves (m .0) (m .1 .0), m .1 .1))
-    by (inr d) = (n, (stays, left-sim (left j d) sim))
-
-pub step-world :
-    {p : R.Policy} {w : World} → Good p w → Known p w → (e : Event) → Allowed w e → (j : Words) (n : R.Net) → R.Reach p n → Sim j w n → Step p w e (next w e) j n
-step-world g known e once = turn-step (turned g known e once .1)
-
--- ---- runs
-pub follows-reach : {p : R.Policy} {w : World} {e : Event} {j : Words} {n m : R.Net} → Follows p w e j n m → R.Reach p n → R.Reach p m
-follows-reach stays r = r
-follows-reach (moves x h) r = R.more r x
-
-known-next : {p : R.Policy} {w : World} → Good p w → Known p w → (e : Event) → Allowed w e → Known p (next w e)
-known-next g known e once j =
-    let k = known j in
-    let s = step-world g known e once j (k .0) (k .1 .0) (k .1 .1) in
-    (s .0, (follows-reach (s .1 .0) (k .1 .0), s .1 .1))
-
--- the start: every desk empty, every wire quiet, nothing in the history
+-- ---- the start: every desk empty, every wire quiet, nothing in the history
 abbrev pub startPolicy : List ℕ → Bool → Bool → R.Policy
 startPolicy given keep retain = policyOf (started given keep retain .desk .words)
 
+nothing-noted : {B : Type 0} (x : Note) → Noted x [] → B
+nothing-noted x m = elim m [ ]
+
+line-unused : (given : List ℕ) (keep retain : Bool) (i : ℕ) → LineSound.lineView .used (LineSound.recordAt (started given keep retain .desk) i) ≡ false
+line-unused given keep retain i = ap used (LineStarting.start-free given keep retain i) ∙ LineStarting.blank-unused
+
 pub good-start : (given : List ℕ) (keep retain : Bool) → Bytes given → Good (startPolicy given keep retain) (startWorld given keep retain)
 good-start given keep retain b =
-    record { clerk = ClerkSound.starts; line = LineSound.starts given keep retain b; policy = refl; up = quiet; down = quiet }
-
-pub start-sim : (given : List ℕ) (keep retain : Bool) (j : Words) → Sim j (startWorld given keep retain) R.start
-unfolding messagesOf
-start-sim given keep retain j =
     record {
-      clerk = clerk-started j;
+      clerk = ClerkSound.starts;
+      line = LineSound.starts given keep retain b;
+      policy = refl;
+      clerkFull = length-replicate {A = ℕ} ClerkLayout.places 0 ∙ sym (ClerkLaws.records-length (startedDesk .words));
+      lineFull = length-replicate {A = ℕ} LineLayout.places 0 ∙ sym (LineLaws.records-length (started given keep retain .desk .words));
+      clerkLabels = λ i u. absurd (no-true (sym (ClerkStart.start-empty i) ∙ u));
+      lineLabels = λ i u. absurd (no-true (sym (line-unused given keep retain i) ∙ u));
+      up = quiet;
+      down = quiet;
+      taken = λ l m. nothing-noted (Note.takenUp l) m;
+    }
+
+pub start-sim : {K : Type 0} (n : Naming K) (k : K) (given : List ℕ) (keep retain : Bool) → Sim n k (startWorld given keep retain) R.start
+unfolding messagesOf
+start-sim n k given keep retain =
+    record {
+      name = record { identifier = Absent; numberA = noNumber; numberB = noNumber; service = 0 };
+      clerkPlace = Nothing;
+      clerkSits = nowhere (λ i m. no-true (sym (ClerkStart.start-empty i) ∙ m .0));
+      clerk = refl;
+      linePlace = Nothing;
+      lineSits = nowhere (λ i m. no-true (sym (line-unused given keep retain i) ∙ m .0));
       active = false;
-      line = line-started given keep retain j;
+      line = refl;
       up = refl;
       down = refl;
       upClear = no-message;
       downClear = no-message;
       kept = λ e. absurd (false≢true e);
-      used = told-none _;
-      timedOut = told-none _;
-      guarded = told-none _;
-      dropped = told-none _;
+      used = knows-none n k _;
+      timedOut = knows-none n k _;
+      guarded = knows-none n k _;
+      dropped = knows-none n k _;
     }
 
-pub known-start : (given : List ℕ) (keep retain : Bool) → Known (startPolicy given keep retain) (startWorld given keep retain)
-known-start given keep retain j = (R.start, (R.begin, start-sim given keep retain j))
+-- ---- runs
+pub run-good : {P : World → Event → Type 0} {p : R.Policy} {first w : World} → Run P first w → Good p first → Good p w
+run-good stop g = g
+run-good (then run e allowed so) g = turned origins-tell (run-good run g) e allowed .0
 
-pub run-good : {p : R.Policy} {first w : World} → Run first w → Good p first → Known p first → Good p w × Known p w
-run-good stop g k = (g, k)
-run-good (then run e once) g k =
-    let i = run-good run g k in
-    (turned (i .0) (i .1) e once .0, known-next (i .0) (i .1) e once)
+pub good-world : {P : World → Event → Type 0} (w : World) → Reached P w → (p : R.Policy) × Good p w
+good-world w (reached given keep retain b run) = (startPolicy given keep retain, run-good run (good-start given keep retain b))
+
+-- what a step makes of one request's net: it leaves it, or is a step of it
+pub data Follows {K : Type 0} (n : Naming K) (p : R.Policy) (k : K) (w : World) (e : Event) (s : R.Net) : R.Net → Type 0 where
+  stays : Follows n p k w e s s
+  steps : (r : R.Event) → Hearing n k w e r → Follows n p k w e s (R.next p s r)
+
+pub turn-step : {K : Type 0} {n : Naming K} {p : R.Policy} {k : K} {w : World} {e : Event} {after : World} {s : R.Net} → Turn n p k w e after s → (m : R.Net) × (Follows n p k w e s m × Sim n k after m)
+turn-step {s = s} (leaves left sim) = (s, (stays, sim))
+turn-step {p = p} {s = s} (moves named r heard sim) = (R.next p s r, (steps r heard, sim))
+
+pub follows-reach : {K : Type 0} {n : Naming K} {p : R.Policy} {k : K} {w : World} {e : Event} {s m : R.Net} → Follows n p k w e s m → R.Reach p s → R.Reach p m
+follows-reach stays r = r
+follows-reach (steps x h) r = R.more r x
+
+-- a request's net in a world, and what else holds there
+pub record Known {K : Type 0} (n : Naming K) (Inv : World → Type 0) (k : K) (p : R.Policy) (w : World) : Type 0 where
+  pub net : R.Net
+  pub reach : R.Reach p net
+  pub sim : Sim n k w net
+  pub inv : Inv w
+
+-- what its end holds, as it is read
+pub clerk-reads :
+    {K : Type 0} {n : Naming K} (tells : Tells n) {Inv : World → Type 0} {k : K} {p : R.Policy} {w : World} → Good p w → (x : Known n Inv k p w) →
+    clerkHolds n w k ≡ clerkRead (x .sim .name) (x .net .clerk)
+clerk-reads tells g x = clerk-held tells g (x .sim) ∙ x .sim .clerk
+
+pub line-reads :
+    {K : Type 0} {n : Naming K} (tells : Tells n) {Inv : World → Type 0} {k : K} {p : R.Policy} {w : World} → Good p w → (x : Known n Inv k p w) →
+    lineHolds n w k ≡ lineRead (x .sim .name) (x .sim .active) (x .net .line)
+line-reads tells g x = line-held tells g (x .sim) ∙ x .sim .line
+
+-- a premise from which the steps of a request are fine, by what it makes hold in every world of its runs
+pub record Fines {K : Type 0} (n : Naming K) (Holds : K → World → Event → Type 0) : Type 1 where
+  pub Inv : World → Type 0
+  pub begins : (given : List ℕ) (keep retain : Bool) → Inv (startWorld given keep retain)
+  pub keeps : {p : R.Policy} {w : World} → Good p w → Inv w → (k : K) (e : Event) → Holds k w e → Inv (next w e)
+  pub fine : {p : R.Policy} {w : World} → Good p w → Inv w → (k : K) (e : Event) → Holds k w e → Fine n k w e
+
+module _ {K : Type 0} {n : Naming K} (tells : Tells n) {Holds : K → World → Event → Type 0} (fines : Fines n Holds) where
+  pub step-known :
+      {k : K} {p : R.Policy} {w : World} → Good p w → (x : Known n (fines .Inv) k p w) → (e : Event) → Allowed w e → Holds k w e →
+      (y : Known n (fines .Inv) k p (next w e)) × Follows n p k w e (x .net) (y .net)
+  step-known {k} {p} {w} g x e allowed so =
+      let s = turn-step (turned tells g e allowed .1 k (x .net) (x .reach) (x .sim) (fines .fine g (x .inv) k e so)) in
+      (record { net = s .0; reach = follows-reach (s .1 .0) (x .reach); sim = s .1 .1; inv = fines .keeps g (x .inv) k e so }, s .1 .0)
+
+  pub run-known : {k : K} {p : R.Policy} {first w : World} → Run (Holds k) first w → Good p first → Known n (fines .Inv) k p first → Known n (fines .Inv) k p w
+  run-known stop g x = x
+  run-known (then run e allowed so) g x = step-known (run-good run g) (run-known run g x) e allowed so .0
+
+  abbrev pub known-start : (k : K) (given : List ℕ) (keep retain : Bool) → Known n (fines .Inv) k (startPolicy given keep retain) (startWorld given keep retain)
+  known-start k given keep retain = record { net = R.start; reach = R.begin; sim = start-sim n k given keep retain; inv = fines .begins given keep retain }
+
+  pub known-world : (k : K) (w : World) → Reached (Holds k) w → (p : R.Policy) × (Good p w × Known n (fines .Inv) k p w)
+  known-world k w (reached given keep retain b run) =
+      (startPolicy given keep retain, (run-good run (good-start given keep retain b), run-known run (good-start given keep retain b) (known-start k given keep retain)))

@@ -1,255 +1,429 @@
--- One request's part of a world: what the ends hold of it, its messages and its history, as a net of crate pair_request. A step is about one request, whose net it moves, or about none; every other it leaves.
+-- One request's part of a world: where its records stand, its messages and its history, as a net of crate pair_request. A step is about one request, whose net it moves, or leaves it.
+use Prim.Native.Nat.{ℕ, suc, _+_, _<_}
 use mathlib.Core.Path.{_≡_, refl, sym, _∙_, ap, subst}
 use mathlib.Core.Bool.{Bool, true, false}
-use mathlib.Core.List.{List, [], _∷_, _++_, map}
-use Rattle.lists.specs.declared.words.Words.{Words}
+use mathlib.Core.Logic.{_⊎_, inl, inr}
+use mathlib.Core.List.{List, [], _∷_, _++_, map, List·Memᴰ as Noted, List·Memᴰ·tail, List·Memᴰ·head, List·Memᴰ·cases-cons}
+use lib.ListN.{length, getD, take}
+use native.Mathlib.Omega.{arith}
+use Rattle.lists.specs.declared.Found.{Found}
+use Rattle.desk.specs.declared.letter.Identifier.{Identifier}
+use Rattle.desk.specs.declared.sends.Elements.{Elements}
 use Rattle.message.specs.declared.Message.{Message}
-use Rattle.desk.specs.declared.outcome.Sending.{Sending}
-use Rattle.desk.specs.declared.outcome.Sending.the-variants as Sending
+use Rattle.terms.specs.declared.request.Names.{Names}
+use Rattle.terms.specs.declared.request.Request.{Request}
 use Rattle.places.specs.Places as P
-use Rattle.clerk.specs.declared.steps.Stepped as ClerkStepped
+use Rattle.clerk_table.specs.declared.inputs.Input.the-variants as ClerkInput
+use Rattle.clerk_table.specs.declared.record.Plan as ClerkPlans
+use Rattle.clerk_table.specs.declared.record.Record as ClerkRecord
+use Rattle.clerk_records.specs.Records as ClerkRecords
+use Rattle.clerk.specs.Steps as Clerk
 use Rattle.clerk_sound.specs.Sound as ClerkSound
+use Rattle.clerk_sound.specs.Sound.{clerkView}
+use Rattle.clerk_sound.proofs.Start as ClerkStart
+use Rattle.line_table.specs.declared.record.Plan as LinePlans
 use Rattle.line_table.specs.declared.record.Record as LineRecord
-use Rattle.line_table.specs.Record.{activated}
-use Rattle.line.specs.declared.steps.Stepped as LineStepped
+use Rattle.line_records.specs.Records as LineRecords
+use Rattle.line.specs.Steps as Line
 use Rattle.line_sound.specs.Sound as LineSound
+use Rattle.line_sound.specs.Sound.{lineView}
+use Rattle.line_sound.proofs.Starting as LineStarting
 use Rattle.pair_request.specs.Reading as R
-use Rattle.pair_request.specs.Listed.{NoReq}
-use Rattle.pair.specs.World.{Note, World, Event, lineHears, clerkHolds, lineHolds, nameOf, messagesOf, sentBy, clerkStepped, lineStepped, next}
-use Rattle.pair.specs.Demand3.{Heads, About, Drops, Unaltered, same, marked}
-use Rattle.pair.proofs.Ends.{clerkRead, lineRecord, lineRead, messageRead, Kept, policyOf, ClerkStep, LineStep}
-use Rattle.pair.proofs.Changes.{not-one, the-one}
-use Rattle.pair.proofs.Wires.{messages-append, head-other, AllClear, no-message, plain-clear, clear-append, messages-own, messages-other, Worded, worded-append, worded-sent}
-use Rattle.pair.proofs.Notes.{Told, Notes, Unnoted, unnoted, noted-drop}
+use Rattle.pair.specs.World.{Of, from, Naming, Note, World, Event, clerkDoes, lineHears, labelOf, clerkHolds, lineHolds, messagesOf, Touch, storing, clerkChange, lineChange, originsAfter, touched, sentBy, KeptApart}
+use Rattle.pair.specs.Demand3.{Heads, About, Drops, Unaltered, same}
+use Rattle.pair.proofs.Keys.{Tells}
+use Rattle.pair.proofs.Sits.{Sight, view, label, there, Did, Sits, All, sits-held, did-other, did-own, did-all, did-length, speaks, speaks-label}
+use Rattle.pair.proofs.Ends.{clerkSight, lineSight, clerkRead, lineRead, messageRead, Kept, policyOf}
+use Rattle.pair.proofs.Wires.{AllClear, clear-append, Worded, worded, worded-append, worded-sent, worded-more, sent-worded, wire-own, wire-other}
+use Rattle.pair.proofs.Notes.{Knows, ToldIn, Notes, Unnoted}
 
-pub record Sim (j : Words) (w : World) (n : R.Net) : Type 0 where
-  pub clerk : clerkHolds w j ≡ clerkRead j (n .clerk)
-  pub active : Bool
-  pub line : lineHolds w j ≡ lineRead j active (n .line)
-  pub up : messagesOf j (w .up) ≡ map (messageRead j) (n .up)
-  pub down : messagesOf j (w .down) ≡ map (messageRead j) (n .down)
-  pub upClear : AllClear j (n .up)
-  pub downClear : AllClear j (n .down)
-  pub kept : n .used ≡ true → Kept j
-  pub used : Told (Note.takenUp j) (w .history) (n .used)
-  pub timedOut : Told (Note.runOut j) (w .history) (n .timedOut)
-  pub guarded : Told (Note.guarded j) (w .history) (n .guarded)
-  pub dropped : Told (Note.dropped j) (w .history) (n .dropped)
+-- ---- what holds of every world of a run
+-- an ask took up a label
+abbrev pub Taken : List Note → Of Identifier → Type 0
+Taken h l = Noted (Note.takenUp l) h
 
--- every identifier of the world has its net
-abbrev pub Known : R.Policy → World → Type 0
-Known p w = (j : Words) → (n : R.Net) × (R.Reach p n × Sim j w n)
+-- of a request that was taken up, with elements that their bytes give back
+abbrev pub Asked : List Note → Of Elements → Type 0
+Asked h l = Taken h (label l) × Kept (l .it)
 
--- what holds of the whole world: both desks are reached, the settings are the start's, and every message is as a desk sent it
+-- both desks are reached, the settings are the start's, every record and every message is of a request that was taken up, and every message is as a desk sent it
 pub record Good (p : R.Policy) (w : World) : Type 0 where
   pub clerk : ClerkSound.Reached (w .clerk)
   pub line : LineSound.Reached (w .line)
   pub policy : policyOf (w .line .words) ≡ p
-  pub up : Worded (w .up)
-  pub down : Worded (w .down)
+  pub clerkFull : length (w .clerkOrigins) ≡ length (ClerkRecords.records (w .clerk .words))
+  pub lineFull : length (w .lineOrigins) ≡ length (LineRecords.records (w .line .words))
+  pub clerkLabels : All clerkSight (Asked (w .history)) (w .clerkOrigins) (ClerkRecords.records (w .clerk .words))
+  pub lineLabels : All lineSight (Asked (w .history)) (w .lineOrigins) (LineRecords.records (w .line .words))
+  pub up : Worded (Asked (w .history)) (w .up)
+  pub down : Worded (Asked (w .history)) (w .down)
+  -- origins that were given
+  pub taken : (l : Of Identifier) → Taken (w .history) l → l .origin < length (w .history)
+
+-- ---- one request
+pub record Sim {K : Type 0} (n : Naming K) (k : K) (w : World) (s : R.Net) : Type 0 where
+  -- its identifier or that it has none, its numbers and its service
+  pub name : Elements
+  pub clerkPlace : Found
+  pub clerkSits : Sits clerkSight n k (w .clerkOrigins) (ClerkRecords.records (w .clerk .words)) clerkPlace
+  pub clerk : there clerkSight (ClerkRecords.records (w .clerk .words)) clerkPlace ≡ clerkRead name (s .clerk)
+  pub linePlace : Found
+  pub lineSits : Sits lineSight n k (w .lineOrigins) (LineRecords.records (w .line .words)) linePlace
+  pub active : Bool
+  pub line : there lineSight (LineRecords.records (w .line .words)) linePlace ≡ lineRead name active (s .line)
+  pub up : messagesOf n k (w .up) ≡ map (messageRead name) (s .up)
+  pub down : messagesOf n k (w .down) ≡ map (messageRead name) (s .down)
+  pub upClear : AllClear name (s .up)
+  pub downClear : AllClear name (s .down)
+  pub kept : s .used ≡ true → Kept name
+  pub used : Knows n k Note.takenUp (w .history) (s .used)
+  pub timedOut : Knows n k Note.runOut (w .history) (s .timedOut)
+  pub guarded : Knows n k Note.guarded (w .history) (s .guarded)
+  pub dropped : Knows n k Note.dropped (w .history) (s .dropped)
+
+-- the premise of its steps: an ask that is taken is a new request, and it is kept apart
+pub record Fine {K : Type 0} (n : Naming K) (k : K) (w : World) (e : Event) : Type 0 where
+  pub fresh :
+      (names : Names) (q : Request) → e ≡ clerkDoes (ClerkInput.Ask names q) → Clerk.step (w .clerk) (ClerkInput.Ask names q) .outcome .refusal ≡ 0 →
+      n .key (from (length (w .history)) (names .identifier)) ≡ k → ToldIn n k Note.takenUp (w .history) → ⊥
+  pub apart : KeptApart n k w e
 
 -- ---- what a step makes of a request
 -- of one that it leaves: nothing, except that a busy report may mark its activity
-pub record Left (w : World) (e : Event) (after : World) (j : Words) : Type 0 where
-  pub clerk : clerkHolds after j ≡ clerkHolds w j
-  pub line : Unaltered e (lineHolds w j) (lineHolds after j)
-  pub up : messagesOf j (after .up) ≡ messagesOf j (w .up)
-  pub down : messagesOf j (after .down) ≡ messagesOf j (w .down)
-  pub history : Unnoted (after .history) (w .history) j
+pub record Left {K : Type 0} (n : Naming K) (k : K) (w : World) (e : Event) (after : World) : Type 0 where
+  pub clerk : clerkHolds n after k ≡ clerkHolds n w k
+  pub line : Unaltered e (lineHolds n w k) (lineHolds n after k)
+  pub up : messagesOf n k (after .up) ≡ messagesOf n k (w .up)
+  pub down : messagesOf n k (after .down) ≡ messagesOf n k (w .down)
 
 -- only a delivery of the request's own message to the line is one in its net
-abbrev pub Hearing : World → Event → Words → R.Event → Type 0
-Hearing w e j (R.asks d kind q) = Unit
-Hearing w e j (R.clerkDoes x) = Unit
-Hearing w e j (R.lineDoes x) = Unit
-Hearing w e j (R.clerkGets busy) = Unit
-Hearing w e j (R.lineGets x) = (e ≡ lineHears) × Heads (w .up) j
-Hearing w e j (R.losesUp i) = Unit
-Hearing w e j (R.losesDown i) = Unit
+abbrev pub Hearing : {K : Type 0} → Naming K → K → World → Event → R.Event → Type 0
+Hearing n k w e (R.asks d kind q) = Unit
+Hearing n k w e (R.clerkDoes x) = Unit
+Hearing n k w e (R.lineDoes x) = Unit
+Hearing n k w e (R.clerkGets busy) = Unit
+Hearing n k w e (R.lineGets x) = (place : ℕ) × ((e ≡ lineHears place) × Heads n (w .up) k)
+Hearing n k w e (R.losesUp i) = Unit
+Hearing n k w e (R.losesDown i) = Unit
 
--- the one that it is about is named, or loses a message and keeps its records
-pub data Named (w : World) (e : Event) (after : World) (j : Words) : Type 0 where
-  about : About w e j → Named w e after j
-  loses : Drops w e j → clerkHolds after j ≡ clerkHolds w j → lineHolds after j ≡ lineHolds w j → Named w e after j
+-- one that it is about is named, or loses a message and keeps its records
+pub data Named {K : Type 0} (n : Naming K) (k : K) (w : World) (e : Event) (after : World) : Type 0 where
+  about : About n w e k → Named n k w e after
+  loses : Drops n w e k → clerkHolds n after k ≡ clerkHolds n w k → lineHolds n after k ≡ lineHolds n w k → Named n k w e after
 
 -- and its net makes a step
-abbrev pub Moves : R.Policy → World → Event → World → Words → R.Net → Type 0
-Moves p w e after j n = (r : R.Event) × (Hearing w e j r × Sim j after (R.next p n r))
-
-pub data Turn (p : R.Policy) (w : World) (e : Event) (after : World) : Type 0 where
-  nobody : ((j : Words) → Left w e after j) → Turn p w e after
-  somebody :
-      (k : Words) → Named w e after k → ((n : R.Net) → R.Reach p n → Sim k w n → Moves p w e after k n) → ((j : Words) → (k ≡ j → ⊥) → Left w e after j) →
-      Turn p w e after
+pub data Turn {K : Type 0} (n : Naming K) (p : R.Policy) (k : K) (w : World) (e : Event) (after : World) (s : R.Net) : Type 0 where
+  leaves : Left n k w e after → Sim n k after s → Turn n p k w e after s
+  moves : Named n k w e after → (r : R.Event) → Hearing n k w e r → Sim n k after (R.next p s r) → Turn n p k w e after s
 
 -- a good world stays good
-abbrev pub Turned : R.Policy → World → Event → World → Type 0
-Turned p w e after = Good p after × Turn p w e after
+abbrev pub Turned : {K : Type 0} → Naming K → R.Policy → World → Event → World → Type 0
+Turned {K} n p w e after = Good p after × ((k : K) (s : R.Net) → R.Reach p s → Sim n k w s → Fine n k w e → Turn n p k w e after s)
 
--- ---- wires
-map-append : {A B : Type 0} (f : A → B) (xs ys : List A) → map f (xs ++ ys) ≡ map f xs ++ map f ys
-map-append f [] ys = refl
-map-append f (x ∷ xs) ys = ap (λ zs. f x ∷ zs) (map-append f xs ys)
+-- who is touched, and whose message is the head of a wire, is whom a step is about
+pub about-touched : {K : Type 0} (n : Naming K) {ls : List (Of Identifier)} {l : Of Identifier} → ls ≡ l ∷ [] → Noted (n .key l) (map (n .key) ls)
+about-touched n {l = l} e = subst (λ (xs : List (Of Identifier)). Noted (n .key l) (map (n .key) xs)) (sym e) (List·Memᴰ·head refl)
 
-pub append-none : {A : Type 0} (xs : List A) → xs ++ [] ≡ xs
-append-none [] = refl
-append-none (x ∷ xs) = ap (λ zs. x ∷ zs) (append-none xs)
+pub about-head :
+    {K : Type 0} (n : Naming K) {k : K} {xs rest : List (Of Message)} {x : Of Message} → xs ≡ x ∷ rest → n .key (labelOf x) ≡ k →
+    Noted k (map (n .key) (map labelOf (take 1 xs)))
+about-head n {k} e key = subst (λ (ys : List (Of Message)). Noted k (map (n .key) (map labelOf (take 1 ys)))) (sym e) (List·Memᴰ·head (sym key))
 
--- a wire to which the request's own messages were added, and one to which another's were
-wire-own :
-    (j : Words) (ms sent : List Message) (before added : List R.Msg) → messagesOf j ms ≡ map (messageRead j) before →
-    sent ≡ map (messageRead j) added → AllClear j added → messagesOf j (ms ++ sent) ≡ map (messageRead j) (before ++ added)
-wire-own j ms sent before added e s c =
-    messages-append j ms sent
-    ∙ ap (λ x. x ++ messagesOf j sent) e
-    ∙ ap (λ x. map (messageRead j) before ++ x) (ap (messagesOf j) s ∙ messages-own j added c)
-    ∙ sym (map-append (messageRead j) before added)
+-- ---- what is held is what stands there
+pub clerk-held :
+    {K : Type 0} {n : Naming K} (tells : Tells n) {k : K} {p : R.Policy} {w : World} {s : R.Net} → Good p w → (sim : Sim n k w s) →
+    clerkHolds n w k ≡ there clerkSight (ClerkRecords.records (w .clerk .words)) (sim .clerkPlace)
+clerk-held tells {k} {w = w} g sim =
+    sits-held clerkSight tells k (w .clerkOrigins) (ClerkRecords.records (w .clerk .words)) (sim .clerkPlace) (g .clerkFull) (sim .clerkSits) ClerkStart.blank-unused
 
-pub wire-other :
-    (j k : Words) (ms sent : List Message) (added : List R.Msg) → sent ≡ map (messageRead k) added → AllClear k added → (k ≡ j → ⊥) →
-    messagesOf j (ms ++ sent) ≡ messagesOf j ms
-wire-other j k ms sent added s c d =
-    messages-append j ms sent ∙ ap (λ x. messagesOf j ms ++ x) (ap (messagesOf j) s ∙ messages-other k j added c d) ∙ append-none (messagesOf j ms)
+pub line-held :
+    {K : Type 0} {n : Naming K} (tells : Tells n) {k : K} {p : R.Policy} {w : World} {s : R.Net} → Good p w → (sim : Sim n k w s) →
+    lineHolds n w k ≡ there lineSight (LineRecords.records (w .line .words)) (sim .linePlace)
+line-held tells {k} {w = w} g sim =
+    sits-held lineSight tells k (w .lineOrigins) (LineRecords.records (w .line .words)) (sim .linePlace) (g .lineFull) (sim .lineSits) LineStarting.blank-unused
 
--- ---- a step about a request
-abbrev pub Others : Words → (Words → Type 0) → Type 0
-Others k P = (j : Words) → (k ≡ j → ⊥) → P j
+-- ---- a history that grows: what was taken up stays so, and what is taken up now is as it has to be
+pub record Grows (before after : List Note) : Type 0 where
+  pub still : (l : Of Identifier) → Taken before l → Taken after l
+  pub fits : ((l : Of Identifier) → Taken before l → l .origin < length before) → (l : Of Identifier) → Taken after l → l .origin < length after
 
--- a wire before and after it: every message is still as it was sent, and those of every other request are the same
-pub record Wired (k : Words) (before after : List Message) : Type 0 where
-  pub worded : Worded after
-  pub others : Others k (λ j. messagesOf j after ≡ messagesOf j before)
+pub asked-still : {before after : List Note} → Grows before after → (l : Of Elements) → Asked before l → Asked after l
+asked-still grows l a = (grows .still (label l) (a .0), a .1)
 
-pub wired-same : {k : Words} {ms : List Message} → Worded ms → Wired k ms ms
-wired-same worded = record { worded = worded; others = λ j d. refl }
+pub grows-not : (h : List Note) → Grows h h
+grows-not h = record { still = λ l m. m; fits = λ f. f }
 
-pub wired-sent :
-    {k : Words} {ms sent : List Message} {added : List R.Msg} → Worded ms → sent ≡ map (messageRead k) added → AllClear k added → Wired k ms (ms ++ sent)
-wired-sent {k} {ms} {sent} {added} worded s c =
-    record { worded = worded-append worded (subst Worded (sym s) (worded-sent c)); others = λ j d. wire-other j k ms sent added s c d }
-
-pub wired-heard : {k : Words} {m : Message} {rest wire : List Message} → wire ≡ m ∷ rest → nameOf m ≡ k → Worded rest → Wired k wire rest
-wired-heard e name worded = record { worded = worded; others = λ j d. head-other e name d }
-
--- the world stays good, and every other request is left
-pub turn-about :
-    {p : R.Policy} {w : World} {e : Event} {after : World} (k : Words) → Named w e after k →
-    ClerkSound.Reached (after .clerk) → LineSound.Reached (after .line) → policyOf (after .line .words) ≡ p →
-    Wired k (w .up) (after .up) → Wired k (w .down) (after .down) →
-    Others k (λ j. clerkHolds after j ≡ clerkHolds w j) → Others k (λ j. lineHolds after j ≡ lineHolds w j) →
-    Others k (Unnoted (after .history) (w .history)) → ((n : R.Net) → R.Reach p n → Sim k w n → Moves p w e after k n) → Turned p w e after
-turn-about {w = w} {e} k named clerk line policy up down clerks lines notes own = (
-  record { clerk = clerk; line = line; policy = policy; up = up .worded; down = down .worded },
-  somebody k named own
-      (λ j d.
-      record {
-        clerk = clerks j d;
-        line = subst (Unaltered e (lineHolds w j)) (sym (lines j d)) same;
-        up = up .others j d;
-        down = down .others j d;
-        history = notes j d;
-      }),
-)
-
--- ---- a step about none
-pub turn-none :
-    {p : R.Policy} {w : World} {e : Event} {after : World} → Good p w → ClerkSound.Reached (after .clerk) → LineSound.Reached (after .line) →
-    policyOf (after .line .words) ≡ p → after .up ≡ w .up → after .down ≡ w .down → ((j : Words) → clerkHolds after j ≡ clerkHolds w j) →
-    ((j : Words) → Unaltered e (lineHolds w j) (lineHolds after j)) → ((j : Words) → Unnoted (after .history) (w .history) j) → Turned p w e after
-turn-none g clerk line policy up down clerks lines notes = (
-  record { clerk = clerk; line = line; policy = policy; up = subst Worded (sym up) (g .up); down = subst Worded (sym down) (g .down) },
-  nobody (λ j. record { clerk = clerks j; line = lines j; up = ap (messagesOf j) up; down = ap (messagesOf j) down; history = notes j }),
-)
-
-pub unmoved : {p : R.Policy} {w : World} {e : Event} → Good p w → Turned p w e w
-unmoved {w = w} g = turn-none g (g .clerk) (g .line) (g .policy) refl refl (λ j. refl) (λ j. same) (unnoted (w .history))
-
--- what is sent about a request: one that was taken up has an identifier that its bytes give back, one that was not is nowhere
-pub plain-sent : {j : Words} {w : World} {n : R.Net} {ms : List R.Msg} → Sim j w n → NoReq ms → (n .used ≡ false → ms ≡ []) → AllClear j ms
-plain-sent {j} {n = n} {ms} sim plain nowhere = go (n .used) refl
+-- by a note that takes up nothing
+pub grows-by : (x : Note) (h : List Note) → ((l : Of Identifier) → Note.takenUp l ≡ x → ⊥) → Grows h (x ∷ h)
+grows-by x h d = record { still = λ l m. List·Memᴰ·tail m; fits = λ f l m. by f l (List·Memᴰ·cases-cons m) }
   where
-    go : (b : Bool) → n .used ≡ b → AllClear j ms
-    go true e = plain-clear j ms plain (sim .kept e)
-    go false e = subst (AllClear j) (sym (nowhere e)) no-message
+    by : ((l : Of Identifier) → Taken h l → l .origin < length h) → (l : Of Identifier) → (Note.takenUp l ≡ x) ⊎ Taken h l → l .origin < suc (length h)
+    by f l (inl e) = absurd (d l e)
+    by f l (inr m) = let z = f l m in omega (arith, z)
 
--- nothing is sent
-pub silent : {sending : Sending} (ms : List Message) → sending ≡ Sending.Nothing → ms ++ sentBy sending ≡ ms
-silent ms s = ap (λ (x : Sending). ms ++ sentBy x) s ∙ append-none ms
+abbrev pub labelIn : Of Identifier → Note → Of Identifier
+labelIn other (Note.takenUp l) = l
+labelIn other (Note.dropped l) = other
+labelIn other (Note.runOut l) = other
+labelIn other (Note.guarded l) = other
 
--- ---- the net of a request after a step, by what the step made of its records, its wires and its notes
-sim-next :
-    {j : Words} {w after : World} {n : R.Net} → Sim j w n → {c : R.Clerk} {l : R.Line} {a u t g x : Bool} {up down : List R.Msg} →
-    clerkHolds after j ≡ clerkRead j c → (b : Bool) → lineHolds after j ≡ lineRead j b l → messagesOf j (after .up) ≡ map (messageRead j) up → AllClear j up →
-    messagesOf j (after .down) ≡ map (messageRead j) down → AllClear j down → Notes (after .history) (w .history) j u t g x →
-    (R.or u (n .used) ≡ true → Kept j) →
-    Sim j after
-    (record {
-      clerk = c;
-      up = up;
-      line = l;
-      down = down;
-      used = R.or u (n .used);
-      accepted = a;
-      timedOut = R.or t (n .timedOut);
-      guarded = R.or g (n .guarded);
-      dropped = R.or x (n .dropped);
-    })
-sim-next sim {u = u} {t} {g} {x} clerk b line up upClear down downClear h kept =
+pub grows-ask : (x : Identifier) (h : List Note) → Grows h (Note.takenUp (from (length h) x) ∷ h)
+grows-ask x h = record { still = λ l m. List·Memᴰ·tail m; fits = λ f l m. by f l (List·Memᴰ·cases-cons m) }
+  where
+    by :
+        ((l : Of Identifier) → Taken h l → l .origin < length h) → (l : Of Identifier) → (Note.takenUp l ≡ Note.takenUp (from (length h) x)) ⊎ Taken h l →
+        l .origin < suc (length h)
+    by f l (inl e) =
+        let q : l .origin ≡ length h = ap (λ (y : Of Identifier). y .origin) (ap (labelIn l) e) in
+        omega (arith, q)
+    by f l (inr m) = let z = f l m in omega (arith, z)
+
+-- ---- a step of the clerk's desk
+-- whom the step speaks for, as the world has it
+abbrev speaker : {A : Type 0} → Sight A → List ℕ → List A → Of Elements → Touch → ℕ
+speaker v os rs given touch = getD (touched (view v) os rs (label given) touch) 0 (label given) .origin
+
+-- the world after a plan that is made there
+abbrev pub clerkMade : World → List (Of Message) → Of Elements → ClerkPlans.Plan → (List (Of Identifier) → List Note) → World
+clerkMade w down given plan notes =
+    let rs = ClerkRecords.records (w .clerk .words) in
+    let touch = clerkChange (plan .change) in
     record {
-      clerk = clerk;
-      active = b;
-      line = line;
-      up = up;
+      clerk = Clerk.made (w .clerk) plan .desk;
+      clerkOrigins = originsAfter touch (given .origin) (w .clerkOrigins);
+      up = w .up ++ map (from (speaker clerkSight (w .clerkOrigins) rs given touch)) (sentBy (plan .outcome .sending));
+      line = w .line;
+      lineOrigins = w .lineOrigins;
       down = down;
-      upClear = upClear;
-      downClear = downClear;
-      kept = kept;
-      used = h .takenUp _ (sim .used);
-      timedOut = h .runOut _ (sim .timedOut);
-      guarded = h .guarded _ (sim .guarded);
-      dropped = h .dropped _ (sim .dropped);
+      history = notes (touched clerkView (w .clerkOrigins) rs (label given) touch) ++ w .history;
     }
 
--- one that is left has the same net
-unaltered-read :
-    {e : Event} {before after : P.Held LineRecord.Record} → Unaltered e before after →
-    (j : Words) (l : R.Line) (b : Bool) → before ≡ lineRead j b l → (c : Bool) × (after ≡ lineRead j c l)
-unaltered-read same j l b e = (b, e)
-unaltered-read (marked r so) j R.none b e = not-one (sym e)
-unaltered-read (marked r so) j (R.holds t own s) b e =
-    (true, ap (λ (x : LineRecord.Record). P.one (activated x)) (the-one r (lineRecord j b t own s) e))
+abbrev pub lineMade : World → List (Of Message) → Of Elements → LinePlans.Plan → (List (Of Identifier) → List Note) → World
+lineMade w up given plan notes =
+    let rs = LineRecords.records (w .line .words) in
+    let touch = lineChange (plan .change) in
+    record {
+      clerk = w .clerk;
+      clerkOrigins = w .clerkOrigins;
+      up = up;
+      line = Line.made (w .line) plan .desk;
+      lineOrigins = originsAfter touch (given .origin) (w .lineOrigins);
+      down = w .down ++ map (from (speaker lineSight (w .lineOrigins) rs given touch)) (sentBy (plan .outcome .sending));
+      history = notes (touched lineView (w .lineOrigins) rs (label given) touch) ++ w .history;
+    }
 
-pub left-sim : {w : World} {e : Event} {after : World} {j : Words} {n : R.Net} → Left w e after j → Sim j w n → Sim j after n
-left-sim {j = j} {n = n} left sim =
-    let line = unaltered-read (left .line) j (n .line) (sim .active) (sim .line) in
-    sim-next sim (left .clerk ∙ sim .clerk) (line .0) (line .1) (left .up ∙ sim .up) (sim .upClear) (left .down ∙ sim .down) (sim .downClear) (left .history)
-    (sim .kept)
+-- a step of the clerk's desk: what it did at a place, and what it sent for whom
+pub record ClerkTold (w : World) (given : Of Elements) (f : Found) (plan : ClerkPlans.Plan) (left : P.Held ClerkRecord.Record) (l : Of Elements) (ms : List R.Msg) : Type 0 where
+  pub did :
+      Did clerkSight (ClerkRecords.records (w .clerk .words)) given f (clerkChange (plan .change)) (ClerkRecords.records (Clerk.made (w .clerk) plan .desk .words)) left
+  pub whom : speaks clerkSight (w .clerkOrigins) (ClerkRecords.records (w .clerk .words)) given (clerkChange (plan .change)) ≡ l
+  pub sends : sentBy (plan .outcome .sending) ≡ map (messageRead (l .it)) ms
+  pub clear : AllClear (l .it) ms
 
--- the one that a step of the clerk's desk is about
-pub clerk-own :
-    {j : Words} {w : World} {n : R.Net} → Sim j w n → {rest : List Message} {left : List R.Msg} → messagesOf j rest ≡ map (messageRead j) left → AllClear j left →
-    {step : ClerkStepped.Stepped} (notes : List Note) {answer : R.CAnswer} → ClerkStep step j answer → AllClear j (answer .1) →
-    {u t : Bool} → Notes (notes ++ w .history) (w .history) j u t false false → (R.or u (n .used) ≡ true → Kept j) →
-    Sim j (clerkStepped w rest step notes) (R.afterClerk n left u t answer)
-clerk-own {j} {w} {n} sim e c {step} notes {answer} s clear h kept =
-    sim-next sim (s .itself) (sim .active) (sim .line) (wire-own j (w .up) (sentBy (step .outcome .sending)) (n .up) (answer .1) (sim .up) (s .sends) clear)
-    (clear-append (sim .upClear) clear) e c h kept
+module _ {p : R.Policy} {w : World} (g : Good p w) (down : List (Of Message)) (given : Of Elements) (plan : ClerkPlans.Plan) (notes : List (Of Identifier) → List Note) where
+  abbrev clerks : List ClerkRecord.Record
+  clerks = ClerkRecords.records (w .clerk .words)
 
--- of the line desk
-pub line-own :
-    {j : Words} {w : World} {n : R.Net} → Sim j w n → {rest : List Message} {left : List R.Msg} → messagesOf j rest ≡ map (messageRead j) left → AllClear j left →
-    {step : LineStepped.Stepped} (notes : List Note) {answer : R.LAnswer} → LineStep step j answer → AllClear j (answer .1) →
-    {g : Bool} → Notes (notes ++ w .history) (w .history) j false false g false → Sim j (lineStepped w rest step notes) (R.afterLine n left g answer)
-line-own {j} {w} {n} sim e c {step} notes {answer} s clear h =
-    sim-next sim (sim .clerk) (s .active) (s .itself) e c (wire-own j (w .down) (sentBy (step .outcome .sending)) (n .down) (answer .1) (sim .down) (s .sends) clear)
-    (clear-append (sim .downClear) clear) h (sim .kept)
+  abbrev clerkAfter : World
+  clerkAfter = clerkMade w down given plan notes
 
--- a drop, by what is left of the wires
-abbrev pub lossy : World → List Message → List Message → Words → World
-lossy w up down k = record { clerk = w .clerk; up = up; line = w .line; down = down; history = Note.dropped k ∷ w .history }
+  clerk-sent :
+      {f : Found} {left : P.Held ClerkRecord.Record} {l : Of Elements} {ms : List R.Msg} → ClerkTold w given f plan left l ms →
+      map (from (speaker clerkSight (w .clerkOrigins) clerks given (clerkChange (plan .change)))) (sentBy (plan .outcome .sending)) ≡ map (worded l) ms
+  clerk-sent {l = l} {ms} told =
+      ap (λ (x : Of Identifier). map (from (x .origin)) (sentBy (plan .outcome .sending))) (speaks-label clerkSight (w .clerkOrigins) clerks given (clerkChange (plan .change)))
+      ∙ ap (λ (x : Of Elements). map (from (x .origin)) (sentBy (plan .outcome .sending))) (told .whom)
+      ∙ sent-worded l (plan .outcome .sending) ms (told .sends)
 
-pub lost-own :
-    {j : Words} {w : World} {n : R.Net} → Sim j w n → {up down : List Message} {u d : List R.Msg} → messagesOf j up ≡ map (messageRead j) u → AllClear j u →
-    messagesOf j down ≡ map (messageRead j) d → AllClear j d → Sim j (lossy w up down j) (R.lost n u d)
-lost-own {j} {w} sim e c f b =
-    sim-next sim (sim .clerk) (sim .active) (sim .line) e c f b (noted-drop j (w .history)) (sim .kept)
+  pub clerk-good :
+      {f : Found} {left : P.Held ClerkRecord.Record} {l : Of Elements} {ms : List R.Msg} → ClerkTold w given f plan left l ms → ClerkSound.Reached (Clerk.made (w .clerk) plan .desk) →
+      Worded (Asked (w .history)) down → Grows (w .history) (clerkAfter .history) → Asked (clerkAfter .history) l →
+      ((i : ℕ) → clerkChange (plan .change) ≡ storing i → Asked (clerkAfter .history) given) → Good p clerkAfter
+  clerk-good {l = l} {ms} told reached heard grows its new =
+      record {
+        clerk = reached;
+        line = g .line;
+        policy = g .policy;
+        clerkFull = did-length (told .did) (given .origin) (w .clerkOrigins) (g .clerkFull);
+        lineFull = g .lineFull;
+        clerkLabels =
+            did-all clerkSight (Asked (clerkAfter .history)) (w .clerkOrigins) clerks (g .clerkFull) ClerkStart.blank-unused (told .did) new
+            (λ i u. asked-still grows _ (g .clerkLabels i u));
+        lineLabels = λ i u. asked-still grows _ (g .lineLabels i u);
+        up =
+            worded-append (worded-more (asked-still grows) (g .up))
+            (subst (Worded (Asked (clerkAfter .history))) (sym (clerk-sent told)) (worded-sent l its (told .clear)));
+        down = worded-more (asked-still grows) heard;
+        taken = grows .fits (g .taken);
+      }
+
+  module _ {K : Type 0} {n : Naming K} (tells : Tells n) {k : K} {s : R.Net} (sim : Sim n k w s) where
+    -- the request's net after a step that is for it
+    pub clerk-own :
+        {answer : R.CAnswer} {l : Of Elements} {rest : List R.Msg} {u t : Bool} → ClerkTold w given (sim .clerkPlace) plan (clerkRead (sim .name) (answer .0)) l (answer .1) → n .key (label l) ≡ k → l .it ≡ sim .name →
+        ((i : ℕ) → clerkChange (plan .change) ≡ storing i → n .key (label given) ≡ k) → messagesOf n k down ≡ map (messageRead (sim .name)) rest → AllClear (sim .name) rest →
+        Notes n k (clerkAfter .history) (w .history) u t false false → (R.or u (s .used) ≡ true → Kept (sim .name)) → Sim n k clerkAfter (R.afterClerk s rest u t answer)
+    clerk-own {answer} {l} told its name new heard clear noted kept =
+        let after = did-own clerkSight tells k ClerkStart.blank-unused (w .clerkOrigins) clerks (g .clerkFull) (told .did) (sim .clerkSits) new in
+        let sent =
+        wire-own tells k l (w .up) (map (from (speaker clerkSight (w .clerkOrigins) clerks given (clerkChange (plan .change)))) (sentBy (plan .outcome .sending))) (s .up) (answer .1) its
+        (sim .up ∙ ap (λ (j : Elements). map (messageRead j) (s .up)) (sym name)) (clerk-sent told) (told .clear) in
+        record {
+          name = sim .name;
+          clerkPlace = after .0;
+          clerkSits = after .1 .0;
+          clerk = after .1 .1;
+          linePlace = sim .linePlace;
+          lineSits = sim .lineSits;
+          active = sim .active;
+          line = sim .line;
+          up = sent ∙ ap (λ (j : Elements). map (messageRead j) (s .up ++ answer .1)) name;
+          down = heard;
+          upClear = clear-append (sim .upClear) (subst (λ (j : Elements). AllClear j (answer .1)) name (told .clear));
+          downClear = clear;
+          kept = kept;
+          used = noted .takenUp _ (sim .used);
+          timedOut = noted .runOut _ (sim .timedOut);
+          guarded = noted .guarded _ (sim .guarded);
+          dropped = noted .dropped _ (sim .dropped);
+        }
+
+    -- and after a step that is for another, or for none: it is left
+    pub clerk-other :
+        {f : Found} {left : P.Held ClerkRecord.Record} {l : Of Elements} {ms : List R.Msg} {e : Event} → ClerkTold w given f plan left l ms → Good p clerkAfter →
+        ((x : Of Identifier) → touched clerkView (w .clerkOrigins) clerks (label given) (clerkChange (plan .change)) ≡ x ∷ [] → n .key x ≡ k → ⊥) → (n .key (label l) ≡ k → ⊥) →
+        messagesOf n k down ≡ messagesOf n k (w .down) → Unnoted n k (clerkAfter .history) (w .history) → Turn n p k w e clerkAfter s
+    clerk-other {l = l} {ms} {e} told good apart not heard noted =
+        let after = did-other clerkSight tells k ClerkStart.blank-unused (w .clerkOrigins) clerks (g .clerkFull) (told .did) apart (sim .clerkSits) in
+        let sent =
+        wire-other tells k l (w .up) (map (from (speaker clerkSight (w .clerkOrigins) clerks given (clerkChange (plan .change)))) (sentBy (plan .outcome .sending))) ms not (clerk-sent told) (told .clear) in
+        let still : Sim n k clerkAfter s =
+        record {
+          name = sim .name;
+          clerkPlace = after .0;
+          clerkSits = after .1 .0;
+          clerk = after .1 .1 ∙ sim .clerk;
+          linePlace = sim .linePlace;
+          lineSits = sim .lineSits;
+          active = sim .active;
+          line = sim .line;
+          up = sent ∙ sim .up;
+          down = heard ∙ sim .down;
+          upClear = sim .upClear;
+          downClear = sim .downClear;
+          kept = sim .kept;
+          used = noted .takenUp _ (sim .used);
+          timedOut = noted .runOut _ (sim .timedOut);
+          guarded = noted .guarded _ (sim .guarded);
+          dropped = noted .dropped _ (sim .dropped);
+        } in
+        let clerkSame = clerk-held tells good still ∙ after .1 .1 ∙ sym (clerk-held tells g sim) in
+        leaves (record { clerk = clerkSame; line = same; up = sent; down = heard }) still
+
+-- a step of the line desk: what it did at a place, and what it sent for whom
+pub record LineTold (w : World) (given : Of Elements) (f : Found) (plan : LinePlans.Plan) (left : P.Held LineRecord.Record) (l : Of Elements) (ms : List R.Msg) : Type 0 where
+  pub did :
+      Did lineSight (LineRecords.records (w .line .words)) given f (lineChange (plan .change)) (LineRecords.records (Line.made (w .line) plan .desk .words)) left
+  pub whom : speaks lineSight (w .lineOrigins) (LineRecords.records (w .line .words)) given (lineChange (plan .change)) ≡ l
+  pub sends : sentBy (plan .outcome .sending) ≡ map (messageRead (l .it)) ms
+  pub clear : AllClear (l .it) ms
+
+module _ {p : R.Policy} {w : World} (g : Good p w) (up : List (Of Message)) (given : Of Elements) (plan : LinePlans.Plan) (notes : List (Of Identifier) → List Note) where
+  abbrev lines : List LineRecord.Record
+  lines = LineRecords.records (w .line .words)
+
+  abbrev lineAfter : World
+  lineAfter = lineMade w up given plan notes
+
+  line-sent :
+      {f : Found} {left : P.Held LineRecord.Record} {l : Of Elements} {ms : List R.Msg} → LineTold w given f plan left l ms →
+      map (from (speaker lineSight (w .lineOrigins) lines given (lineChange (plan .change)))) (sentBy (plan .outcome .sending)) ≡ map (worded l) ms
+  line-sent {l = l} {ms} told =
+      ap (λ (x : Of Identifier). map (from (x .origin)) (sentBy (plan .outcome .sending))) (speaks-label lineSight (w .lineOrigins) lines given (lineChange (plan .change)))
+      ∙ ap (λ (x : Of Elements). map (from (x .origin)) (sentBy (plan .outcome .sending))) (told .whom)
+      ∙ sent-worded l (plan .outcome .sending) ms (told .sends)
+
+  pub line-good :
+      {f : Found} {left : P.Held LineRecord.Record} {l : Of Elements} {ms : List R.Msg} → LineTold w given f plan left l ms → LineSound.Reached (Line.made (w .line) plan .desk) → policyOf (Line.made (w .line) plan .desk .words) ≡ p →
+      Worded (Asked (w .history)) up → Grows (w .history) (lineAfter .history) → Asked (lineAfter .history) l →
+      ((i : ℕ) → lineChange (plan .change) ≡ storing i → Asked (lineAfter .history) given) → Good p lineAfter
+  line-good {l = l} {ms} told reached settings heard grows its new =
+      record {
+        line = reached;
+        clerk = g .clerk;
+        policy = settings;
+        lineFull = did-length (told .did) (given .origin) (w .lineOrigins) (g .lineFull);
+        clerkFull = g .clerkFull;
+        lineLabels =
+            did-all lineSight (Asked (lineAfter .history)) (w .lineOrigins) lines (g .lineFull) LineStarting.blank-unused (told .did) new
+            (λ i u. asked-still grows _ (g .lineLabels i u));
+        clerkLabels = λ i u. asked-still grows _ (g .clerkLabels i u);
+        down =
+            worded-append (worded-more (asked-still grows) (g .down))
+            (subst (Worded (Asked (lineAfter .history))) (sym (line-sent told)) (worded-sent l its (told .clear)));
+        up = worded-more (asked-still grows) heard;
+        taken = grows .fits (g .taken);
+      }
+
+  module _ {K : Type 0} {n : Naming K} (tells : Tells n) {k : K} {s : R.Net} (sim : Sim n k w s) where
+    -- the request's net after a step that is for it
+    pub line-own :
+        {answer : R.LAnswer} (active : Bool) {l : Of Elements} {rest : List R.Msg} {b : Bool} → LineTold w given (sim .linePlace) plan (lineRead (sim .name) active (answer .0)) l (answer .1) → n .key (label l) ≡ k → l .it ≡ sim .name →
+        ((i : ℕ) → lineChange (plan .change) ≡ storing i → n .key (label given) ≡ k) → messagesOf n k up ≡ map (messageRead (sim .name)) rest → AllClear (sim .name) rest →
+        Notes n k (lineAfter .history) (w .history) false false b false → Sim n k lineAfter (R.afterLine s rest b answer)
+    line-own {answer} active {l} told its name new heard clear noted =
+        let after = did-own lineSight tells k LineStarting.blank-unused (w .lineOrigins) lines (g .lineFull) (told .did) (sim .lineSits) new in
+        let sent =
+        wire-own tells k l (w .down) (map (from (speaker lineSight (w .lineOrigins) lines given (lineChange (plan .change)))) (sentBy (plan .outcome .sending))) (s .down) (answer .1) its
+        (sim .down ∙ ap (λ (j : Elements). map (messageRead j) (s .down)) (sym name)) (line-sent told) (told .clear) in
+        record {
+          name = sim .name;
+          linePlace = after .0;
+          lineSits = after .1 .0;
+          line = after .1 .1;
+          clerkPlace = sim .clerkPlace;
+          clerkSits = sim .clerkSits;
+          active = active;
+          clerk = sim .clerk;
+          down = sent ∙ ap (λ (j : Elements). map (messageRead j) (s .down ++ answer .1)) name;
+          up = heard;
+          downClear = clear-append (sim .downClear) (subst (λ (j : Elements). AllClear j (answer .1)) name (told .clear));
+          upClear = clear;
+          kept = sim .kept;
+          used = noted .takenUp _ (sim .used);
+          timedOut = noted .runOut _ (sim .timedOut);
+          guarded = noted .guarded _ (sim .guarded);
+          dropped = noted .dropped _ (sim .dropped);
+        }
+
+    -- and after a step that is for another, or for none: it is left
+    pub line-other :
+        {f : Found} {left : P.Held LineRecord.Record} {l : Of Elements} {ms : List R.Msg} {e : Event} → LineTold w given f plan left l ms → Good p lineAfter →
+        ((x : Of Identifier) → touched lineView (w .lineOrigins) lines (label given) (lineChange (plan .change)) ≡ x ∷ [] → n .key x ≡ k → ⊥) → (n .key (label l) ≡ k → ⊥) →
+        messagesOf n k up ≡ messagesOf n k (w .up) → Unnoted n k (lineAfter .history) (w .history) → Turn n p k w e lineAfter s
+    line-other {l = l} {ms} {e} told good apart not heard noted =
+        let after = did-other lineSight tells k LineStarting.blank-unused (w .lineOrigins) lines (g .lineFull) (told .did) apart (sim .lineSits) in
+        let sent =
+        wire-other tells k l (w .down) (map (from (speaker lineSight (w .lineOrigins) lines given (lineChange (plan .change)))) (sentBy (plan .outcome .sending))) ms not (line-sent told) (told .clear) in
+        let still : Sim n k lineAfter s =
+        record {
+          name = sim .name;
+          linePlace = after .0;
+          lineSits = after .1 .0;
+          line = after .1 .1 ∙ sim .line;
+          clerkPlace = sim .clerkPlace;
+          clerkSits = sim .clerkSits;
+          active = sim .active;
+          clerk = sim .clerk;
+          down = sent ∙ sim .down;
+          up = heard ∙ sim .up;
+          upClear = sim .upClear;
+          downClear = sim .downClear;
+          kept = sim .kept;
+          used = noted .takenUp _ (sim .used);
+          timedOut = noted .runOut _ (sim .timedOut);
+          guarded = noted .guarded _ (sim .guarded);
+          dropped = noted .dropped _ (sim .dropped);
+        } in
+        let lineSame = line-held tells good still ∙ after .1 .1 ∙ sym (line-held tells g sim) in
+        leaves (record { clerk = refl; line = subst (Unaltered e (lineHolds n w k)) (sym lineSame) same; up = heard; down = sent }) still

@@ -1,82 +1,68 @@
--- Wires for one identifier: the messages of a request among those of all.
+-- Wires for one request: its messages among those of all.
 use Prim.Native.Nat.{ℕ, zero, suc}
 use mathlib.Core.Path.{_≡_, refl, sym, _∙_, ap, subst}
-use mathlib.Core.Bool.{Bool, true, false}
 use mathlib.Core.Logic.{_⊎_, inl, inr}
 use mathlib.Core.List.{List, [], _∷_, _++_, map}
 use lib.ListN.{take, drop}
 use native.Mathlib.Omega.{arith}
-use Rattle.lists.specs.Words.{sameWords}
-use Rattle.lists.specs.declared.words.Words.{Words}
-use Rattle.lists.proofs.WordsLaws.{same-words-true, same-words-false, words-same, words-differ}
+use Rattle.desk.specs.declared.letter.Identifier.{Identifier}
+use Rattle.desk.specs.declared.sends.Elements.{Elements}
 use Rattle.message.specs.declared.Message.{Message}
+use Rattle.desk.specs.declared.outcome.Sending.{Sending}
 use Rattle.pair_request.specs.Reading.{Msg, leftOut}
 use Rattle.pair_request.specs.Listed.{NoReq}
-use Rattle.pair.specs.World.{dropped, nameOf, messagesOf, lostAt}
+use Rattle.pair.specs.World.{Of, from, Naming, dropped, labelOf, messagesOf, sentBy, lostAt}
 use Rattle.pair.specs.Demand3.{Heads}
-use Rattle.pair.proofs.Ends.{messageRead, Clear, Kept}
-use Rattle.pair.proofs.Letters.{clear-kept, clear-plain, sent-name}
+use Rattle.pair.proofs.Keys.{Tells, key?, key-same, key-differs}
+use Rattle.pair.proofs.Sits.{label}
+use Rattle.pair.proofs.Ends.{messageRead, Clear, KeptName, Kept}
+use Rattle.pair.proofs.Letters.{clear-name, clear-plain, sent-name}
 
--- ---- two identifiers are the same or differ
-pub words? : (a b : Words) → (a ≡ b) ⊎ (a ≡ b → ⊥)
-words? a b = go (sameWords a b) refl
+-- ---- lists
+map-append : {A B : Type 0} (f : A → B) (xs ys : List A) → map f (xs ++ ys) ≡ map f xs ++ map f ys
+map-append f [] ys = refl
+map-append f (x ∷ xs) ys = ap (λ zs. f x ∷ zs) (map-append f xs ys)
+
+pub append-none : {A : Type 0} (xs : List A) → xs ++ [] ≡ xs
+append-none [] = refl
+append-none (x ∷ xs) = ap (λ zs. x ∷ zs) (append-none xs)
+
+-- ---- a message of a request, as it is sent
+abbrev pub worded : Of Elements → Msg → Of Message
+worded l m = from (l .origin) (messageRead (l .it) m)
+
+pub worded-label : (l : Of Elements) (m : Msg) → KeptName (l .it .identifier) → labelOf (worded l m) ≡ label l
+worded-label l m kept = ap (from (l .origin)) (sent-name (l .it) m kept)
+
+-- what a step sends, with an origin
+pub sent-worded :
+    (l : Of Elements) (sending : Sending) (ms : List Msg) → sentBy sending ≡ map (messageRead (l .it)) ms → map (from (l .origin)) (sentBy sending) ≡ map (worded l) ms
+sent-worded l sending ms e = ap (map (from (l .origin))) e ∙ again ms
   where
-    go : (t : Bool) → sameWords a b ≡ t → (a ≡ b) ⊎ (a ≡ b → ⊥)
-    go true e = inl (same-words-true a b e)
-    go false e = inr (same-words-false a b e)
-
--- ---- the messages of a request
-pub messages-hit : (j : Words) (m : Message) (ms : List Message) → nameOf m ≡ j → messagesOf j (m ∷ ms) ≡ m ∷ messagesOf j ms
-unfolding messagesOf
-messages-hit j m ms e = rw (words-same (nameOf m) j e)
-
-pub messages-miss : (j : Words) (m : Message) (ms : List Message) → (nameOf m ≡ j → ⊥) → messagesOf j (m ∷ ms) ≡ messagesOf j ms
-unfolding messagesOf
-messages-miss j m ms h = rw (words-differ (nameOf m) j h)
-
-pub messages-append : (j : Words) (ms ns : List Message) → messagesOf j (ms ++ ns) ≡ messagesOf j ms ++ messagesOf j ns
-unfolding messagesOf
-messages-append j [] ns = refl
-messages-append j (m ∷ ms) ns = go (words? (nameOf m) j) (messages-append j ms ns)
-  where
-    go :
-        (nameOf m ≡ j) ⊎ (nameOf m ≡ j → ⊥) → messagesOf j (ms ++ ns) ≡ messagesOf j ms ++ messagesOf j ns →
-        messagesOf j (m ∷ (ms ++ ns)) ≡ messagesOf j (m ∷ ms) ++ messagesOf j ns
-    go (inl e) rest = rw (messages-hit j m (ms ++ ns) e, messages-hit j m ms e, rest)
-    go (inr h) rest = rw (messages-miss j m (ms ++ ns) h, messages-miss j m ms h, rest)
+    again : (xs : List Msg) → map (from (l .origin)) (map (messageRead (l .it)) xs) ≡ map (worded l) xs
+    again [] = refl
+    again (x ∷ xs) = ap (λ zs. worded l x ∷ zs) (again xs)
 
 -- ---- messages as they were sent
-pub data AllClear (j : Words) : List Msg → Type 0 where
+pub data AllClear (j : Elements) : List Msg → Type 0 where
   no-message : AllClear j []
   one-more : {m : Msg} {ms : List Msg} → Clear j m → AllClear j ms → AllClear j (m ∷ ms)
 
-pub clear-append : {j : Words} {ms ns : List Msg} → AllClear j ms → AllClear j ns → AllClear j (ms ++ ns)
+pub clear-append : {j : Elements} {ms ns : List Msg} → AllClear j ms → AllClear j ns → AllClear j (ms ++ ns)
 clear-append no-message k = k
 clear-append (one-more c h) k = one-more c (clear-append h k)
 
-pub plain-clear : (j : Words) (ms : List Msg) → NoReq ms → Kept j → AllClear j ms
+pub plain-clear : (j : Elements) (ms : List Msg) → NoReq ms → Kept j → AllClear j ms
 plain-clear j [] h k = no-message
 plain-clear j (m ∷ ms) h k = one-more (clear-plain j m (h .0) k) (plain-clear j ms (h .1) k)
 
-pub messages-own : (j : Words) (ms : List Msg) → AllClear j ms → messagesOf j (map (messageRead j) ms) ≡ map (messageRead j) ms
-unfolding messagesOf
-messages-own j [] no-message = refl
-messages-own j (m ∷ ms) (one-more c h) =
-    messages-hit j (messageRead j m) (map (messageRead j) ms) (sent-name j m (clear-kept j m c)) ∙ ap (λ x. messageRead j m ∷ x) (messages-own j ms h)
-
-pub messages-other : (j other : Words) (ms : List Msg) → AllClear j ms → (j ≡ other → ⊥) → messagesOf other (map (messageRead j) ms) ≡ []
-unfolding messagesOf
-messages-other j other [] no-message d = refl
-messages-other j other (m ∷ ms) (one-more c h) d =
-    messages-miss other (messageRead j m) (map (messageRead j) ms) (λ e. d (sym (sent-name j m (clear-kept j m c)) ∙ e)) ∙ messages-other j other ms h d
-
--- ---- the head of a wire is the head of its request's net
-pub record Headed (j : Words) (m : Message) (rest : List Message) (ms : List Msg) : Type 0 where
+-- the head of a wire is the head of its request's net
+pub record Headed {K : Type 0} (n : Naming K) (k : K) (j : Elements) (x : Of Message) (rest : List (Of Message)) (ms : List Msg) : Type 0 where
   pub code : Msg
   pub left : List Msg
   pub whole : ms ≡ code ∷ left
-  pub same : m ≡ messageRead j code
-  pub tail : messagesOf j rest ≡ map (messageRead j) left
+  pub same : x .it ≡ messageRead j code
+  pub tail : messagesOf n k rest ≡ map (messageRead j) left
   pub clear : Clear j code
   pub others : AllClear j left
 
@@ -88,81 +74,147 @@ abbrev later : {A : Type 0} → List A → List A
 later [] = []
 later (x ∷ xs) = xs
 
-headed : (j : Words) (m : Message) (rest : List Message) (ms : List Msg) → AllClear j ms → m ∷ messagesOf j rest ≡ map (messageRead j) ms → Headed j m rest ms
-headed j m rest [] no-message e = let z : _≡_ {A = ℕ} 0 1 = cc in absurd (omega (arith, z))
-headed j m rest (c ∷ cs) (one-more h k) e =
-    record { code = c; left = cs; whole = refl; same = ap (first m) e; tail = ap later e; clear = h; others = k }
+-- a wire on which every message is as some desk sent it, and every label is of a kind
+pub data Worded (P : Of Elements → Type 0) : List (Of Message) → Type 0 where
+  quiet : Worded P []
+  word : (l : Of Elements) (m : Msg) {xs : List (Of Message)} → P l → Clear (l .it) m → Worded P xs → Worded P (worded l m ∷ xs)
 
-pub head-own :
-    {j : Words} {m : Message} {rest wire : List Message} {ms : List Msg} → wire ≡ m ∷ rest → nameOf m ≡ j → AllClear j ms →
-    messagesOf j wire ≡ map (messageRead j) ms → Headed j m rest ms
-head-own {j} {m} {rest} {wire} {ms} e name c h = headed j m rest ms c (sym (messages-hit j m rest name) ∙ ap (messagesOf j) (sym e) ∙ h)
-
--- and the messages of every other request are behind it
-pub head-other : {j k : Words} {m : Message} {rest wire : List Message} → wire ≡ m ∷ rest → nameOf m ≡ k → (k ≡ j → ⊥) → messagesOf j rest ≡ messagesOf j wire
-head-other {j} {k} {m} {rest} {wire} e name d = sym (messages-miss j m rest (λ q. d (sym name ∙ q))) ∙ ap (messagesOf j) (sym e)
-
--- a wire on which every message is as some desk sent it
-pub data Worded : List Message → Type 0 where
-  quiet : Worded []
-  word : (j : Words) (m : Msg) {ms : List Message} → Clear j m → Worded ms → Worded (messageRead j m ∷ ms)
-
-pub worded-append : {ms ns : List Message} → Worded ms → Worded ns → Worded (ms ++ ns)
+pub worded-append : {P : Of Elements → Type 0} {xs ys : List (Of Message)} → Worded P xs → Worded P ys → Worded P (xs ++ ys)
 worded-append quiet k = k
-worded-append (word j m c h) k = word j m c (worded-append h k)
+worded-append (word l m p c h) k = word l m p c (worded-append h k)
 
-pub worded-sent : {j : Words} {ms : List Msg} → AllClear j ms → Worded (map (messageRead j) ms)
-worded-sent no-message = quiet
-worded-sent {j} (one-more {m} c h) = word j m c (worded-sent h)
+pub worded-sent : {P : Of Elements → Type 0} (l : Of Elements) {ms : List Msg} → P l → AllClear (l .it) ms → Worded P (map (worded l) ms)
+worded-sent l p no-message = quiet
+worded-sent l p (one-more {m} c h) = word l m p c (worded-sent l p h)
 
--- ---- a message left out of a wire: of its request's messages one is, of every other's none; or there was no message at that place
-abbrev pub without : ℕ → List Message → List Message
-without i ms = take i ms ++ drop (suc i) ms
+pub worded-more : {P Q : Of Elements → Type 0} {xs : List (Of Message)} → ((l : Of Elements) → P l → Q l) → Worded P xs → Worded Q xs
+worded-more f quiet = quiet
+worded-more f (word l m p c h) = word l m (f l p) c (worded-more f h)
 
-pub data LeftOut (i : ℕ) (ms : List Message) : Type 0 where
-  nothing-lost : without i ms ≡ ms → lostAt i ms ≡ [] → LeftOut i ms
-  one-lost :
-      (k : Words) → lostAt i ms ≡ dropped k ∷ [] → Heads (drop i ms) k → Worded (without i ms) →
-      ((j : Words) → (k ≡ j → ⊥) → messagesOf j (without i ms) ≡ messagesOf j ms) →
-      ((cs : List Msg) → AllClear k cs → messagesOf k ms ≡ map (messageRead k) cs →
-      (n : ℕ) × ((messagesOf k (without i ms) ≡ map (messageRead k) (leftOut n cs)) × AllClear k (leftOut n cs))) →
-      LeftOut i ms
+abbrev pub without : ℕ → List (Of Message) → List (Of Message)
+without i xs = take i xs ++ drop (suc i) xs
 
-abbrev Lost : Words → List Message → List Msg → Type 0
-Lost k ms cs = (n : ℕ) × ((messagesOf k ms ≡ map (messageRead k) (leftOut n cs)) × AllClear k (leftOut n cs))
+pub worded-without : {P : Of Elements → Type 0} (i : ℕ) {xs : List (Of Message)} → Worded P xs → Worded P (without i xs)
+worded-without zero quiet = quiet
+worded-without (suc i) quiet = quiet
+worded-without zero (word l m p c h) = h
+worded-without (suc i) (word l m p c h) = word l m p c (worded-without i h)
 
-first-lost : {k : Words} {m : Message} {rest : List Message} {cs : List Msg} → Headed k m rest cs → Lost k rest cs
-unfolding leftOut
-first-lost {k} {rest = rest} h = subst (Lost k rest) (sym (h .whole)) (0, (h .tail, h .others))
+-- ---- the messages of a request
+module _ {K : Type 0} {n : Naming K} (tells : Tells n) (k : K) where
+  pub messages-hit : (x : Of Message) (xs : List (Of Message)) → n .key (labelOf x) ≡ k → messagesOf n k (x ∷ xs) ≡ x .it ∷ messagesOf n k xs
+  unfolding messagesOf
+  messages-hit x xs e = rw (key-same tells (n .key (labelOf x)) k e)
 
-later-lost : {k : Words} {m : Message} {rest : List Message} {cs : List Msg} (left : List Message) (h : Headed k m rest cs) → nameOf m ≡ k → Lost k left (h .left) → Lost k (m ∷ left) cs
-unfolding leftOut
-later-lost {k} {m} left h name lost =
-    subst (Lost k (m ∷ left)) (sym (h .whole))
-    (suc (lost .0), (messages-hit k m left name ∙ ap (λ x. x ∷ messagesOf k left) (h .same) ∙ ap (λ x. messageRead k (h .code) ∷ x) (lost .1 .0), one-more (h .clear) (lost .1 .1)))
+  pub messages-miss : (x : Of Message) (xs : List (Of Message)) → (n .key (labelOf x) ≡ k → ⊥) → messagesOf n k (x ∷ xs) ≡ messagesOf n k xs
+  unfolding messagesOf
+  messages-miss x xs h = rw (key-differs tells (n .key (labelOf x)) k h)
 
--- a message in front, whose request it is or is not
-under : (j : Words) (m : Message) (left ms : List Message) → messagesOf j left ≡ messagesOf j ms → messagesOf j (m ∷ left) ≡ messagesOf j (m ∷ ms)
-under j m left ms e = go (words? (nameOf m) j)
-  where
-    go : (nameOf m ≡ j) ⊎ (nameOf m ≡ j → ⊥) → messagesOf j (m ∷ left) ≡ messagesOf j (m ∷ ms)
-    go (inl h) = messages-hit j m left h ∙ ap (λ x. m ∷ x) e ∙ sym (messages-hit j m ms h)
-    go (inr h) = messages-miss j m left h ∙ e ∙ sym (messages-miss j m ms h)
+  -- a message in front, whose request it is or is not
+  under : (x : Of Message) (left xs : List (Of Message)) → messagesOf n k left ≡ messagesOf n k xs → messagesOf n k (x ∷ left) ≡ messagesOf n k (x ∷ xs)
+  under x left xs e = go (key? tells (n .key (labelOf x)) k)
+    where
+      go : (n .key (labelOf x) ≡ k) ⊎ (n .key (labelOf x) ≡ k → ⊥) → messagesOf n k (x ∷ left) ≡ messagesOf n k (x ∷ xs)
+      go (inl h) = messages-hit x left h ∙ ap (λ zs. x .it ∷ zs) e ∙ sym (messages-hit x xs h)
+      go (inr h) = messages-miss x left h ∙ e ∙ sym (messages-miss x xs h)
 
-pub left-out : (i : ℕ) (ms : List Message) → Worded ms → LeftOut i ms
-left-out zero [] quiet = nothing-lost refl refl
-left-out (suc i) [] quiet = nothing-lost refl refl
-left-out zero (m ∷ ms) (word x c clear others) =
-    one-lost (nameOf m) refl refl others (λ j d. sym (messages-miss j m ms d)) (λ cs own e. first-lost (head-own refl refl own e))
-left-out (suc i) (m ∷ ms) (word x c clear others) = go (left-out i ms others)
-  where
-    go : LeftOut i ms → LeftOut (suc i) (m ∷ ms)
-    go (nothing-lost e n) = nothing-lost (ap (λ x. m ∷ x) e) n
-    go (one-lost k n h worded other own) = one-lost k n h (word x c clear worded) (λ j d. under j m (without i ms) ms (other j d)) (λ cs all e. by cs all e (words? (nameOf m) k))
-      where
-        by :
-            (cs : List Msg) → AllClear k cs → messagesOf k (m ∷ ms) ≡ map (messageRead k) cs → (nameOf m ≡ k) ⊎ (nameOf m ≡ k → ⊥) → Lost k (m ∷ without i ms) cs
-        by cs all e (inl name) = let h = head-own refl name all e in later-lost (without i ms) h name (own (h .left) (h .others) (h .tail))
-        by cs all e (inr d) =
-            let l = own cs all (sym (messages-miss k m ms d) ∙ e) in
-            (l .0, (messages-miss k m (without i ms) d ∙ l .1 .0, l .1 .1))
+  pub messages-append : (xs ys : List (Of Message)) → messagesOf n k (xs ++ ys) ≡ messagesOf n k xs ++ messagesOf n k ys
+  unfolding messagesOf
+  messages-append [] ys = refl
+  messages-append (x ∷ xs) ys = go (key? tells (n .key (labelOf x)) k) (messages-append xs ys)
+    where
+      go :
+          (n .key (labelOf x) ≡ k) ⊎ (n .key (labelOf x) ≡ k → ⊥) → messagesOf n k (xs ++ ys) ≡ messagesOf n k xs ++ messagesOf n k ys →
+          messagesOf n k (x ∷ (xs ++ ys)) ≡ messagesOf n k (x ∷ xs) ++ messagesOf n k ys
+      go (inl e) rest = rw (messages-hit x (xs ++ ys) e, messages-hit x xs e, rest)
+      go (inr h) rest = rw (messages-miss x (xs ++ ys) h, messages-miss x xs h, rest)
+
+  messages-own : (l : Of Elements) (ms : List Msg) → n .key (label l) ≡ k → AllClear (l .it) ms → messagesOf n k (map (worded l) ms) ≡ map (messageRead (l .it)) ms
+  unfolding messagesOf
+  messages-own l [] e no-message = refl
+  messages-own l (m ∷ ms) e (one-more c h) =
+      messages-hit (worded l m) (map (worded l) ms) (ap (n .key) (worded-label l m (clear-name (l .it) m c)) ∙ e)
+      ∙ ap (λ x. messageRead (l .it) m ∷ x) (messages-own l ms e h)
+
+  messages-other : (l : Of Elements) (ms : List Msg) → (n .key (label l) ≡ k → ⊥) → AllClear (l .it) ms → messagesOf n k (map (worded l) ms) ≡ []
+  unfolding messagesOf
+  messages-other l [] d no-message = refl
+  messages-other l (m ∷ ms) d (one-more c h) =
+      messages-miss (worded l m) (map (worded l) ms) (λ e. d (sym (ap (n .key) (worded-label l m (clear-name (l .it) m c))) ∙ e)) ∙ messages-other l ms d h
+
+  -- a wire to which the request's own messages were added, and one to which another's were
+  pub wire-own :
+      (l : Of Elements) (xs sent : List (Of Message)) (before added : List Msg) → n .key (label l) ≡ k → messagesOf n k xs ≡ map (messageRead (l .it)) before →
+      sent ≡ map (worded l) added → AllClear (l .it) added → messagesOf n k (xs ++ sent) ≡ map (messageRead (l .it)) (before ++ added)
+  wire-own l xs sent before added own e s c =
+      messages-append xs sent
+      ∙ ap (λ x. x ++ messagesOf n k sent) e
+      ∙ ap (λ x. map (messageRead (l .it)) before ++ x) (ap (messagesOf n k) s ∙ messages-own l added own c)
+      ∙ sym (map-append (messageRead (l .it)) before added)
+
+  pub wire-other :
+      (l : Of Elements) (xs sent : List (Of Message)) (added : List Msg) → (n .key (label l) ≡ k → ⊥) → sent ≡ map (worded l) added → AllClear (l .it) added →
+      messagesOf n k (xs ++ sent) ≡ messagesOf n k xs
+  wire-other l xs sent added d s c =
+      messages-append xs sent ∙ ap (λ x. messagesOf n k xs ++ x) (ap (messagesOf n k) s ∙ messages-other l added d c) ∙ append-none (messagesOf n k xs)
+
+  -- ---- the head of a wire
+  headed : (j : Elements) (x : Of Message) (rest : List (Of Message)) (ms : List Msg) → AllClear j ms → x .it ∷ messagesOf n k rest ≡ map (messageRead j) ms → Headed n k j x rest ms
+  headed j x rest [] no-message e = let z : _≡_ {A = ℕ} 0 1 = cc in absurd (omega (arith, z))
+  headed j x rest (c ∷ cs) (one-more h s) e =
+      record { code = c; left = cs; whole = refl; same = ap (first (x .it)) e; tail = ap later e; clear = h; others = s }
+
+  pub head-own :
+      {j : Elements} {x : Of Message} {rest wire : List (Of Message)} {ms : List Msg} → wire ≡ x ∷ rest → n .key (labelOf x) ≡ k → AllClear j ms →
+      messagesOf n k wire ≡ map (messageRead j) ms → Headed n k j x rest ms
+  head-own {j} {x} {rest} {wire} {ms} e own c h = headed j x rest ms c (sym (messages-hit x rest own) ∙ ap (messagesOf n k) (sym e) ∙ h)
+
+  -- the messages of every other request are behind it
+  pub head-other : {x : Of Message} {rest wire : List (Of Message)} → wire ≡ x ∷ rest → (n .key (labelOf x) ≡ k → ⊥) → messagesOf n k rest ≡ messagesOf n k wire
+  head-other {x} {rest} {wire} e d = sym (messages-miss x rest d) ∙ ap (messagesOf n k) (sym e)
+
+  -- ---- a message left out of a wire: of its request's messages one is, of every other's none; or there was no message at that place
+  abbrev pub Lost : Elements → List (Of Message) → List Msg → Type 0
+  Lost j xs cs = (i : ℕ) × ((messagesOf n k xs ≡ map (messageRead j) (leftOut i cs)) × AllClear j (leftOut i cs))
+
+  pub data LeftOut (i : ℕ) (xs : List (Of Message)) : Type 0 where
+    nothing-lost : without i xs ≡ xs → lostAt i xs ≡ [] → LeftOut i xs
+    other-lost : (l : Of Identifier) → lostAt i xs ≡ dropped l ∷ [] → (n .key l ≡ k → ⊥) → messagesOf n k (without i xs) ≡ messagesOf n k xs → LeftOut i xs
+    one-lost :
+        (l : Of Identifier) → lostAt i xs ≡ dropped l ∷ [] → n .key l ≡ k → Heads n (drop i xs) k →
+        ((j : Elements) (cs : List Msg) → AllClear j cs → messagesOf n k xs ≡ map (messageRead j) cs → Lost j (without i xs) cs) → LeftOut i xs
+
+  first-lost : {j : Elements} {x : Of Message} {rest : List (Of Message)} {cs : List Msg} → Headed n k j x rest cs → Lost j rest cs
+  unfolding leftOut
+  first-lost {j} {rest = rest} h = subst (Lost j rest) (sym (h .whole)) (0, (h .tail, h .others))
+
+  later-lost :
+      {j : Elements} {x : Of Message} {rest : List (Of Message)} {cs : List Msg} (left : List (Of Message)) (h : Headed n k j x rest cs) → n .key (labelOf x) ≡ k →
+      Lost j left (h .left) → Lost j (x ∷ left) cs
+  unfolding leftOut
+  later-lost {j} {x} left h own lost =
+      subst (Lost j (x ∷ left)) (sym (h .whole))
+      (suc (lost .0), (messages-hit x left own ∙ ap (λ y. y ∷ messagesOf n k left) (h .same) ∙ ap (λ ys. messageRead j (h .code) ∷ ys) (lost .1 .0), one-more (h .clear) (lost .1 .1)))
+
+  pub left-out : (i : ℕ) (xs : List (Of Message)) → LeftOut i xs
+  left-out zero [] = nothing-lost refl refl
+  left-out (suc i) [] = nothing-lost refl refl
+  left-out zero (x ∷ xs) = go (key? tells (n .key (labelOf x)) k)
+    where
+      go : (n .key (labelOf x) ≡ k) ⊎ (n .key (labelOf x) ≡ k → ⊥) → LeftOut zero (x ∷ xs)
+      go (inl e) = one-lost (labelOf x) refl e e (λ j cs own h. first-lost (head-own refl e own h))
+      go (inr d) = other-lost (labelOf x) refl d (sym (messages-miss x xs d))
+  left-out (suc i) (x ∷ xs) = go (left-out i xs)
+    where
+      go : LeftOut i xs → LeftOut (suc i) (x ∷ xs)
+      go (nothing-lost e s) = nothing-lost (ap (λ zs. x ∷ zs) e) s
+      go (other-lost l s d e) = other-lost l s d (under x (without i xs) xs e)
+      go (one-lost l s own head lost) = one-lost l s own head (λ j cs all e. by j cs all e (key? tells (n .key (labelOf x)) k))
+        where
+          by :
+              (j : Elements) (cs : List Msg) → AllClear j cs → messagesOf n k (x ∷ xs) ≡ map (messageRead j) cs →
+              (n .key (labelOf x) ≡ k) ⊎ (n .key (labelOf x) ≡ k → ⊥) → Lost j (x ∷ without i xs) cs
+          by j cs all e (inl its) = let h = head-own refl its all e in later-lost (without i xs) h its (lost j (h .left) (h .others) (h .tail))
+          by j cs all e (inr d) =
+              let m = lost j cs all (sym (messages-miss x xs d) ∙ e) in
+              (m .0, (messages-miss x (without i xs) d ∙ m .1 .0, m .1 .1))

@@ -5,7 +5,6 @@ use mathlib.Core.List.{List, [], _∷_, _++_}
 use Prim.Native.Nat.{ℕ, zero, suc}
 use lib.Dec.{eqb}
 use Rattle.lists.specs.Choice.{pick}
-use Rattle.lists.specs.declared.words.Words.{Words}
 use Rattle.message.specs.declared.Kind.{Kind}
 use Rattle.message.specs.declared.Kind.the-variants.{Ccbs}
 use Rattle.pair_request.specs.Signal.{Signal, callDied, rejected}
@@ -17,11 +16,8 @@ use Rattle.clerk_table.specs.declared.table.Timer.the-variants.{T1, T2, T3}
 pub data Conn : Type 0 where
   ret rls : Conn
 
--- what an ask stores and its request message carries, beside the kind
+-- what an ask stores and its request message carries, beside the kind and what no step changes (its identifier, numbers and service)
 pub record Data : Type 0 where
-  pub numberA : Words
-  pub numberB : Words
-  pub service : ℕ
   pub canKeep : Bool
 
 -- what both ends go by once the line's end has stored the request: what was asked, the keep choice, the connection choice. No step changes them. It is no

@@ -2,13 +2,12 @@
 use Prim.Native.Nat.{ℕ}
 use mathlib.Core.Path.{_≡_}
 use mathlib.Core.Bool.{Bool, true, false}
-use mathlib.Core.List.{List, [], _∷_, _++_, map, List·Memᴰ as Noted}
+use mathlib.Core.List.{List, [], _∷_, _++_, map}
 use lib.Dec.{eqb}
 use lib.ListN.{length}
 use Rattle.lists.specs.Choice.{pick}
 use Rattle.lists.specs.Lists.{both}
-use Rattle.lists.specs.Words.{wordsOf, sameWords}
-use Rattle.lists.specs.declared.words.Words.{Words}
+use Rattle.lists.specs.Words.{wordsOf}
 use Rattle.message.specs.declared.Kind.{Kind}
 use Rattle.message.specs.declared.Kind.the-variants.{Ccbs, Ccnr}
 use Rattle.message.specs.declared.Carrier.the-variants.{Alerting, ReleaseComplete}
@@ -16,13 +15,17 @@ use Rattle.message.specs.declared.Body.the-variants.{RingoutError, CallAlerts}
 use Rattle.terms.specs.Codes.{kindCode, keepCode, flagCode}
 use Rattle.desk.specs.Letter.{numberWords}
 use Rattle.desk.specs.Sends.{plainLetter}
+use Rattle.desk.specs.declared.letter.Identifier.{Identifier}
+use Rattle.desk.specs.declared.letter.Identifier.the-variants.{Absent, Is}
 use Rattle.desk.specs.declared.letter.Letter.{Letter}
+use Rattle.terms.specs.declared.request.Name.{Name}
 use Rattle.desk.specs.declared.Connection.the-variants.{Empty}
 use Rattle.places.specs.Places.{Held, none, one}
 use Rattle.clerk_table.specs.declared.inputs.Act as ClerkAct
 use Rattle.clerk_table.specs.declared.inputs.Act.the-variants as User
 use Rattle.clerk_table.specs.declared.inputs.Input.the-variants as AtClerk
 use Rattle.clerk_table.specs.declared.record.Record as ClerkRecord
+use Rattle.clerk_table.specs.declared.table.State.the-variants as ClerkState
 use Rattle.clerk_table.specs.declared.table.Timer.{Timer}
 use Rattle.clerk_table.specs.declared.table.Timer.the-variants.{T1, T2, T3}
 use Rattle.clerk_records.specs.Codes as ClerkCodes
@@ -32,9 +35,10 @@ use Rattle.line_table.specs.declared.inputs.Act as LineAct
 use Rattle.line_table.specs.declared.inputs.Act.the-variants as Far
 use Rattle.line_table.specs.declared.inputs.Input.the-variants as AtLine
 use Rattle.line_table.specs.declared.record.Record as LineRecord
+use Rattle.line_table.specs.declared.table.State.the-variants as LineState
 use Rattle.line_records.specs.Codes as LineCodes
-use Rattle.pair.specs.World.{Note, World, Event, clerkDoes, lineDoes, clerkIsTold, clerkHears, lineHears, dropsUp, dropsDown, clerkHolds, lineHolds, messagesOf, next, startWorld, Reached}
-use Rattle.pair.specs.Demand3.{Acknowledged, Listed, NoRequest}
+use Rattle.pair.specs.World.{alike, origins, identifiers, Note, World, Event, clerkDoes, lineDoes, clerkIsTold, clerkHears, lineHears, dropsUp, dropsDown, clerkHolds, lineHolds, messagesOf, next, startWorld, Reached, Once, Apart}
+use Rattle.pair.specs.Demand3.{Told, Acknowledged, Listed, NoRequest}
 use Rattle.pair_request.specs.Signal.{callDied, rejected}
 
 -- events one after the other
@@ -42,22 +46,22 @@ unfoldable pub play : World → List Event → World
 play w [] = w
 play w (e ∷ es) = play (next w e) es
 
--- ---- whether a note is in a history
+-- ---- whether a note of an identifier is in a history, by its kind
 abbrev pub kindOf : Note → ℕ
-kindOf (Note.takenUp identifier) = 0
-kindOf (Note.dropped identifier) = 1
-kindOf (Note.runOut identifier) = 2
-kindOf (Note.guarded identifier) = 3
+kindOf (Note.takenUp l) = 0
+kindOf (Note.dropped l) = 1
+kindOf (Note.runOut l) = 2
+kindOf (Note.guarded l) = 3
 
-abbrev pub whose : Note → Words
-whose (Note.takenUp identifier) = identifier
-whose (Note.dropped identifier) = identifier
-whose (Note.runOut identifier) = identifier
-whose (Note.guarded identifier) = identifier
+abbrev pub whose : Note → Identifier
+whose (Note.takenUp l) = l .it
+whose (Note.dropped l) = l .it
+whose (Note.runOut l) = l .it
+whose (Note.guarded l) = l .it
 
-unfoldable pub has : Note → List Note → Bool
-has n [] = false
-has n (x ∷ xs) = pick (both (sameWords (whose n) (whose x)) (eqb (kindOf n) (kindOf x))) true (has n xs)
+unfoldable pub has : ℕ → Identifier → List Note → Bool
+has kind identifier [] = false
+has kind identifier (x ∷ xs) = pick (both (alike (whose x) identifier) (eqb (kindOf x) kind)) true (has kind identifier xs)
 
 -- ---- what is seen of a request in a world, as plain numbers
 pub record Seen : Type 0 where
@@ -100,20 +104,20 @@ abbrev told : {A : Type 0} → (A → ℕ) → Held A → ℕ
 told tells none = 0
 told tells (one r) = tells r
 
-unfoldable pub seen : World → Words → Seen
+unfoldable pub seen : World → Identifier → Seen
 seen w identifier =
     sees
-    (told (λ (c : ClerkRecord.Record). ClerkCodes.stateCode (c .state)) (clerkHolds w identifier))
-    (told (λ (l : LineRecord.Record). LineCodes.stateCode (l .state)) (lineHolds w identifier))
-    (told (λ (l : LineRecord.Record). flagCode (l .active)) (lineHolds w identifier))
-    (told (λ (l : LineRecord.Record). flagCode (l .suspended)) (lineHolds w identifier))
-    (told (λ (c : ClerkRecord.Record). keepCode (c .terms .keep)) (clerkHolds w identifier))
-    (told (λ (l : LineRecord.Record). keepCode (l .terms .keep)) (lineHolds w identifier))
-    (length (messagesOf identifier (w .up)))
-    (length (messagesOf identifier (w .down)))
-    (flagCode (has (Note.dropped identifier) (w .history)))
-    (flagCode (has (Note.runOut identifier) (w .history)))
-    (flagCode (has (Note.guarded identifier) (w .history)))
+    (told (λ (c : ClerkRecord.Record). ClerkCodes.stateCode (c .state)) (clerkHolds identifiers w identifier))
+    (told (λ (l : LineRecord.Record). LineCodes.stateCode (l .state)) (lineHolds identifiers w identifier))
+    (told (λ (l : LineRecord.Record). flagCode (l .active)) (lineHolds identifiers w identifier))
+    (told (λ (l : LineRecord.Record). flagCode (l .suspended)) (lineHolds identifiers w identifier))
+    (told (λ (c : ClerkRecord.Record). keepCode (c .terms .keep)) (clerkHolds identifiers w identifier))
+    (told (λ (l : LineRecord.Record). keepCode (l .terms .keep)) (lineHolds identifiers w identifier))
+    (length (messagesOf identifiers identifier (w .up)))
+    (length (messagesOf identifiers identifier (w .down)))
+    (flagCode (has 1 identifier (w .history)))
+    (flagCode (has 2 identifier (w .history)))
+    (flagCode (has 3 identifier (w .history)))
 
 -- ---- the data of the runs
 -- two identifiers, sixteen bytes each
@@ -130,10 +134,26 @@ numberA = 4 ∷ 2 ∷ 0 ∷ 1 ∷ 7 ∷ 0 ∷ 0 ∷ 0 ∷ 0 ∷ 0 ∷ 0 ∷ 0 �
 abbrev pub numberB : List ℕ
 numberB = 4 ∷ 3 ∷ 0 ∷ 0 ∷ 5 ∷ 0 ∷ 0 ∷ 0 ∷ 0 ∷ 0 ∷ 0 ∷ 0 ∷ 0 ∷ 0 ∷ 0 ∷ 0 ∷ []
 
--- an ask of a kind, with can-keep or without; no preference
-abbrev asking : Kind → Bool → List ℕ → Asking
-asking kind canKeep identifier =
-    record { identifier = identifier; kind = kind; numberA = numberA; numberB = numberB; service = 300; canKeep = canKeep; preference = 0 }
+-- as the desks compare them, and as a host names a request by one: then no place is looked at
+abbrev pub called : List ℕ → Identifier
+called identifier = Is (wordsOf identifier)
+
+abbrev pub named : List ℕ → Name
+named identifier = record { identifier = called identifier; place = 0 }
+
+-- an ask of a kind, with can-keep or without; no preference. With an identifier, or without one
+abbrev asking : Bool → Kind → Bool → List ℕ → Asking
+asking identified kind canKeep identifier =
+    record {
+      identified = identified;
+      identifier = identifier;
+      kind = kind;
+      numberA = numberA;
+      numberB = numberB;
+      service = 300;
+      canKeep = canKeep;
+      preference = 0;
+    }
 
 -- one line, both kinds allowed
 abbrev pub oneLine : List ℕ
@@ -145,19 +165,19 @@ start retain = startWorld oneLine true retain
 
 -- what a host puts in at each end, as the entry makes it of these bytes; the line is always the one
 abbrev pub asks : Kind → Bool → List ℕ → Event
-asks kind canKeep identifier = let a = asking kind canKeep identifier in clerkDoes (AtClerk.Ask (askNames a) (askRequest a))
+asks kind canKeep identifier = let a = asking true kind canKeep identifier in clerkDoes (AtClerk.Ask (askNames a) (askRequest a))
 
-abbrev clerkActs : List ℕ → ClerkAct.Act → Event
-clerkActs identifier act = clerkDoes (AtClerk.Act (wordsOf identifier) act)
+abbrev pub clerkActs : List ℕ → ClerkAct.Act → Event
+clerkActs identifier act = clerkDoes (AtClerk.Act (named identifier) act)
 
 abbrev clerkReports : List ℕ → Timer → Event
-clerkReports identifier timer = clerkDoes (AtClerk.Timer (wordsOf identifier) timer)
+clerkReports identifier timer = clerkDoes (AtClerk.Timer (named identifier) timer)
 
 abbrev lineActs : List ℕ → LineAct.Act → Event
-lineActs identifier act = lineDoes (AtLine.Act (wordsOf identifier) act)
+lineActs identifier act = lineDoes (AtLine.Act (named identifier) act)
 
 abbrev guardReports : List ℕ → Event
-guardReports identifier = lineDoes (AtLine.Guard (wordsOf identifier))
+guardReports identifier = lineDoes (AtLine.Guard (named identifier))
 
 abbrev pub lineReports : Bool → Event
 lineReports busy = lineDoes (AtLine.Report (numberWords numberB) busy)
@@ -165,21 +185,35 @@ lineReports busy = lineDoes (AtLine.Report (numberWords numberB) busy)
 abbrev lineLooks : Event
 lineLooks = lineDoes (AtLine.Look (numberWords numberB))
 
+-- the head of a wire is delivered; of a request with an identifier no place is looked at
+abbrev pub clerkGets : Bool → Event
+clerkGets busy = clerkHears busy 0
+
+abbrev pub lineGets : Event
+lineGets = lineHears 0
+
+-- the same without an identifier: a request is named by the place of its record
+abbrev pub placed : ℕ → Name
+placed place = record { identifier = Absent; place = place }
+
+abbrev pub asksNameless : Event
+asksNameless = let a = asking false Ccbs true first in clerkDoes (AtClerk.Ask (askNames a) (askRequest a))
+
 -- ---- the runs, each from the start
 -- the request is heard and stored; its result is still under way
 abbrev pub stored : List Event
-stored = asks Ccbs true first ∷ lineHears ∷ []
+stored = asks Ccbs true first ∷ lineGets ∷ []
 
 -- the result is heard
 abbrev pub acknowledged : List Event
-acknowledged = stored ++ (clerkHears false ∷ [])
+acknowledged = stored ++ (clerkGets false ∷ [])
 
 -- a Look, and ccExecPossible is heard: User A is not busy, or busy and ccSuspend is heard
 abbrev recalled : List Event
-recalled = lineLooks ∷ clerkHears false ∷ []
+recalled = lineLooks ∷ clerkGets false ∷ []
 
 abbrev suspends : List Event
-suspends = lineLooks ∷ clerkHears true ∷ lineHears ∷ []
+suspends = lineLooks ∷ clerkGets true ∷ lineGets ∷ []
 
 -- the clerk went on from Suspended without a resume
 abbrev pub wentOn : List Event
@@ -187,21 +221,21 @@ wentOn = acknowledged ++ (suspends ++ (clerkActs first User.GoOn ∷ []))
 
 -- accept, and ccRingout is heard
 abbrev ringsOut : List Event
-ringsOut = clerkActs first User.Accept ∷ lineHears ∷ []
+ringsOut = clerkActs first User.Accept ∷ lineGets ∷ []
 
 abbrev pub ringing : List Event
 ringing = acknowledged ++ (recalled ++ ringsOut)
 
 -- alerted, and type 11 is heard
 abbrev completes : List Event
-completes = lineActs first Far.Alerted ∷ clerkHears false ∷ []
+completes = lineActs first Far.Alerted ∷ clerkGets false ∷ []
 
 abbrev completed : List Event
 completed = ringing ++ completes
 
 -- another ask with the same numbers, its request heard, the error heard
 abbrev denied : List Event
-denied = acknowledged ++ (asks Ccbs true second ∷ lineHears ∷ clerkHears false ∷ [])
+denied = acknowledged ++ (asks Ccbs true second ∷ lineGets ∷ clerkGets false ∷ [])
 
 -- a cancel while ccExecPossible is under way
 abbrev crossed : List Event
@@ -209,29 +243,29 @@ crossed = acknowledged ++ (lineLooks ∷ clerkActs first User.Cancel ∷ [])
 
 -- recall and accept, but the line is busy again when ccRingout is heard
 abbrev meetsBusy : List Event
-meetsBusy = recalled ++ (clerkActs first User.Accept ∷ lineReports true ∷ lineHears ∷ [])
+meetsBusy = recalled ++ (clerkActs first User.Accept ∷ lineReports true ∷ lineGets ∷ [])
 
 abbrev busyAgain : List Event
 busyAgain = acknowledged ++ meetsBusy
 
 -- its error is heard
 abbrev kept : List Event
-kept = busyAgain ++ (clerkHears false ∷ [])
+kept = busyAgain ++ (clerkGets false ∷ [])
 
 -- the same, of an ask without can-keep
 abbrev unkept : List Event
-unkept = asks Ccbs false first ∷ lineHears ∷ clerkHears false ∷ meetsBusy
+unkept = asks Ccbs false first ∷ lineGets ∷ clerkGets false ∷ meetsBusy
 
 -- a CCNR request is acknowledged, its line free all the while
 abbrev pub noReply : List Event
-noReply = asks Ccnr true first ∷ lineHears ∷ clerkHears false ∷ []
+noReply = asks Ccnr true first ∷ lineGets ∷ clerkGets false ∷ []
 
 -- its line was busy and is free again; it is offered, and the line is busy again when ccRingout is heard; the error is heard, or dropped
 abbrev pub noReplyBusy : List Event
 noReplyBusy = noReply ++ (lineReports true ∷ lineReports false ∷ meetsBusy)
 
 abbrev noReplyKept : List Event
-noReplyKept = noReplyBusy ++ (clerkHears false ∷ [])
+noReplyKept = noReplyBusy ++ (clerkGets false ∷ [])
 
 abbrev pub noReplyLost : List Event
 noReplyLost = noReplyBusy ++ (dropsDown 0 ∷ [])
@@ -253,7 +287,7 @@ over = runOut ++ (guardReports first ∷ dropsDown 0 ∷ [])
 
 -- of two requests under way the second is dropped, and the first heard
 abbrev secondLost : List Event
-secondLost = asks Ccbs true first ∷ asks Ccbs true second ∷ dropsUp 1 ∷ lineHears ∷ []
+secondLost = asks Ccbs true first ∷ asks Ccbs true second ∷ dropsUp 1 ∷ lineGets ∷ []
 
 -- alerted, but type 11 is dropped; T2 is reported in Ringout, and refused
 abbrev unheard : List Event
@@ -265,7 +299,36 @@ deserted = ringing ++ (guardReports first ∷ dropsDown 0 ∷ [])
 
 -- the clerk's host is told that the request was rejected, while it is under way
 abbrev pub rejection : List Event
-rejection = asks Ccbs true first ∷ clerkIsTold rejected (wordsOf first) false ∷ []
+rejection = asks Ccbs true first ∷ clerkIsTold rejected (named first) false ∷ []
+
+-- an identifier is used again, and a message of the first request is heard as the second's: its result; and the line's ccCancel is the next to be heard
+abbrev pub reused : List Event
+reused = stored ++ (clerkActs first User.Cancel ∷ asks Ccbs true first ∷ clerkGets false ∷ [])
+
+abbrev pub reusedLate : List Event
+reusedLate = acknowledged ++ (lineActs first Far.Cancel ∷ clerkActs first User.Cancel ∷ asks Ccbs true first ∷ [])
+
+-- it is used again when the first request is over at both ends, and the second is acknowledged
+abbrev pub usedAgain : List Event
+usedAgain = completed ++ acknowledged
+
+-- two requests without identifier, with the same numbers: the clerk asks, cancels, and asks again; the first request is heard and stored, and the line cancels it. Its result is heard, for which the
+-- host names a place without a record; and the ccCancel, in Setup, is the next to be heard
+abbrev pub nowhere : ℕ
+nowhere = 9
+
+abbrev pub nameless : List Event
+nameless =
+    asksNameless ∷ clerkDoes (AtClerk.Act (placed 0) User.Cancel) ∷ asksNameless ∷ lineGets ∷ lineDoes (AtLine.Act (placed 0) Far.Cancel) ∷ clerkHears false nowhere ∷ []
+
+-- one request without identifier, heard and stored. Its result is heard, but the host names no record's place, and none for the ccCancel that answers it
+abbrev pub misplaced : List Event
+misplaced = asksNameless ∷ lineGets ∷ clerkHears false nowhere ∷ lineHears nowhere ∷ []
+
+-- named rightly it is acknowledged, offered, suspended and resumed, though no message has its identifier: ccResume finds it by its elements in Setup
+abbrev pub namelessAlone : List Event
+namelessAlone =
+    asksNameless ∷ lineGets ∷ clerkGets false ∷ lineLooks ∷ clerkGets true ∷ lineGets ∷ clerkDoes (AtClerk.Act (placed 0) User.Resume) ∷ lineHears nowhere ∷ []
 
 -- ---- the tables: a run, an identifier, and what is seen of that request at its end
 pub record Row : Type 0 where
@@ -293,7 +356,7 @@ pairs =
     -- Wait-Answer and Await, suspended mark set: the clerk went on from Suspended without a resume
     row wentOn first (sees 3 2 0 1 2 2 0 0 0 0 0) ∷
     -- User A is free and resumes, ccResume is heard: back to Invoked and Invoked, the mark cleared
-    row (acknowledged ++ (suspends ++ (clerkActs first User.Resume ∷ lineHears ∷ []))) first (sees 2 1 0 0 2 2 0 0 0 0 0) ∷
+    row (acknowledged ++ (suspends ++ (clerkActs first User.Resume ∷ lineGets ∷ []))) first (sees 2 1 0 0 2 2 0 0 0 0 0) ∷
     -- Ringout and Alert
     row ringing first (sees 4 3 0 0 2 2 0 0 0 0 0) ∷
     -- no record and no record: the request is completed
@@ -313,11 +376,11 @@ answers =
     -- a cancel meets a ring-back: ccCancel and ccExecPossible are under way at once
     row crossed first (sees 0 2 0 0 0 2 1 1 0 0 0) ∷
     -- both are heard: nobody holds it; the answer to a ccExecPossible without a record is a ccCancel, under way
-    row (crossed ++ (lineHears ∷ clerkHears false ∷ [])) first (sees 0 0 0 0 0 0 1 0 0 0 0) ∷
+    row (crossed ++ (lineGets ∷ clerkGets false ∷ [])) first (sees 0 0 0 0 0 0 1 0 0 0 0) ∷
     -- the other order, and that ccCancel is heard too
-    row (crossed ++ (clerkHears false ∷ lineHears ∷ lineHears ∷ [])) first (sees 0 0 0 0 0 0 0 0 0 0 0) ∷
+    row (crossed ++ (clerkGets false ∷ lineGets ∷ lineGets ∷ [])) first (sees 0 0 0 0 0 0 0 0 0 0 0) ∷
     -- the line's end cancels, and its ccCancel is heard
-    row (acknowledged ++ (lineActs first Far.Cancel ∷ clerkHears false ∷ [])) first (sees 0 0 0 0 0 0 0 0 0 0 0) ∷
+    row (acknowledged ++ (lineActs first Far.Cancel ∷ clerkGets false ∷ [])) first (sees 0 0 0 0 0 0 0 0 0 0 0) ∷
     -- busy again: the line's end kept the request, its activity marked; the clerk's has not heard yet
     row busyAgain first (sees 4 1 1 0 2 2 0 1 0 0 0) ∷
     -- kept at both ends
@@ -326,7 +389,7 @@ answers =
     row (kept ++ (lineReports false ∷ (recalled ++ (ringsOut ++ completes)))) first (sees 0 0 0 0 0 0 0 0 0 0 0) ∷
     -- keep not chosen: busy again ends the request at the line's end, and at the clerk's when the error is heard
     row unkept first (sees 4 0 0 0 1 0 0 1 0 0 0) ∷
-    row (unkept ++ (clerkHears false ∷ [])) first (sees 0 0 0 0 0 0 0 0 0 0 0) ∷
+    row (unkept ++ (clerkGets false ∷ [])) first (sees 0 0 0 0 0 0 0 0 0 0 0) ∷
     -- CCNR on a line that has been free since acceptance: a Look offers nothing
     row (noReply ++ (lineLooks ∷ [])) first (sees 2 1 0 0 2 2 0 0 0 0 0) ∷
     -- a busy report, which names no request, marks its activity
@@ -337,9 +400,9 @@ answers =
     row (lineFell ++ recalled) first (sees 3 2 0 0 2 2 0 0 0 0 0) ∷
     row (bothFell ++ (recalled ++ ringsOut)) first (sees 4 3 0 0 2 2 0 0 0 0 0) ∷
     -- it falls at the clerk's end while an offer is under way: what is sent in Facility is taken, and ccSuspend goes in Release Complete
-    row (acknowledged ++ (lineLooks ∷ clerkActs first User.Fell ∷ clerkHears true ∷ lineHears ∷ [])) first (sees 5 2 0 1 2 2 0 0 0 0 0) ∷
+    row (acknowledged ++ (lineLooks ∷ clerkActs first User.Fell ∷ clerkGets true ∷ lineGets ∷ [])) first (sees 5 2 0 1 2 2 0 0 0 0 0) ∷
     -- and a ccResume in Setup, sent by an end that saw it, is taken by one that did not
-    row (acknowledged ++ (suspends ++ (clerkActs first User.Fell ∷ clerkActs first User.Resume ∷ lineHears ∷ []))) first (sees 2 1 0 0 2 2 0 0 0 0 0) ∷
+    row (acknowledged ++ (suspends ++ (clerkActs first User.Fell ∷ clerkActs first User.Resume ∷ lineGets ∷ []))) first (sees 2 1 0 0 2 2 0 0 0 0 0) ∷
     -- busy again: kept, and offered once more when the line is free
     row noReplyKept first (sees 2 1 1 0 2 2 0 0 0 0 0) ∷
     row (noReplyKept ++ (lineReports false ∷ lineLooks ∷ [])) first (sees 2 2 1 0 2 2 0 1 0 0 0) ∷
@@ -349,11 +412,11 @@ answers =
 unfoldable pub losses : List Row
 losses =
     -- T1 is reported in Wait-Ack and its ccCancel heard: nobody holds it; the result is still under way
-    row (stored ++ (clerkReports first T1 ∷ lineHears ∷ [])) first (sees 0 0 0 0 0 0 0 1 0 1 0) ∷
+    row (stored ++ (clerkReports first T1 ∷ lineGets ∷ [])) first (sees 0 0 0 0 0 0 0 1 0 1 0) ∷
     -- T3 is reported and its ccCancel heard; T3 is no timer of the demand
-    row (acknowledged ++ (recalled ++ (clerkReports first T3 ∷ lineHears ∷ []))) first (sees 0 0 0 0 0 0 0 0 0 0 0) ∷
+    row (acknowledged ++ (recalled ++ (clerkReports first T3 ∷ lineGets ∷ []))) first (sees 0 0 0 0 0 0 0 0 0 0 0) ∷
     -- the guard first, and its ccCancel heard at the clerk's end
-    row (acknowledged ++ (guardReports first ∷ clerkHears false ∷ [])) first (sees 0 0 0 0 0 0 0 0 0 0 1) ∷
+    row (acknowledged ++ (guardReports first ∷ clerkGets false ∷ [])) first (sees 0 0 0 0 0 0 0 0 0 0 1) ∷
     -- a T2 report is taken, its ccCancel is dropped: the line's end still holds the request
     row runOut first (sees 0 1 0 0 0 2 0 0 1 1 0) ∷
     -- a guard report is taken and its ccCancel dropped: nobody holds it
@@ -371,15 +434,15 @@ losses =
 unfoldable pub signals : List Row
 signals =
     -- the call fails at the line's end: type 12 is heard, and the ccCancel that it brings (mend M2)
-    row (ringing ++ (lineActs first Far.CallFailed ∷ clerkHears false ∷ lineHears ∷ [])) first (sees 0 0 0 0 0 0 0 0 0 0 0) ∷
+    row (ringing ++ (lineActs first Far.CallFailed ∷ clerkGets false ∷ lineGets ∷ [])) first (sees 0 0 0 0 0 0 0 0 0 0 0) ∷
     -- type 11 was dropped and the host is told that the call died: that ends Ringout, and its ccCancel is heard
-    row (unheard ++ (clerkIsTold callDied (wordsOf first) false ∷ lineHears ∷ [])) first (sees 0 0 0 0 0 0 0 0 1 0 0) ∷
+    row (unheard ++ (clerkIsTold callDied (named first) false ∷ lineGets ∷ [])) first (sees 0 0 0 0 0 0 0 0 1 0 0) ∷
     -- the call died, and the line's end has not noticed: its ccCancel is under way
-    row (ringing ++ (clerkIsTold callDied (wordsOf first) false ∷ [])) first (sees 0 3 0 0 0 2 1 0 0 0 0) ∷
+    row (ringing ++ (clerkIsTold callDied (named first) false ∷ [])) first (sees 0 3 0 0 0 2 1 0 0 0 0) ∷
     -- the request is rejected while it is under way, and then stored all the same
-    row (rejection ++ (lineHears ∷ [])) first (sees 0 1 0 0 0 2 0 1 0 0 0) ∷
+    row (rejection ++ (lineGets ∷ [])) first (sees 0 1 0 0 0 2 0 1 0 0 0) ∷
     -- its result is answered with ccCancel, which is heard: nobody holds it
-    row (rejection ++ (lineHears ∷ clerkHears false ∷ lineHears ∷ [])) first (sees 0 0 0 0 0 0 0 0 0 0 0) ∷
+    row (rejection ++ (lineGets ∷ clerkGets false ∷ lineGets ∷ [])) first (sees 0 0 0 0 0 0 0 0 0 0 0) ∷
     []
 
 -- ---- the kinds (document 02, Ask 5): a run, and the request's kind at the clerk's end and at the line's (0 no record, 1 CCBS, 2 CCNR)
@@ -408,16 +471,16 @@ kinds =
     kindRow kept 1 1 ∷
     []
 
-unfoldable pub kindsSeen : World → Words → Kinds
+unfoldable pub kindsSeen : World → Identifier → Kinds
 kindsSeen w identifier =
     record {
-      clerk = told (λ (c : ClerkRecord.Record). kindCode (c .terms .kind)) (clerkHolds w identifier);
-      line = told (λ (l : LineRecord.Record). kindCode (l .terms .kind)) (lineHolds w identifier);
+      clerk = told (λ (c : ClerkRecord.Record). kindCode (c .terms .kind)) (clerkHolds identifiers w identifier);
+      line = told (λ (l : LineRecord.Record). kindCode (l .terms .kind)) (lineHolds identifiers w identifier);
     }
 
 abbrev pub KindsShown : Type 0
 KindsShown =
-    (retain : Bool) → map (λ (r : KindRow). kindsSeen (play (start retain) (r .events)) (wordsOf first)) kinds ≡ map (λ (r : KindRow). r .said) kinds
+    (retain : Bool) → map (λ (r : KindRow). kindsSeen (play (start retain) (r .events)) (called first)) kinds ≡ map (λ (r : KindRow). r .said) kinds
 
 -- ---- the mark "connection down" (document 02, Ask 11), where connections are retained or released: a run, and 1 where the clerk's end, and the line's, has set it
 pub record Marks : Type 0 where
@@ -441,28 +504,28 @@ falls retain =
     markRow (stored ++ (clerkActs first User.Fell ∷ [])) 0 0 ∷
     -- nothing clears it: a ringout, a resume, busy again
     markRow (bothFell ++ (recalled ++ ringsOut)) (flagCode retain) (flagCode retain) ∷
-    markRow (bothFell ++ (suspends ++ (clerkActs first User.Resume ∷ lineHears ∷ []))) (flagCode retain) (flagCode retain) ∷
-    markRow (bothFell ++ (meetsBusy ++ (clerkHears false ∷ []))) (flagCode retain) (flagCode retain) ∷
+    markRow (bothFell ++ (suspends ++ (clerkActs first User.Resume ∷ lineGets ∷ []))) (flagCode retain) (flagCode retain) ∷
+    markRow (bothFell ++ (meetsBusy ++ (clerkGets false ∷ []))) (flagCode retain) (flagCode retain) ∷
     []
 
-unfoldable pub marksSeen : World → Words → Marks
+unfoldable pub marksSeen : World → Identifier → Marks
 marksSeen w identifier =
     record {
-      clerk = told (λ (c : ClerkRecord.Record). flagCode (c .down)) (clerkHolds w identifier);
-      line = told (λ (l : LineRecord.Record). flagCode (l .down)) (lineHolds w identifier);
+      clerk = told (λ (c : ClerkRecord.Record). flagCode (c .down)) (clerkHolds identifiers w identifier);
+      line = told (λ (l : LineRecord.Record). flagCode (l .down)) (lineHolds identifiers w identifier);
     }
 
 abbrev pub FallsShown : Type 0
 FallsShown =
     (retain : Bool) →
-    map (λ (r : MarkRow). marksSeen (play (start retain) (r .events)) (wordsOf first)) (falls retain) ≡ map (λ (r : MarkRow). r .said) (falls retain)
+    map (λ (r : MarkRow). marksSeen (play (start retain) (r .events)) (called first)) (falls retain) ≡ map (λ (r : MarkRow). r .said) (falls retain)
 
 abbrev pub table : List Row
 table = pairs ++ (answers ++ (losses ++ signals))
 
 -- the one claim: each row is what is seen at its run's end
 abbrev pub RowsShown : List Row → Type 0
-RowsShown rows = (retain : Bool) → map (λ (r : Row). seen (ends retain r) (wordsOf (r .identifier))) rows ≡ map (λ (r : Row). r .said) rows
+RowsShown rows = (retain : Bool) → map (λ (r : Row). seen (ends retain r) (called (r .identifier))) rows ≡ map (λ (r : Row). r .said) rows
 
 pub record Shown : Type 0 where
   pub pairs : RowsShown pairs
@@ -475,7 +538,7 @@ pub record Shown : Type 0 where
 -- every row ends in a world of a run: each ask is one that the entry makes, and no identifier is taken up twice
 abbrev pub EachReached : Bool → List Row → Type 0
 EachReached retain [] = Unit
-EachReached retain (r ∷ rs) = Reached (ends retain r) × EachReached retain rs
+EachReached retain (r ∷ rs) = Reached Once (ends retain r) × EachReached retain rs
 
 abbrev pub TableReached : Type 0
 TableReached = (retain : Bool) → EachReached retain table
@@ -484,44 +547,63 @@ TableReached = (retain : Bool) → EachReached retain table
 -- both ends hold a request, of which something is so at the clerk's
 pub record BothHold (So : ClerkRecord.Record → Type 0) : Type 0 where
   pub world : World
-  pub reached : Reached world
-  pub identifier : Words
+  pub reached : Reached Once world
+  pub identifier : Identifier
   pub c : ClerkRecord.Record
   pub l : LineRecord.Record
-  pub clerk : clerkHolds world identifier ≡ one c
-  pub line : lineHolds world identifier ≡ one l
+  pub clerk : clerkHolds identifiers world identifier ≡ one c
+  pub line : lineHolds identifiers world identifier ≡ one l
   pub so : So c
 
 -- a T1 or T2 report and a guard report were taken, a message was dropped, and the request is not under way
 pub record RunOut : Type 0 where
   pub world : World
-  pub reached : Reached world
-  pub identifier : Words
-  pub dropped : Noted (Note.dropped identifier) (world .history)
-  pub runOut : Noted (Note.runOut identifier) (world .history)
-  pub guarded : Noted (Note.guarded identifier) (world .history)
-  pub request : NoRequest (messagesOf identifier (world .up))
+  pub reached : Reached Once world
+  pub identifier : Identifier
+  pub dropped : Told identifiers Note.dropped identifier world
+  pub runOut : Told identifiers Note.runOut identifier world
+  pub guarded : Told identifiers Note.guarded identifier world
+  pub request : NoRequest (messagesOf identifiers identifier (world .up))
+
+-- two requests of one identifier, one after the other, are each kept apart: the claims by origin hold of both
+pub record UsedAgain (w : World) : Type 0 where
+  pub first : Reached (Apart 0) w
+  pub second : Reached (Apart 1) w
+  pub c : ClerkRecord.Record
+  pub held : clerkHolds origins w 1 ≡ one c
+  pub so : Acknowledged c
+
+-- a request without identifier is kept apart where it is alone and the host names its record, and it is back in Invoked at both ends
+pub record Nameless (w : World) : Type 0 where
+  pub apart : Reached (Apart 0) w
+  pub c : ClerkRecord.Record
+  pub l : LineRecord.Record
+  pub clerk : clerkHolds origins w 0 ≡ one c
+  pub line : lineHolds origins w 0 ≡ one l
+  pub waits : (c .state ≡ ClerkState.Invoked) × (l .state ≡ LineState.Invoked)
 
 pub record Premises : Type 0 where
+  pub nameless : Nameless (play (start false) namelessAlone)
   pub acknowledged : BothHold Acknowledged
   pub before : BothHold (λ (c : ClerkRecord.Record). c .terms .connection ≡ Empty)
   pub over : RunOut
+  pub usedAgain : UsedAgain (play (start false) usedAgain)
 
 -- ---- what is no event of a run
 -- nothing of a request was dropped or is under way, and yet its pair is not listed
-pub record Unlisted (w : World) (identifier : Words) : Type 0 where
-  pub dropped : Noted (Note.dropped identifier) (w .history) → ⊥
-  pub up : messagesOf identifier (w .up) ≡ []
-  pub down : messagesOf identifier (w .down) ≡ []
-  pub unlisted : Listed (clerkHolds w identifier) (lineHolds w identifier) → ⊥
+pub record Unlisted (w : World) (identifier : Identifier) : Type 0 where
+  pub dropped : Told identifiers Note.dropped identifier w → ⊥
+  pub up : messagesOf identifiers identifier (w .up) ≡ []
+  pub down : messagesOf identifiers identifier (w .down) ≡ []
+  pub unlisted : Listed (clerkHolds identifiers w identifier) (lineHolds identifiers w identifier) → ⊥
 
 -- Two inputs of docs/HOST.md, 12, handed in though nobody sent them, would break the claim of quiet wires in Ringout and Alert: they end the clerk's record, send
 -- nothing, and the line's stays in Alert. So neither is a signal of `clerkIsTold`. Type 11 is the Alerting or Connect that the line's act sends: a host hands it
 -- in only when it arrives. After a reject of the ringout, type 7 failureToMatch, the line's record waits for its guard.
 abbrev pub handedIn : World → Letter → World
-handedIn w l = next w (clerkDoes (AtClerk.Message l false))
+handedIn w l = next w (clerkDoes (AtClerk.Message l false 0))
 
 pub record LeftOut (retain : Bool) : Type 0 where
-  pub reached : Reached (play (start retain) ringing)
-  pub alerts : Unlisted (handedIn (play (start retain) ringing) (plainLetter (wordsOf first) Alerting CallAlerts)) (wordsOf first)
-  pub notMatched : Unlisted (handedIn (play (start retain) ringing) (plainLetter (wordsOf first) ReleaseComplete (RingoutError 2))) (wordsOf first)
+  pub reached : Reached Once (play (start retain) ringing)
+  pub alerts : Unlisted (handedIn (play (start retain) ringing) (plainLetter (called first) Alerting CallAlerts)) (called first)
+  pub notMatched : Unlisted (handedIn (play (start retain) ringing) (plainLetter (called first) ReleaseComplete (RingoutError 2))) (called first)

@@ -1,3 +1,4 @@
+pub mod Identifiers
 pub mod Staying
 pub mod Counting
 pub mod Ordering

@@ -8,13 +8,13 @@ use native.Mathlib.Omega.{arith}
 use Rattle.lists.specs.Choice.{pick}
 use Rattle.lists.specs.Lists.{without}
 use Rattle.lists.specs.declared.Found.the-variants.{At}
-use Rattle.lists.specs.declared.words.Words.{Words}
+use Rattle.desk.specs.declared.letter.Identifier.{Identifier}
 use Rattle.places.specs.Places.{View, at, Placed, placeIn, names, Queued, same, last, out}
 use Rattle.places.specs.Claims.{Ordering}
 use Rattle.places.proofs.Staying.{place-inside, place-unused, earlier-used, later-unused}
 
 -- one more before a queue, before and after a step
-pub queued-cons : (y : Words) {xs ys : List Words} → Queued xs ys → Queued (y ∷ xs) (y ∷ ys)
+pub queued-cons : {B : Type 0} (y : B) {xs ys : List B} → Queued xs ys → Queued (y ∷ xs) (y ∷ ys)
 queued-cons y same = same
 queued-cons y (last x) = last x
 queued-cons y (out front x behind) = out (y ∷ front) x behind
@@ -69,7 +69,7 @@ module _ {A : Type 0} (v : View A) where
       head false = same
   names-remove (x ∷ xs) (suc i) free = head (v .used x) (names-remove xs i free)
     where
-      head : (b : Bool) {xs ys : List Words} → Queued xs ys → Queued (pick b (v .name x ∷ xs) xs) (pick b (v .name x ∷ ys) ys)
+      head : (b : Bool) {xs ys : List Identifier} → Queued xs ys → Queued (pick b (v .name x ∷ xs) xs) (pick b (v .name x ∷ ys) ys)
       head true q = queued-cons (v .name x) q
       head false q = q
 

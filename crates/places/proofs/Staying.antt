@@ -1,6 +1,6 @@
--- Each kind of change keeps a list of records placed: a put keeps use and identifier of every place, an add fills the first free place with a new identifier, a removal keeps the order. A placed list's blank is not used, since past its end all places are blank and identifiers differ.
+-- Each kind of change keeps a list of records placed: a put keeps use and identifier of every place, an add fills the first free place with a new identifier or none, a removal keeps the order.
 use Prim.Native.Nat.{ℕ, zero, suc, _+_, _≤_, _<_}
-use mathlib.Core.Path.{_≡_, refl, sym, ap, _∙_, subst}
+use mathlib.Core.Path.{_≡_, refl, sym, ap, ap₂, _∙_, subst}
 use mathlib.Core.Bool.{Bool, true, false}
 use mathlib.Core.List.{List, [], _∷_, map}
 use lib.ListN.{length, set, List·getD-eq-default}
@@ -13,10 +13,13 @@ use Rattle.lists.specs.Lists.{without}
 use Rattle.lists.specs.declared.Found.the-variants.{At, Nothing}
 use Rattle.lists.specs.declared.words.Words.{Words}
 use Rattle.lists.proofs.Choice.{pick-elim, no-true}
-use Rattle.lists.proofs.Lists.{first-below, first-holds, first-earlier, first-none, getD-without-before, getD-without-behind, without-length}
-use Rattle.lists.proofs.WordsLaws.{words-same}
-use Rattle.places.specs.Places.{View, at, Placed, unused, placeIn, identified, meantIn}
+use Rattle.lists.proofs.Lists.{both-true, first-below, first-holds, first-earlier, first-none, getD-without-before, getD-without-behind, without-length}
+use Rattle.desk.specs.Letter.{sameIdentifier}
+use Rattle.desk.specs.declared.letter.Identifier.{Identifier}
+use Rattle.desk.specs.declared.letter.Identifier.the-variants.{Is}
+use Rattle.places.specs.Places.{View, at, Placed, unused, placeIn, identified, meantIn, knownIn}
 use Rattle.places.specs.Claims.{StaysPlaced}
+use Rattle.places.proofs.Identifiers.{same-alike, is-same}
 
 -- ---- a test and its opposite
 pub not-unused : (b : Bool) → pick b false true ≡ false → b ≡ true
@@ -111,23 +114,6 @@ module _ {A : Type 0} (v : View A) where
   at-map (r ∷ rs) f e (suc i) = at-map rs f e i
 
   -- ---- what a placed list says
-  -- its blank is not used: else the two places behind its end had one identifier
-  pub placed-blank : (rs : List A) → Placed v rs → v .used (v .blank) ≡ false
-  placed-blank rs placed = by (v .used (v .blank)) refl
-    where
-      past : (k : ℕ) → length rs ≤ k → v .used (v .blank) ≡ true → v .used (at v rs k) ≡ true
-      past k h t = ap (v .used) (at-past rs k h) ∙ t
-
-      by : (b : Bool) → v .used (v .blank) ≡ b → v .used (v .blank) ≡ false
-      by false f = f
-      by true t =
-          let a : length rs ≤ length rs = omega arith in
-          let b : length rs ≤ suc (length rs) = omega arith in
-          let e : length rs ≡ suc (length rs) =
-          placed .differ (length rs) (suc (length rs)) (past (length rs) a t) (past (suc (length rs)) b t)
-          (ap (v .name) (at-past rs (length rs) a ∙ sym (at-past rs (suc (length rs)) b))) in
-          absurd (omega (arith, e))
-
   -- behind a place that is not used none is
   pub later-unused : (rs : List A) (i : ℕ) → Placed v rs → v .used (at v rs i) ≡ false → (j : ℕ) → i ≤ j → v .used (at v rs j) ≡ false
   later-unused rs i placed free j h = by (v .used (at v rs j)) refl
@@ -145,9 +131,9 @@ module _ {A : Type 0} (v : View A) where
   -- where no record with an identifier is found, no used one has it
   pub nobody :
       (rs : List A) (identifier : Words) → v .used (v .blank) ≡ false → meantIn v identifier rs ≡ Nothing →
-      (j : ℕ) → v .used (at v rs j) ≡ true → v .name (at v rs j) ≡ identifier → ⊥
+      (j : ℕ) → v .used (at v rs j) ≡ true → v .name (at v rs j) ≡ Is identifier → ⊥
   nobody rs identifier free new j u e =
-      let t : identified v identifier (at v rs j) ≡ true = rw (words-same (v .name (at v rs j)) identifier e) u in
+      let t : identified v identifier (at v rs j) ≡ true = both-true (is-same (v .name (at v rs j)) identifier e) ∙ u in
       no-true (sym (first-none (identified v identifier) rs (v .blank) new j (used-inside rs j free u)) ∙ t)
 
   -- ---- all places free
@@ -156,16 +142,17 @@ module _ {A : Type 0} (v : View A) where
       record {
         compact = λ i j h u. absurd (never j u);
         blanks = λ i u. all i;
+        free = free;
         differ = λ i j u w e. absurd (never i u);
       }
     where
       never : (i : ℕ) → v .used (at v rs i) ≡ true → ⊥
       never i u = no-true (sym (ap (v .used) (all i) ∙ free) ∙ u)
 
-  -- ---- a used record put over a used one with the same identifier
+  -- ---- a used record put over a used one, with its identifier or none as it has none
   module _ (rs : List A) (i : ℕ) (r : A) (placed : Placed v rs) (was : v .used (at v rs i) ≡ true) (is : v .used r ≡ true) (same : v .name r ≡ v .name (at v rs i)) where
     put-inside : i < length rs
-    put-inside = used-inside rs i (placed-blank rs placed) was
+    put-inside = used-inside rs i (placed .free) was
 
     pub put-used : (j : ℕ) → v .used (at v (set rs i r) j) ≡ v .used (at v rs j)
     put-used j =
@@ -188,16 +175,17 @@ module _ {A : Type 0} (v : View A) where
               (λ e w. absurd (no-true (sym w ∙ is)))
               (λ n. placed .blanks a)
               u;
-          differ = λ a b u w e. placed .differ a b (sym (put-used a) ∙ u) (sym (put-used b) ∙ w) (sym (put-name a) ∙ e ∙ put-name b);
+          free = placed .free;
+          differ = λ a b u w e. placed .differ a b (sym (put-used a) ∙ u) (sym (put-used b) ∙ w) (sym (ap₂ sameIdentifier (put-name a) (put-name b)) ∙ e);
         }
 
-  -- ---- a record with a new identifier put at the first free place
-  module _ (rs : List A) (i : ℕ) (r : A) (placed : Placed v rs) (free : placeIn v rs ≡ At i) (new : meantIn v (v .name r) rs ≡ Nothing) (is : v .used r ≡ true) where
+  -- ---- a record with a new identifier, or none, put at the first free place
+  module _ (rs : List A) (i : ℕ) (r : A) (placed : Placed v rs) (free : placeIn v rs ≡ At i) (new : knownIn v (v .name r) rs ≡ Nothing) (is : v .used r ≡ true) where
     inside : i < length rs
     inside = place-inside rs i free
 
-    other : (j : ℕ) → v .used (at v rs j) ≡ true → v .name (at v rs j) ≡ v .name r → ⊥
-    other = nobody rs (v .name r) (placed-blank rs placed) new
+    other : (j : ℕ) (words : Words) → v .used (at v rs j) ≡ true → v .name (at v rs j) ≡ Is words → v .name r ≡ Is words → ⊥
+    other j words u its own = nobody rs words (placed .free) (subst (λ (x : Identifier). knownIn v x rs ≡ Nothing) own new) j u its
 
     pub add-placed : Placed v (set rs i r)
     add-placed =
@@ -215,16 +203,17 @@ module _ {A : Type 0} (v : View A) where
               (λ e w. absurd (no-true (sym w ∙ is)))
               (λ n. placed .blanks a)
               u;
+          free = placed .free;
           differ = λ a b u w.
-              set-elim (λ x. v .used x ≡ true → v .name x ≡ v .name (at v (set rs i r) b) → a ≡ b) rs i a r inside
+              set-elim (λ x. v .used x ≡ true → sameIdentifier (v .name x) (v .name (at v (set rs i r) b)) ≡ true → a ≡ b) rs i a r inside
               (λ e x.
-              set-elim (λ y. v .used y ≡ true → v .name r ≡ v .name y → a ≡ b) rs i b r inside
+              set-elim (λ y. v .used y ≡ true → sameIdentifier (v .name r) (v .name y) ≡ true → a ≡ b) rs i b r inside
               (λ f y q. e ∙ sym f)
-              (λ m y q. absurd (other b y (sym q)))
+              (λ m y q. let both = same-alike (v .name r) (v .name (at v rs b)) q in absurd (other b (both .words) y (both .other) (both .one)))
               w)
               (λ n x.
-              set-elim (λ y. v .used y ≡ true → v .name (at v rs a) ≡ v .name y → a ≡ b) rs i b r inside
-              (λ f y q. absurd (other a x q))
+              set-elim (λ y. v .used y ≡ true → sameIdentifier (v .name (at v rs a)) (v .name y) ≡ true → a ≡ b) rs i b r inside
+              (λ f y q. let both = same-alike (v .name (at v rs a)) (v .name r) q in absurd (other a (both .words) x (both .one) (both .other)))
               (λ m y q. placed .differ a b x y q)
               w)
               u;
@@ -243,10 +232,11 @@ module _ {A : Type 0} (v : View A) where
         compact = λ a b h u.
             used-without rs i a ∙ placed .compact (shift i a) (shift i b) (shift-less i a b h) (sym (used-without rs i b) ∙ u);
         blanks = λ a u. at-without rs i a ∙ placed .blanks (shift i a) (sym (used-without rs i a) ∙ u);
+        free = placed .free;
         differ = λ a b u w e.
             shift-tells i a b
             (placed .differ (shift i a) (shift i b) (sym (used-without rs i a) ∙ u) (sym (used-without rs i b) ∙ w)
-            (sym (name-without rs i a) ∙ e ∙ name-without rs i b));
+            (sym (ap₂ sameIdentifier (name-without rs i a) (name-without rs i b)) ∙ e));
       }
 
   -- ---- every record changed
@@ -257,7 +247,8 @@ module _ {A : Type 0} (v : View A) where
       record {
         compact = λ a b h u. used-map a ∙ placed .compact a b h (sym (used-map b) ∙ u);
         blanks = λ a u. at-map rs f e a ∙ ap f (placed .blanks a (sym (used-map a) ∙ u)) ∙ e;
-        differ = λ a b u w q. placed .differ a b (sym (used-map a) ∙ u) (sym (used-map b) ∙ w) (sym (name-map a) ∙ q ∙ name-map b);
+        free = placed .free;
+        differ = λ a b u w q. placed .differ a b (sym (used-map a) ∙ u) (sym (used-map b) ∙ w) (sym (ap₂ sameIdentifier (name-map a) (name-map b)) ∙ q);
       }
     where
       used-map : (i : ℕ) → v .used (at v (map f rs) i) ≡ v .used (at v rs i)

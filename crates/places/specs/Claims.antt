@@ -5,21 +5,23 @@ use mathlib.Core.Bool.{true, false}
 use mathlib.Core.List.{List, [], _∷_, _++_, map}
 use lib.ListN.{length, set}
 use Rattle.lists.specs.Lists.{without}
+use Rattle.lists.specs.declared.Found.{Found}
 use Rattle.lists.specs.declared.Found.the-variants.{At, Nothing}
 use Rattle.lists.specs.declared.words.Words.{Words}
-use Rattle.places.specs.Places.{View, at, Placed, stored, placeIn, meantIn, none, one, held, mapHeld, names, Queued, Moved}
+use Rattle.desk.specs.declared.letter.Identifier.the-variants.{Is}
+use Rattle.places.specs.Places.{View, at, Placed, stored, placeIn, meantIn, knownIn, names, Queued, Moved, OthersStay}
 
 -- ---- a list stays placed
 pub record StaysPlaced {A : Type 0} (v : View A) : Type 0 where
   -- all places free
   pub start : (rs : List A) → ((i : ℕ) → at v rs i ≡ v .blank) → v .used (v .blank) ≡ false → Placed v rs
-  -- a used record put over a used one with the same identifier
+  -- a used record put over a used one, with its identifier or none as it has none
   pub put :
       (rs : List A) (i : ℕ) (r : A) → Placed v rs → v .used (at v rs i) ≡ true → v .used r ≡ true → v .name r ≡ v .name (at v rs i) →
       Placed v (set rs i r)
-  -- a record with a new identifier put at the first free place
+  -- a record with a new identifier, or none, put at the first free place
   pub add :
-      (rs : List A) (i : ℕ) (r : A) → Placed v rs → placeIn v rs ≡ At i → meantIn v (v .name r) rs ≡ Nothing → v .used r ≡ true →
+      (rs : List A) (i : ℕ) (r : A) → Placed v rs → placeIn v rs ≡ At i → knownIn v (v .name r) rs ≡ Nothing → v .used r ≡ true →
       Placed v (set rs i r)
   -- a record taken out
   pub remove : (rs : List A) (i : ℕ) → Placed v rs → Placed v (without (v .blank) rs i)
@@ -48,54 +50,24 @@ pub record Ordering {A : Type 0} (v : View A) : Type 0 where
   pub remove : (rs : List A) (i : ℕ) → v .used (v .blank) ≡ false → Queued (names v rs) (names v (without (v .blank) rs i))
   pub change : (rs : List A) (f : A → A) → ((r : A) → v .used (f r) ≡ v .used r) → ((r : A) → v .name (f r) ≡ v .name r) → names v (map f rs) ≡ names v rs
 
--- ---- the record with an identifier: from places to names
+-- ---- the record with an identifier
 pub record Holding {A : Type 0} (v : View A) : Type 0 where
-  pub found : (rs : List A) (identifier : Words) (i : ℕ) → meantIn v identifier rs ≡ At i → held v identifier rs ≡ one (at v rs i)
-  pub missed : (rs : List A) (identifier : Words) → meantIn v identifier rs ≡ Nothing → held v identifier rs ≡ none
   -- the record that is found is used and has the identifier
-  pub its : (rs : List A) (identifier : Words) (i : ℕ) → meantIn v identifier rs ≡ At i → (v .used (at v rs i) ≡ true) × (v .name (at v rs i) ≡ identifier)
-  -- in a placed list a used record is the one with its identifier
-  pub own : (rs : List A) (i : ℕ) → Placed v rs → v .used (at v rs i) ≡ true → held v (v .name (at v rs i)) rs ≡ one (at v rs i)
-  -- what is held is somewhere
-  pub somewhere :
-      (rs : List A) (identifier : Words) (r : A) → held v identifier rs ≡ one r → (i : ℕ) × ((meantIn v identifier rs ≡ At i) × (at v rs i ≡ r))
-  -- put over the record with the same identifier: that one is held, every other as before
-  pub put :
-      (rs : List A) (i : ℕ) (r : A) → Placed v rs → v .used (at v rs i) ≡ true → v .used r ≡ true → v .name r ≡ v .name (at v rs i) →
-      held v (v .name r) (set rs i r) ≡ one r
-  pub put-other :
-      (rs : List A) (i : ℕ) (r : A) (identifier : Words) → v .name r ≡ v .name (at v rs i) →
-      (v .name r ≡ identifier → ⊥) → held v identifier (set rs i r) ≡ held v identifier rs
-  -- a new record at the first free place
-  pub add :
-      (rs : List A) (i : ℕ) (r : A) → placeIn v rs ≡ At i → meantIn v (v .name r) rs ≡ Nothing → v .used r ≡ true →
-      held v (v .name r) (set rs i r) ≡ one r
-  pub add-other :
-      (rs : List A) (i : ℕ) (r : A) (identifier : Words) → placeIn v rs ≡ At i → (v .name r ≡ identifier → ⊥) →
-      held v identifier (set rs i r) ≡ held v identifier rs
-  -- a record taken out is held no more, every other as before
-  pub remove :
-      (rs : List A) (i : ℕ) → Placed v rs → v .used (at v rs i) ≡ true →
-      held v (v .name (at v rs i)) (without (v .blank) rs i) ≡ none
-  pub remove-other :
-      (rs : List A) (i : ℕ) (identifier : Words) → v .used (v .blank) ≡ false → (v .name (at v rs i) ≡ identifier → ⊥) →
-      held v identifier (without (v .blank) rs i) ≡ held v identifier rs
-  -- every record changed, identifier and use kept
-  pub change :
-      (rs : List A) (f : A → A) (identifier : Words) → ((r : A) → v .used (f r) ≡ v .used r) → ((r : A) → v .name (f r) ≡ v .name r) →
-      held v identifier (map f rs) ≡ mapHeld f (held v identifier rs)
+  pub its : (rs : List A) (identifier : Words) (i : ℕ) → meantIn v identifier rs ≡ At i → (v .used (at v rs i) ≡ true) × (v .name (at v rs i) ≡ Is identifier)
+  -- in a placed list a used record that has an identifier is found at its place
+  pub own :
+      (rs : List A) (identifier : Words) (i : ℕ) → Placed v rs → v .used (at v rs i) ≡ true → v .name (at v rs i) ≡ Is identifier →
+      meantIn v identifier rs ≡ At i
 
--- ---- a step about the request of one identifier
+-- ---- a step about the record of one place
 pub record Moving {A : Type 0} (v : View A) (Turn : A → A → Type 0) (Store : A → Type 0) : Type 1 where
-  pub placed : {identifier : Words} {rs after : List A} → Placed v rs → Moved v Turn Store identifier rs after → Placed v after
+  pub placed : {about : Found} {rs after : List A} → Placed v rs → Moved v Turn Store about rs after → Placed v after
   -- what holds of every used record, of what is put over one and of a new one, holds afterwards
   pub each :
-      (Whole : A → Type 0) → ((a b : A) → Turn a b → Whole b) → ((b : A) → Store b → Whole b) → {identifier : Words} {rs after : List A} → Placed v rs →
-      ((i : ℕ) → v .used (at v rs i) ≡ true → Whole (at v rs i)) → Moved v Turn Store identifier rs after →
+      (Whole : A → Type 0) → ((a b : A) → Turn a b → Whole b) → ((b : A) → Store b → Whole b) → {about : Found} {rs after : List A} → Placed v rs →
+      ((i : ℕ) → v .used (at v rs i) ≡ true → Whole (at v rs i)) → Moved v Turn Store about rs after →
       (i : ℕ) → v .used (at v after i) ≡ true → Whole (at v after i)
   -- the order of storing
-  pub order : {identifier : Words} {rs after : List A} → Placed v rs → Moved v Turn Store identifier rs after → Queued (names v rs) (names v after)
-  -- every other request is held as before
-  pub others :
-      {identifier : Words} {rs after : List A} → Placed v rs → Moved v Turn Store identifier rs after →
-      (other : Words) → (identifier ≡ other → ⊥) → held v other after ≡ held v other rs
+  pub order : {about : Found} {rs after : List A} → Placed v rs → Moved v Turn Store about rs after → Queued (names v rs) (names v after)
+  -- every other record stays
+  pub others : {about : Found} {rs after : List A} → Moved v Turn Store about rs after → OthersStay v about rs after

@@ -8,12 +8,14 @@ use native.Mathlib.Omega.{arith}
 use Rattle.lists.proofs.Choice.{pick-elim}
 use Rattle.message.specs.Reading.{Read, took, refused, andThen}
 use Rattle.message.specs.Number.{fieldAt, digitsAt}
-use Rattle.message.specs.Wire.{Fields, requestTail, requestAt, fieldsAt, plainAt}
+use Rattle.message.specs.Wire.{Fields, requestTail, requestAt, elementsTail, elementsAt, fieldsAt, plainAt, bareAt}
+use Rattle.message.specs.Format.{hasElements}
 use Rattle.message.specs.declared.Fault.{Fault}
+use Rattle.message.specs.declared.Carrier.{Carrier}
 use Rattle.message.specs.declared.Kind.{Kind}
 use Rattle.message.specs.declared.Kind.the-variants.{Ccbs, Ccnr}
 use Rattle.message.specs.declared.Body.{Body}
-use Rattle.message.specs.declared.Body.the-variants.{RequestResult, RequestError, RingoutError}
+use Rattle.message.specs.declared.Body.the-variants.{RequestResult, RequestError, CcExecPossible, CcRingout, RingoutError, CcSuspend, CcResume, CcCancel, CallAlerts, CallFailed}
 use Rattle.message.proofs.Reading.{never-took, then-elim}
 use Rattle.message.proofs.NumberLaws.{field-read, digits-read}
 
@@ -70,19 +72,42 @@ request-places kind s at =
       ends = omega (arith, rf .ends);
     }))))
 
-pub fields-places : (type : ℕ) (s : List ℕ) (at : ℕ) → at ≤ length s → Places s at (fieldsAt type s at)
+elements-places : (body : Body) (s : List ℕ) (at : ℕ) → Places s at (elementsAt body s at)
+unfolding elementsAt elementsTail
+elements-places body s at =
+    then-elim (Places s at) (digitsAt s at 0) _ (no-places s at) (λ u na ea.
+    then-elim (Places s at) (digitsAt s na 1) _ (no-places s at) (λ w nb eb.
+    then-elim (Places s at) (fieldAt s nb 0 16383) _ (no-places s at) (λ service ns es.
+    λ f n e.
+    let a : na ≡ f .behindA = cc in
+    let b : nb ≡ f .behindB = cc in
+    let q : ns ≡ n = cc in
+    let ra = digits-read s at 0 na ea in
+    let rb = digits-read s na 1 nb eb in
+    let rs = field-read s nb 0 16383 service ns es in
+    record {
+      startA = omega (arith, ra .behind);
+      sixteenA = omega (arith, ra .behind, ra .most);
+      startB = omega (arith, rb .behind);
+      sixteenB = omega (arith, rb .behind, rb .most);
+      last = omega (arith, rs .later);
+      ends = omega (arith, rs .ends);
+    })))
+
+pub fields-places : (type : ℕ) (carrier : Carrier) (s : List ℕ) (at : ℕ) → at ≤ length s → Places s at (fieldsAt type carrier s at)
 unfolding fieldsAt
-fields-places type s at h =
+fields-places type carrier s at h =
     let P = Places s at in
-    let here : (body : Body) → P (plainAt at body at) = λ body. plain-places s at body at (omega arith) h in
+    let here : (body : Body) → P (bareAt body carrier s at) =
+    λ body. pick-elim P (hasElements body carrier) (λ t. elements-places body s at) (λ t. plain-places s at body at (omega arith) h) in
     pick-elim P (eqb type 1) (λ t. request-places Ccbs s at) (λ t.
     pick-elim P (eqb type 2) (λ t. request-places Ccnr s at) (λ t.
     pick-elim P (eqb type 3) (λ t. one-places RequestResult s at 0 1) (λ t.
     pick-elim P (eqb type 4) (λ t. one-places RequestError s at 1 2) (λ t.
-    pick-elim P (eqb type 5) (λ t. here _) (λ t.
-    pick-elim P (eqb type 6) (λ t. here _) (λ t.
+    pick-elim P (eqb type 5) (λ t. here CcExecPossible) (λ t.
+    pick-elim P (eqb type 6) (λ t. here CcRingout) (λ t.
     pick-elim P (eqb type 7) (λ t. one-places RingoutError s at 1 2) (λ t.
-    pick-elim P (eqb type 8) (λ t. here _) (λ t.
-    pick-elim P (eqb type 9) (λ t. here _) (λ t.
-    pick-elim P (eqb type 10) (λ t. here _) (λ t.
-    pick-elim P (eqb type 11) (λ t. here _) (λ t. here _)))))))))))
+    pick-elim P (eqb type 8) (λ t. here CcSuspend) (λ t.
+    pick-elim P (eqb type 9) (λ t. here CcResume) (λ t.
+    pick-elim P (eqb type 10) (λ t. here CcCancel) (λ t.
+    pick-elim P (eqb type 11) (λ t. here CallAlerts) (λ t. here CallFailed)))))))))))

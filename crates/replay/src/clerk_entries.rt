@@ -1,10 +1,14 @@
 // The clerk's codes: an entry of the script is read as what the desk's door takes, and that is played on the desk's words and printed.
 use crate::clerk_lines::print_clerk;
 use crate::fields::behind;
+use crate::fields::behind_identifier;
+use crate::fields::behind_name;
 use crate::fields::byte_before;
 use crate::fields::byte_in;
 use crate::fields::digits_at;
 use crate::fields::identifier_at;
+use crate::fields::identifier_bytes;
+use crate::fields::is_identified;
 use crate::fields::left_of;
 use crate::fields::pair_at;
 use crate::outcome_line::print_outcome;
@@ -21,6 +25,7 @@ use clerk::steps::start;
 use clerk_records::WORDS;
 use host_numbers::given::clerk_act_given;
 use host_numbers::given::timer_given;
+use host_numbers::identifiers::BYTES;
 use lists::Found;
 use message::Kind;
 use printing::part;
@@ -38,9 +43,9 @@ enum AskRead {
     Ended,
 }
 
-// The two numbers of digits stand behind an identifier and a kind; four bytes follow them.
-fn ask_places(script: &[u8], at: usize) -> AskRead {
-    match behind(script, at, 17) {
+// The two numbers of digits stand behind a kind; four bytes follow them.
+fn number_places(script: &[u8], at: usize) -> AskRead {
+    match behind(script, at, 1) {
         Next::Stop => AskRead::Ended,
         Next::At(a) => match run_at(script, a) {
             RunRead::Ended => AskRead::Ended,
@@ -55,15 +60,24 @@ fn ask_places(script: &[u8], at: usize) -> AskRead {
     }
 }
 
+// The kind stands behind an identifier.
+fn ask_places(script: &[u8], at: usize) -> AskRead {
+    match behind_identifier(script, at) {
+        Next::Stop => AskRead::Ended,
+        Next::At(kind) => number_places(script, kind),
+    }
+}
+
 // An ask with its two choices, which stand in the script as bytes of their own.
 fn asking(script: &[u8], at: usize, a: usize, b: usize, rest: usize) -> Asking {
-    let kind = if byte_in(script, at, 16) == 1 {
+    let kind = if byte_before(script, a) == 1 {
         Kind::Ccbs
     } else {
         Kind::Ccnr
     };
     Asking {
-        identifier: identifier_at(script, at),
+        identified: is_identified(script, at),
+        identifier: identifier_bytes(script, at),
         kind,
         numberA: digits_at(script, a),
         numberB: digits_at(script, b),
@@ -89,7 +103,7 @@ fn play_ask(script: &[u8], at: usize, number: usize, words: &mut [u64; WORDS]) -
     match ask_places(script, at) {
         AskRead::Ended => Next::Stop,
         AskRead::Places(a, b, rest, next) => {
-            if ask_listed(byte_in(script, at, 16), byte_in(script, rest, 2)) {
+            if ask_listed(byte_before(script, a), byte_in(script, rest, 2)) {
                 let entry = ask_entry(asking(script, at, a, b, rest));
                 return play_given(entry, next, number, words);
             }
@@ -101,11 +115,12 @@ fn play_ask(script: &[u8], at: usize, number: usize, words: &mut [u64; WORDS]) -
 fn play_heard(
     bytes: &[u8],
     busy: bool,
+    place: u8,
     next: usize,
     number: usize,
     words: &mut [u64; WORDS],
 ) -> Next {
-    let read = bytes_entry(bytes, busy);
+    let read = bytes_entry(bytes, busy, place as usize);
     let entry = read.entry;
     let fault = read.fault;
     let left = left_of(bytes.len(), read.next);
@@ -114,18 +129,26 @@ fn play_heard(
     Next::At(next)
 }
 
-// Code 17: User A's word, and then a run.
+// Code 17: User A's word, a place, and then a run.
 fn play_bytes(script: &[u8], at: usize, number: usize, words: &mut [u64; WORDS]) -> Next {
-    match behind(script, at, 1) {
+    match behind(script, at, 2) {
         Next::Stop => Next::Stop,
-        Next::At(place) => match run_at(script, place) {
+        Next::At(run) => match run_at(script, run) {
             RunRead::Ended => Next::Stop,
             RunRead::Run(first, next) => {
                 let busy = byte_in(script, at, 0);
                 if 1 < busy {
                     return Next::Stop;
                 }
-                play_heard(part(script, first, next), busy == 1, next, number, words)
+                let place = byte_in(script, at, 1);
+                play_heard(
+                    part(script, first, next),
+                    busy == 1,
+                    place,
+                    next,
+                    number,
+                    words,
+                )
             }
         },
     }
@@ -145,34 +168,51 @@ fn act_number(code: u8, choice: u8) -> u64 {
     }
 }
 
-// An act at this end, or a timer that ran out, on the request of an identifier; refused where the choice isn't listed.
-fn named_entry(code: u8, choice: u8, identifier: [u8; 16]) -> Entry {
+// An act at this end, or a timer that ran out, on the request that is named; refused where the choice isn't listed.
+fn named_entry(code: u8, choice: u8, identifier: [u8; BYTES], place: u64) -> Entry {
     match code {
-        21 => timer_given(identifier, choice as u64),
-        _ => clerk_act_given(identifier, act_number(code, choice)),
+        21 => timer_given(identifier, place, choice as u64),
+        _ => clerk_act_given(identifier, place, act_number(code, choice)),
     }
 }
 
-// An identifier, and the choice of a code that has one.
-fn named_size(code: u8) -> usize {
+// How many bytes stand behind the name: the choice of a code that has one.
+fn choice_size(code: u8) -> usize {
     match code {
-        19 => 17,
-        21 => 17,
-        _ => 16,
+        19 => 1,
+        21 => 1,
+        _ => 0,
     }
 }
 
-// Codes 18 to 22.
-fn play_named(code: u8, script: &[u8], at: usize, number: usize, words: &mut [u64; WORDS]) -> Next {
-    match behind(script, at, named_size(code)) {
+// A name that ends at a place, and behind it the choice.
+fn play_choice(
+    code: u8,
+    script: &[u8],
+    at: usize,
+    end: usize,
+    number: usize,
+    words: &mut [u64; WORDS],
+) -> Next {
+    match behind(script, end, choice_size(code)) {
         Next::Stop => Next::Stop,
         Next::At(next) => {
-            let entry = named_entry(code, byte_before(script, next), identifier_at(script, at));
+            let place = byte_before(script, end) as u64;
+            let choice = byte_before(script, next);
+            let entry = named_entry(code, choice, identifier_at(script, at), place);
             match entry {
                 Entry::Refused(_) => Next::Stop,
                 Entry::Given(_) => play_given(entry, next, number, words),
             }
         }
+    }
+}
+
+// Codes 18 to 22.
+fn play_named(code: u8, script: &[u8], at: usize, number: usize, words: &mut [u64; WORDS]) -> Next {
+    match behind_name(script, at) {
+        Next::Stop => Next::Stop,
+        Next::At(end) => play_choice(code, script, at, end, number, words),
     }
 }
 

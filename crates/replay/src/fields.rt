@@ -3,6 +3,7 @@
 use crate::script::Next;
 use crate::script::RunRead;
 use crate::script::run_at;
+use host_numbers::identifiers::BYTES;
 ghost use Prim.Native.Nat.{_<_};
 
 // The place so many bytes on, or that the script ends before it.
@@ -51,8 +52,43 @@ pub fn left_of(count: usize, read: usize) -> usize {
     0
 }
 
-// An identifier.
-pub fn identifier_at(script: &[u8], at: usize) -> [u8; 16] {
+// The place behind an identifier: a byte 0 or 16, and so many bytes.
+pub fn behind_identifier(script: &[u8], at: usize) -> Next {
+    match byte_in(script, at, 0) {
+        0 => behind(script, at, 1),
+        16 => behind(script, at, 17),
+        _ => Next::Stop,
+    }
+}
+
+// Whether there is an identifier at a place, and its sixteen bytes.
+pub fn is_identified(script: &[u8], at: usize) -> bool {
+    byte_in(script, at, 0) == 16
+}
+
+pub fn identifier_bytes(script: &[u8], at: usize) -> [u8; 16] {
+    [
+        byte_in(script, at, 1),
+        byte_in(script, at, 2),
+        byte_in(script, at, 3),
+        byte_in(script, at, 4),
+        byte_in(script, at, 5),
+        byte_in(script, at, 6),
+        byte_in(script, at, 7),
+        byte_in(script, at, 8),
+        byte_in(script, at, 9),
+        byte_in(script, at, 10),
+        byte_in(script, at, 11),
+        byte_in(script, at, 12),
+        byte_in(script, at, 13),
+        byte_in(script, at, 14),
+        byte_in(script, at, 15),
+        byte_in(script, at, 16),
+    ]
+}
+
+// An identifier as a host gives it: its length, and sixteen bytes, which don't count where there is none.
+pub fn identifier_at(script: &[u8], at: usize) -> [u8; BYTES] {
     [
         byte_in(script, at, 0),
         byte_in(script, at, 1),
@@ -70,7 +106,16 @@ pub fn identifier_at(script: &[u8], at: usize) -> [u8; 16] {
         byte_in(script, at, 13),
         byte_in(script, at, 14),
         byte_in(script, at, 15),
+        byte_in(script, at, 16),
     ]
+}
+
+// The place behind a name: an identifier, and the byte of a place.
+pub fn behind_name(script: &[u8], at: usize) -> Next {
+    match behind_identifier(script, at) {
+        Next::Stop => Next::Stop,
+        Next::At(place) => behind(script, place, 1),
+    }
 }
 
 // A byte of a number of digits: 0 behind its last digit. The byte at 0 is its length.

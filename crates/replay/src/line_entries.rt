@@ -1,5 +1,6 @@
 // The line desk's codes: an entry of the script is read as what the desk's door takes, and that is played on the desk's words and printed.
 use crate::fields::behind;
+use crate::fields::behind_name;
 use crate::fields::behind_run;
 use crate::fields::byte_before;
 use crate::fields::byte_in;
@@ -12,10 +13,11 @@ use crate::outcome_line::print_outcome;
 use crate::script::Next;
 use crate::script::RunRead;
 use crate::script::run_at;
+use host_numbers::given::guard_given;
 use host_numbers::given::line_act_given;
+use host_numbers::identifiers::BYTES;
 use line::entry::Entry;
 use line::entry::bytes_entry;
-use line::entry::guard_entry;
 use line::entry::look_entry;
 use line::entry::report_entry;
 use line::on_words::step;
@@ -31,8 +33,14 @@ fn play_given(entry: Entry, next: usize, number: usize, words: &mut [u64; WORDS]
     Next::At(next)
 }
 
-fn play_heard(bytes: &[u8], next: usize, number: usize, words: &mut [u64; WORDS]) -> Next {
-    let read = bytes_entry(bytes);
+fn play_heard(
+    bytes: &[u8],
+    place: u8,
+    next: usize,
+    number: usize,
+    words: &mut [u64; WORDS],
+) -> Next {
+    let read = bytes_entry(bytes, place as usize);
     let entry = read.entry;
     let fault = read.fault;
     let left = left_of(bytes.len(), read.next);
@@ -41,11 +49,17 @@ fn play_heard(bytes: &[u8], next: usize, number: usize, words: &mut [u64; WORDS]
     Next::At(next)
 }
 
-// Code 32.
+// Code 32: a place, and then a run.
 fn play_bytes(script: &[u8], at: usize, number: usize, words: &mut [u64; WORDS]) -> Next {
-    match run_at(script, at) {
-        RunRead::Ended => Next::Stop,
-        RunRead::Run(first, next) => play_heard(part(script, first, next), next, number, words),
+    match behind(script, at, 1) {
+        Next::Stop => Next::Stop,
+        Next::At(run) => match run_at(script, run) {
+            RunRead::Ended => Next::Stop,
+            RunRead::Run(first, next) => {
+                let place = byte_in(script, at, 0);
+                play_heard(part(script, first, next), place, next, number, words)
+            }
+        },
     }
 }
 
@@ -85,33 +99,50 @@ fn act_number(code: u8, choice: u8) -> u64 {
     }
 }
 
-// An act at this end, or the guard that ran out, on the request of an identifier; refused where the choice isn't listed.
-fn named_entry(code: u8, choice: u8, identifier: [u8; 16]) -> Entry {
+// An act at this end, or the guard that ran out, on the request that is named; refused where the choice isn't listed.
+fn named_entry(code: u8, choice: u8, identifier: [u8; BYTES], place: u64) -> Entry {
     match code {
-        36 => guard_entry(identifier),
-        _ => line_act_given(identifier, act_number(code, choice)),
+        36 => guard_given(identifier, place),
+        _ => line_act_given(identifier, place, act_number(code, choice)),
     }
 }
 
-// An identifier, and the choice of a code that has one.
-fn named_size(code: u8) -> usize {
+// How many bytes stand behind the name: the choice of a code that has one.
+fn choice_size(code: u8) -> usize {
     match code {
-        35 => 17,
-        _ => 16,
+        35 => 1,
+        _ => 0,
     }
 }
 
-// Codes 35 to 37.
-fn play_named(code: u8, script: &[u8], at: usize, number: usize, words: &mut [u64; WORDS]) -> Next {
-    match behind(script, at, named_size(code)) {
+// A name that ends at a place, and behind it the choice.
+fn play_choice(
+    code: u8,
+    script: &[u8],
+    at: usize,
+    end: usize,
+    number: usize,
+    words: &mut [u64; WORDS],
+) -> Next {
+    match behind(script, end, choice_size(code)) {
         Next::Stop => Next::Stop,
         Next::At(next) => {
-            let entry = named_entry(code, byte_before(script, next), identifier_at(script, at));
+            let place = byte_before(script, end) as u64;
+            let choice = byte_before(script, next);
+            let entry = named_entry(code, choice, identifier_at(script, at), place);
             match entry {
                 Entry::Refused(_) => Next::Stop,
                 Entry::Given(_) => play_given(entry, next, number, words),
             }
         }
+    }
+}
+
+// Codes 35 to 37.
+fn play_named(code: u8, script: &[u8], at: usize, number: usize, words: &mut [u64; WORDS]) -> Next {
+    match behind_name(script, at) {
+        Next::Stop => Next::Stop,
+        Next::At(end) => play_choice(code, script, at, end, number, words),
     }
 }
 
@@ -144,16 +175,18 @@ fn play_start(script: &[u8], at: usize, number: usize, words: &mut [u64; WORDS])
     match lines {
         Next::Stop => Next::Stop,
         Next::At(place) => {
-            if 3 < byte_in(script, place, 0) {
-                return Next::Stop;
+            let settings = byte_in(script, place, 0);
+            let next = behind(script, place, 1);
+            match next {
+                Next::Stop => next,
+                Next::At(_) => {
+                    if 3 < settings {
+                        return Next::Stop;
+                    }
+                    start_by(part(&bytes, 0, given.at), settings, number, words);
+                    next
+                }
             }
-            start_by(
-                part(&bytes, 0, given.at),
-                byte_in(script, place, 0),
-                number,
-                words,
-            );
-            behind(script, place, 1)
         }
     }
 }

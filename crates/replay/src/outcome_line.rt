@@ -1,4 +1,4 @@
-// The line of a step: `N refusal message starts stops notice clear left place`.
+// The line of a step: `N refusal message starts stops notice clear left place at`.
 use crate::output::NOTHING;
 use crate::output::print_line;
 use crate::output::put_hex;
@@ -18,7 +18,7 @@ use told::send;
 use told::timers_number;
 use writer::Written;
 
-// What is sent, in the byte form, or `-`. No message is longer than 53 bytes. A desk sends nothing that the writer refuses: if it did, the line would say so.
+// What is sent, in the byte form, or `-`. No message is longer than 54 bytes. A desk sends nothing that the writer refuses: if it did, the line would say so.
 fn put_sending(page: Page, sending: Sending) -> Page {
     let mut bytes = [0u8; 64];
     match send(&mut bytes, sending) {
@@ -27,19 +27,21 @@ fn put_sending(page: Page, sending: Sending) -> Page {
     }
 }
 
-// The place of a fault, or `-`.
-pub fn place_field(fault: Found) -> u64 {
-    match fault {
+// A place, or `-`.
+pub fn place_field(found: Found) -> u64 {
+    match found {
         Found::Nothing => NOTHING,
         Found::At(place) => place as u64,
     }
 }
 
-// What is told behind the message: two sums of timers, the notice, the word to clear the call, how many bytes were left, and the place of a fault.
+// What is told behind the message: two sums of timers, the notice, the word to clear the call, how many bytes were left, the place
+// of a fault, and the place of the record.
 fn put_told(page: Page, outcome: Outcome, left: usize, fault: Found) -> Page {
     let starts = outcome.starts;
     let stops = outcome.stops;
     let notice = outcome.notice;
+    let at = outcome.at;
     let numbers = [
         timers_number(starts),
         timers_number(stops),
@@ -47,6 +49,7 @@ fn put_told(page: Page, outcome: Outcome, left: usize, fault: Found) -> Page {
         flag_code(outcome.clear),
         left as u64,
         place_field(fault),
+        place_field(at),
     ];
     put_numbers(page, &numbers)
 }
@@ -63,7 +66,7 @@ pub fn print_started(number: usize) {
     let none = no_timers();
     print_outcome(
         number,
-        done(Sending::Nothing, none, none),
+        done(Sending::Nothing, none, none, Found::Nothing),
         0,
         Found::Nothing,
     );

@@ -5,10 +5,11 @@ use crate::output::put_hex;
 use crate::output::put_numbers;
 use desk::Connection;
 use desk::Keep;
+use desk::letter::Identifier;
 use lists::Found;
-use lists::words::Words;
 use lists::words::bytes_of;
 use printing::Page;
+use printing::put_text;
 use terms::Terms;
 use terms::codes::kind_code;
 
@@ -36,9 +37,15 @@ pub fn connection_number(connection: Connection) -> u64 {
     }
 }
 
-fn put_identifier(page: Page, words: Words) -> Page {
-    let identifier = bytes_of(words);
-    put_hex(page, &identifier)
+// An identifier, or `-`.
+fn put_identifier(page: Page, identifier: Identifier) -> Page {
+    match identifier {
+        Identifier::Absent => put_text(page, b" -"),
+        Identifier::Is(words) => {
+            let bytes = bytes_of(words);
+            put_hex(page, &bytes)
+        }
+    }
 }
 
 // The request's terms, but for its two choices.

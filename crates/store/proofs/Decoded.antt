@@ -13,13 +13,15 @@ use Rattle.lists.specs.Parts.{over}
 use Rattle.lists.specs.Words.{sameWords}
 use Rattle.lists.specs.declared.words.Words.{Words}
 use Rattle.lists.proofs.Lists.{first-map, first-same, map-set, map-without}
-use Rattle.store.specs.Rows.{live, free, hasIdentifier, rows, putRow, turnRow, dropRow, blankRow, rowsFit, found, removedRow}
-use Rattle.store.proofs.RowsLaws.{place-within, rows-length, rows-at, rows-put, turned, turned-length, turn-put, rows-drop}
-
-getD-past : {A : Type 0} (xs : List A) (i : ℕ) (d : A) → length xs ≤ i → getD xs i d ≡ d
-getD-past [] i d h = refl
-getD-past (x ∷ xs) zero d h = absurd (omega (arith, h))
-getD-past (x ∷ xs) (suc i) d h = getD-past xs i d (omega (arith, h))
+use Rattle.desk.specs.Letter.{sameIdentifier}
+use Rattle.desk.specs.declared.letter.Identifier.the-variants.{Absent, Is}
+use Rattle.terms.specs.Means.{fits, oldest}
+use Rattle.terms.specs.Terms.{identifierIn, termsOf}
+use Rattle.terms.specs.declared.request.Names.{Names}
+use Rattle.terms.proofs.MeansLaws.{oldest-map}
+use Rattle.store.specs.declared.For.{For}
+use Rattle.store.specs.Rows.{live, free, hasIdentifier, fitsRow, isFor, rows, putRow, turnRow, dropRow, blankRow, rowsFit, found, foundFitting, liveAt, removedRow}
+use Rattle.store.proofs.RowsLaws.{place-within, getD-past, rows-length, rows-at, rows-put, turned, turned-length, turn-put, rows-drop}
 
 -- where the rows fit, a search is that of the rows, and a row that is there is taken out
 pub found-fit : (test : List ℕ → Bool) (width count : ℕ) (ws : List ℕ) → rowsFit width count (length ws) ≡ true → found test width count ws ≡ first test (rows width count ws)
@@ -31,17 +33,33 @@ unfolding removedRow
 removed-fit width count ws i fit h = rw (fit, lt-ltb i count h)
 
 -- where it is known whether a row is live: what an identifier finds, and what is free
-both-both : (a b c : Bool) → both a (both b c) ≡ both (both a b) c
-both-both true b c = refl
-both-both false b c = refl
+-- low word, high word, flag and state, against the identifier that stands in the words
+identified-by :
+    (low high flag used : Bool) (own other : Words) → sameWords own other ≡ both low high →
+    both low (both high (both flag used)) ≡ both (sameIdentifier (pick flag (Is own) Absent) (Is other)) used
+identified-by true true true used own other e = rw e
+identified-by true true false used own other e = refl
+identified-by true false true used own other e = rw e
+identified-by true false false used own other e = refl
+identified-by false high true used own other e = rw e
+identified-by false high false used own other e = refl
 
-pub identified-live : (top : ℕ) (identifier : Words) (row : List ℕ) (used : Bool) → live top row ≡ used
-    → hasIdentifier top identifier row ≡ both (sameWords (record { low = getD row 0 0; high = getD row 1 0 }) identifier) used
+pub identified-live :
+    (top : ℕ) (identifier : Words) (row : List ℕ) (used : Bool) → live top row ≡ used →
+    hasIdentifier top identifier row ≡ both (sameIdentifier (identifierIn row) (Is identifier)) used
 unfolding hasIdentifier sameWords
 identified-live top identifier row used e =
-    let low : Bool = eqb (getD row 0 0) (identifier .low) in
-    let high : Bool = eqb (getD row 1 0) (identifier .high) in
-    both-both low high (live top row) ∙ ap (λ (b : Bool). both (both low high) b) e
+    let low : Bool = eqb (getD row 1 0) (identifier .low) in
+    let high : Bool = eqb (getD row 2 0) (identifier .high) in
+    let flag : Bool = eqb (getD row 0 0) 1 in
+    ap (λ (b : Bool). both low (both high (both flag b))) e
+    ∙ identified-by low high flag used (record { low = getD row 1 0; high = getD row 2 0 }) identifier refl
+
+-- what fits
+pub fits-live :
+    (top : ℕ) (names : Names) (row : List ℕ) (used : Bool) → live top row ≡ used → fitsRow top names row ≡ both used (fits names (termsOf row))
+unfolding fitsRow
+fits-live top names row used e = rw e
 
 pub free-live : (top : ℕ) (row : List ℕ) (used : Bool) → live top row ≡ used → free top row ≡ pick used false true
 unfolding free
@@ -67,6 +85,23 @@ module _ {A : Type 0} (width count : ℕ) (decode : List ℕ → A) where
       found-fit test width count ws fit
       ∙ first-same test (λ row. passes (decode row)) (rows width count ws) same
       ∙ sym (first-map decode passes (rows width count ws))
+
+  -- the oldest that fits, by tests of the words that are tests of the record
+  pub decoded-oldest :
+      (states : For) (top : ℕ) (names : Names) (fit ready : A → Bool) → ((row : List ℕ) → fitsRow top names row ≡ fit (decode row)) →
+      ((row : List ℕ) → isFor states row ≡ ready (decode row)) → (ws : List ℕ) → rowsFit width count (length ws) ≡ true →
+      foundFitting states top names width count ws ≡ oldest fit ready (map decode (rows width count ws))
+  unfolding foundFitting
+  decoded-oldest states top names fit ready sameFit sameReady ws fitting =
+      rw fitting (oldest-map decode (fitsRow top names) (isFor states) fit ready sameFit sameReady (rows width count ws))
+
+  -- whether the record of a place is in use
+  pub decoded-live :
+      (top : ℕ) (used : A → Bool) → ((row : List ℕ) → live top row ≡ used (decode row)) → (ws : List ℕ) (i : ℕ) →
+      rowsFit width count (length ws) ≡ true → liveAt top width count ws i ≡ used (getD (map decode (rows width count ws)) i (decode []))
+  unfolding liveAt
+  decoded-live top used same ws i fitting =
+      rw fitting (same (getD (rows width count ws) i []) ∙ ap used (sym (List·getD-map decode (rows width count ws) i [])))
 
   -- the record of a place, where a record reads no word behind its row
   pub decoded-at :

@@ -16,7 +16,11 @@ use Rattle.lists.specs.declared.Found.the-variants.{At, Nothing}
 use Rattle.lists.specs.declared.words.Words.{Words}
 use Rattle.lists.proofs.Lists.{both-parts, first-below, first-holds, first-earlier, first-none}
 use Rattle.terms.specs.Terms as Terms
-use Rattle.store.specs.Rows.{stateWord, live, free, hasIdentifier, rows, rowAt, putRow, turnRow, blankRow, dropRow, most, rowsFit}
+use Rattle.terms.specs.declared.request.Names.{Names}
+use Rattle.terms.proofs.TermsLaws.{terms-front}
+use Rattle.store.specs.declared.For.{For}
+use Rattle.store.specs.declared.For.the-variants.{Every, State}
+use Rattle.store.specs.Rows.{stateWord, live, free, hasIdentifier, fitsRow, isFor, rows, rowAt, putRow, turnRow, blankRow, dropRow, most, rowsFit}
 
 -- ---- places: row i ends within the rows, and the rows behind it are the rest
 pub place-within : (width count i n : ℕ) → i < count → count * width ≤ n → i * width + width ≤ n
@@ -54,6 +58,12 @@ unfolding rowsFit
 fit-from width count n a b d e = rw (lt-ltb Terms.width width a, le-leb width most b, le-leb count most d, le-leb (count * width) n e)
 
 -- ---- lists of anything
+-- past its end
+pub getD-past : {A : Type 0} (xs : List A) (i : ℕ) (d : A) → length xs ≤ i → getD xs i d ≡ d
+getD-past [] i d h = refl
+getD-past (x ∷ xs) zero d h = absurd (omega (arith, h))
+getD-past (x ∷ xs) (suc i) d h = getD-past xs i d (omega (arith, h))
+
 -- the n-th taken out, where what stands before it is known
 without-at :
     {A : Type 0} (z : A) (xs : List A) (y : A) (ys : List A) (n : ℕ) → length xs ≡ n →
@@ -100,18 +110,21 @@ state-live top row a b = rw (lt-ltb 0 (stateWord row) a, le-leb (stateWord row) 
 
 pub identifier-parts :
     (top : ℕ) (identifier : Words) (row : List ℕ) → hasIdentifier top identifier row ≡ true →
-    (getD row 0 0 ≡ identifier .low) × ((getD row 1 0 ≡ identifier .high) × (live top row ≡ true))
+    (getD row 1 0 ≡ identifier .low) × ((getD row 2 0 ≡ identifier .high) × ((getD row 0 0 ≡ 1) × (live top row ≡ true)))
 unfolding hasIdentifier
 identifier-parts top identifier row e =
-    let a = both-parts (eqb (getD row 0 0) (identifier .low)) (both (eqb (getD row 1 0) (identifier .high)) (live top row)) e in
-    let b = both-parts (eqb (getD row 1 0) (identifier .high)) (live top row) (a .1) in
-    (eqb-true _ _ (a .0), (eqb-true _ _ (b .0), b .1))
+    let there = both (eqb (getD row 0 0) 1) (live top row) in
+    let a = both-parts (eqb (getD row 1 0) (identifier .low)) (both (eqb (getD row 2 0) (identifier .high)) there) e in
+    let b = both-parts (eqb (getD row 2 0) (identifier .high)) there (a .1) in
+    let d = both-parts (eqb (getD row 0 0) 1) (live top row) (b .1) in
+    (eqb-true _ _ (a .0), (eqb-true _ _ (b .0), (eqb-true _ _ (d .0), d .1)))
 
 pub parts-identifier :
-    (top : ℕ) (identifier : Words) (row : List ℕ) → getD row 0 0 ≡ identifier .low → getD row 1 0 ≡ identifier .high →
+    (top : ℕ) (identifier : Words) (row : List ℕ) → getD row 1 0 ≡ identifier .low → getD row 2 0 ≡ identifier .high → getD row 0 0 ≡ 1 →
     live top row ≡ true → hasIdentifier top identifier row ≡ true
 unfolding hasIdentifier
-parts-identifier top identifier row a b l = rw (eq-eqb (getD row 0 0) (identifier .low) a, eq-eqb (getD row 1 0) (identifier .high) b, l)
+parts-identifier top identifier row a b d l =
+    rw (eq-eqb (getD row 1 0) (identifier .low) a, eq-eqb (getD row 2 0) (identifier .high) b, eq-eqb (getD row 0 0) 1 d, l)
 
 module _ (width : ℕ) where
   -- ---- as many rows as are counted, and which row stands at a place
@@ -302,7 +315,17 @@ module _ (width : ℕ) where
 
     pub identifier-take : (identifier : Words) → hasIdentifier top identifier (take width row) ≡ hasIdentifier top identifier row
     unfolding hasIdentifier
-    identifier-take identifier = rw (getD-take width row 0 0 (omega arith), getD-take width row 1 0 (omega arith), live-take)
+    identifier-take identifier =
+        rw (getD-take width row 0 0 (omega arith), getD-take width row 1 0 (omega arith), getD-take width row 2 0 (omega arith), live-take)
+
+    pub fits-take : (names : Names) → fitsRow top names (take width row) ≡ fitsRow top names row
+    unfolding fitsRow
+    fits-take names = rw (live-take, terms-front width row (omega arith))
+
+    pub for-take : (states : For) → isFor states (take width row) ≡ isFor states row
+    unfolding isFor
+    for-take Every = refl
+    for-take (State word) = rw (getD-take width row Terms.width 0)
 
   -- the place of a blank row is free
   pub blank-free : Terms.width < width → (top : ℕ) → free top (blankRow width) ≡ true

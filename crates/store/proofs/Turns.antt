@@ -2,14 +2,19 @@
 use Prim.Native.Nat.{ℕ, _+_, _-_, _*_, _≤_, _<_}
 use mathlib.Core.Bool.{Bool, true, false}
 use mathlib.Core.List.{List, [], _++_, append-assoc}
-use mathlib.Core.Path.{_≡_, sym, ap, _∙_}
+use mathlib.Core.Path.{_≡_, refl, sym, ap, _∙_}
 use native.Mathlib.Numerals.{add-one}
 use native.Mathlib.Omega.{arith}
 use lib.ListN.{length, getD, take, drop, set, length-drop, length-replicate, getD-replicate}
 use lib.Seq.{take-all, take-add, drop-drop, getD-drop, paste, paste-suc, take-paste, drop-paste}
-use Rattle.lists.specs.Lists.{firstFrom}
+use Rattle.lists.specs.Choice.{pick}
+use Rattle.lists.specs.Lists.{both, firstFrom}
+use Rattle.lists.specs.declared.Found.{Found}
 use Rattle.lists.specs.declared.Found.the-variants.{At, Nothing}
-use Rattle.lists.proofs.Lists.{first-hit, first-miss, first-end}
+use Rattle.lists.proofs.Lists.{both-true, both-false, first-hit, first-miss, first-end}
+use Rattle.terms.specs.Means.{meansOf, oldest}
+use Rattle.terms.specs.declared.means.Means.{Means}
+use Rattle.terms.specs.declared.means.Means.the-variants as Means
 use Rattle.store.specs.Rows.{rows, blankRow, dropRow}
 use Rattle.store.proofs.RowsLaws.{rows-length, rows-at, place-rest}
 
@@ -30,6 +35,51 @@ module _ (width : ℕ) (p : List ℕ → Bool) (front : (row : List ℕ) → p (
 
   pub search-end : count ≤ i → firstFrom p i (drop i (rows width count ws)) ≡ Nothing
   search-end h = first-end p (rows width count ws) i (omega (arith, rows-length width count ws))
+
+-- ---- a search for the oldest row that fits and is ready: what it answers from row k on, where one that fits was seen before, or none
+abbrev pub oldestFrom : (List ℕ → Bool) → (List ℕ → Bool) → Bool → ℕ → List (List ℕ) → Means
+oldestFrom fit ready some k rs = meansOf (firstFrom (λ row. both (fit row) (ready row)) k (drop k rs)) (pick some (At 0) (firstFrom fit k (drop k rs)))
+
+pub oldest-start : (fit ready : List ℕ → Bool) (rs : List (List ℕ)) → oldest fit ready rs ≡ oldestFrom fit ready false 0 rs
+unfolding oldest
+oldest-start fit ready rs = refl
+
+-- any place that fits tells the same
+any-fit : (some : Bool) (here : Found) (j : ℕ) → meansOf here (pick some (At 0) (At j)) ≡ meansOf here (At 0)
+any-fit some (At k) j = refl
+any-fit true Nothing j = refl
+any-fit false Nothing j = refl
+
+end-told : (some : Bool) → meansOf Nothing (pick some (At 0) Nothing) ≡ pick some Means.NotNow Means.Nothing
+end-told true = refl
+end-told false = refl
+
+module _ (width : ℕ) (fit ready : List ℕ → Bool) (fitFront : (row : List ℕ) → fit (take width row) ≡ fit row) (readyFront : (row : List ℕ) → ready (take width row) ≡ ready row) (count : ℕ) (ws : List ℕ) (i : ℕ) where
+  abbrev now : List ℕ → Bool
+  now row = both (fit row) (ready row)
+
+  front : (row : List ℕ) → now (take width row) ≡ now row
+  front row = rw (fitFront row, readyFront row)
+
+  module _ (at : ℕ) (h : i < count) (e : at ≡ i * width) where
+    pub oldest-hit : (some : Bool) → fit (drop at ws) ≡ true → ready (drop at ws) ≡ true → oldestFrom fit ready some i (rows width count ws) ≡ Means.At i
+    oldest-hit some f r = rw (search-hit width now front count ws i at h e (both-true f ∙ r))
+
+    pub oldest-not-ready :
+        (some : Bool) → fit (drop at ws) ≡ true → ready (drop at ws) ≡ false →
+        oldestFrom fit ready some i (rows width count ws) ≡ oldestFrom fit ready true (i + 1) (rows width count ws)
+    oldest-not-ready some f r =
+        rw (search-miss width now front count ws i at h e (both-true f ∙ r), search-hit width fit fitFront count ws i at h e f)
+        (any-fit some (firstFrom now (i + 1) (drop (i + 1) (rows width count ws))) i)
+
+    pub oldest-miss :
+        (some : Bool) → fit (drop at ws) ≡ false →
+        oldestFrom fit ready some i (rows width count ws) ≡ oldestFrom fit ready some (i + 1) (rows width count ws)
+    oldest-miss some f =
+        rw (search-miss width now front count ws i at h e (both-false (ready (drop at ws)) f), search-miss width fit fitFront count ws i at h e f)
+
+  pub oldest-end : (some : Bool) → count ≤ i → oldestFrom fit ready some i (rows width count ws) ≡ pick some Means.NotNow Means.Nothing
+  oldest-end some h = rw (search-end width now front count ws i h, search-end width fit fitFront count ws i h) (end-told some)
 
 -- ---- a removal: what stands in the words before the turn, and behind it
 module _ (ws : List ℕ) (at width : ℕ) where

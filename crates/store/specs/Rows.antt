@@ -1,6 +1,6 @@
 -- The records of a desk at rest: rows of words, `width` words a row, `count` rows at the front of a list of words.
 use Prim.Native.Nat.{ℕ, zero, suc, _+_, _-_, _*_}
-use mathlib.Core.Bool.{Bool, not}
+use mathlib.Core.Bool.{Bool, true, false, not}
 use mathlib.Core.List.{List, [], _∷_, _++_}
 use lib.Dec.{leb, ltb, eqb}
 use lib.ListN.{length, getD, take, drop, replicate}
@@ -10,7 +10,13 @@ use Rattle.lists.specs.Parts.{over}
 use Rattle.lists.specs.declared.Found.{Found}
 use Rattle.lists.specs.declared.Found.the-variants.{Nothing}
 use Rattle.lists.specs.declared.words.Words.{Words}
+use Rattle.terms.specs.Means.{fits, oldest}
 use Rattle.terms.specs.Terms as Terms
+use Rattle.terms.specs.declared.means.Means.{Means}
+use Rattle.terms.specs.declared.means.Means.the-variants as Means
+use Rattle.terms.specs.declared.request.Names.{Names}
+use Rattle.store.specs.declared.For.{For}
+use Rattle.store.specs.declared.For.the-variants.{Every, State}
 
 -- the word of a row's state stands behind its terms
 abbrev pub stateWord : List ℕ → ℕ
@@ -24,10 +30,19 @@ live top row = both (ltb 0 (stateWord row)) (leb (stateWord row) top)
 unfoldable pub free : ℕ → List ℕ → Bool
 free top row = not (live top row)
 
--- words 0 and 1 are the identifier's, and the row is live
+-- words 1 and 2 are the identifier's, word 0 says that there is one, and the row is live
 unfoldable pub hasIdentifier : ℕ → Words → List ℕ → Bool
 hasIdentifier top identifier row =
-    both (eqb (getD row 0 0) (identifier .low)) (both (eqb (getD row 1 0) (identifier .high)) (live top row))
+    both (eqb (getD row 1 0) (identifier .low)) (both (eqb (getD row 2 0) (identifier .high)) (both (eqb (getD row 0 0) 1) (live top row)))
+
+-- the row is live, and its terms fit whom a message names
+unfoldable pub fitsRow : ℕ → Names → List ℕ → Bool
+fitsRow top names row = both (live top row) (fits names (Terms.termsOf row))
+
+-- its state is one that a message is for
+unfoldable pub isFor : For → List ℕ → Bool
+isFor Every row = true
+isFor (State word) row = eqb (stateWord row) word
 
 -- the rows at the front of the words
 unfoldable pub rows : ℕ → ℕ → List ℕ → List (List ℕ)
@@ -68,6 +83,15 @@ rowsFit width count words = both (ltb Terms.width width) (both (leb width most) 
 -- the first row that passes a test, and a row taken out; where the rows don't fit, none, and nothing changes
 unfoldable pub found : (List ℕ → Bool) → ℕ → ℕ → List ℕ → Found
 found test width count ws = pick (rowsFit width count (length ws)) (first test (rows width count ws)) Nothing
+
+-- the oldest row that fits whom a message names and is in a state that it is for
+unfoldable pub foundFitting : For → ℕ → Names → ℕ → ℕ → List ℕ → Means
+foundFitting states top names width count ws =
+    pick (rowsFit width count (length ws)) (oldest (fitsRow top names) (isFor states) (rows width count ws)) Means.Nothing
+
+-- whether the row at a place is live; past the last place there is none
+unfoldable pub liveAt : ℕ → ℕ → ℕ → List ℕ → ℕ → Bool
+liveAt top width count ws i = pick (rowsFit width count (length ws)) (live top (getD (rows width count ws) i [])) false
 
 unfoldable pub removedRow : ℕ → ℕ → List ℕ → ℕ → List ℕ
 removedRow width count ws i = pick (rowsFit width count (length ws)) (pick (ltb i count) (dropRow width count ws i) ws) ws

@@ -2,16 +2,26 @@
 // first, and its state stands behind them. An inner room of both desks: its functions are no public operations.
 use lists::Found;
 use lists::words::Words;
+use terms::means::Means;
+use terms::means::fits_at;
+use terms::request::Names;
 ghost use mathlib.Core.Path.{_≡_};
 ghost use Prim.Native.Nat.{_+_, _-_, _*_, _≤_, _<_};
 ghost use lib.ListN.{length, drop};
 ghost use lib.Seq.{paste};
 ghost use Rattle.lists.specs.Lists.{first};
+ghost use Rattle.terms.specs.Means.{oldest};
 ghost use Rattle.terms.specs.Terms.{width as termsWidth};
-ghost use Rattle.store.specs.Rows.{live, free, hasIdentifier, rows, blankRow, dropRow, most, rowsFit, found, removedRow};
+ghost use Rattle.store.specs.Rows.{live, free, hasIdentifier, fitsRow, isFor, rows, blankRow, dropRow, most, rowsFit, found, foundFitting, liveAt, removedRow};
 
 // No desk has more rows, or longer ones: up to here the count of their words is no overflow.
 const MOST: usize = 65536;
+
+// The states that a message is for, by the state's word.
+pub enum For {
+    Every,
+    State(u64),
+}
 
 // Whether so many rows stand at the front of so many words, each with terms and a state.
 fn rows_fit(length: usize, width: usize, count: usize) -> bool
@@ -51,13 +61,38 @@ fn has_identifier(ws: &[u64], at: usize, identifier: Words, top: u64) -> bool
     requires { ⌜ at + termsWidth < length (now ws) ⌝ }
     ensures { λ r. ⌜ r ≡ hasIdentifier top identifier (drop at (now (ws .entry))) ⌝ }
 {
-    if ws[at] == identifier.low {
-        if ws[at + 1] == identifier.high {
-            return is_live(ws, at, top);
+    if ws[at + 1] == identifier.low {
+        if ws[at + 2] == identifier.high {
+            if ws[at] == 1 {
+                return is_live(ws, at, top);
+            }
+            return false;
         }
         return false;
     }
     false
+}
+
+// Whether the row that starts at word `at` is live and fits whom a message names.
+fn fits_row(ws: &[u64], at: usize, names: Names, top: u64) -> bool
+    requires { ⌜ at + termsWidth < length (now ws) ⌝ }
+    ensures { λ r. ⌜ r ≡ fitsRow top names (drop at (now (ws .entry))) ⌝ }
+{
+    if is_live(ws, at, top) {
+        return fits_at(&ws[at..], names);
+    }
+    false
+}
+
+// Whether the row that starts at word `at` is in a state that a message is for.
+fn is_for(ws: &[u64], at: usize, states: For) -> bool
+    requires { ⌜ at + termsWidth < length (now ws) ⌝ }
+    ensures { λ r. ⌜ r ≡ isFor states (drop at (now (ws .entry))) ⌝ }
+{
+    match states {
+        For::Every => true,
+        For::State(word) => ws[at + terms::WIDTH] == word,
+    }
 }
 
 // The place of the first live row with this identifier.
@@ -75,6 +110,37 @@ fn find_in(ws: &[u64], width: usize, count: usize, identifier: Words, top: u64) 
         at += width;
     }
     Found::Nothing
+}
+
+// The place of the first row that fits and is in a state that the message is for; or whether one fits at all.
+fn find_fitting_in(
+    ws: &[u64],
+    width: usize,
+    count: usize,
+    names: Names,
+    top: u64,
+    states: For,
+) -> Means
+    requires { ⌜ (termsWidth < width) × (count * width ≤ length (now ws)) ⌝ }
+    ensures { λ r. ⌜ r ≡ oldest (fitsRow top names) (isFor states) (rows width count (now (ws .entry))) ⌝ }
+{
+    let mut i = 0;
+    let mut at = 0;
+    let mut some = false;
+    while i < count {
+        if fits_row(ws, at, names, top) {
+            if is_for(ws, at, states) {
+                return Means::At(i);
+            }
+            some = true;
+        }
+        i += 1;
+        at += width;
+    }
+    if some {
+        return Means::NotNow;
+    }
+    Means::Nothing
 }
 
 // The first free place.
@@ -102,6 +168,37 @@ pub fn find(ws: &[u64], width: usize, count: usize, identifier: Words, top: u64)
         return find_in(ws, width, count, identifier, top);
     }
     Found::Nothing
+}
+
+// The row that a message means by its numbers and its service: the oldest that fits and is in a state that the message is for; or none now, where one fits; where
+// the rows don't fit, none.
+pub fn find_fitting(
+    ws: &[u64],
+    width: usize,
+    count: usize,
+    names: Names,
+    top: u64,
+    states: For,
+) -> Means
+    ensures { λ r. ⌜ r ≡ foundFitting states top names width count (now (ws .entry)) ⌝ }
+{
+    if rows_fit(ws.len(), width, count) {
+        return find_fitting_in(ws, width, count, names, top, states);
+    }
+    Means::Nothing
+}
+
+// Whether the row at a place is live; where the rows don't fit, or it is no place, not.
+pub fn is_live_at(ws: &[u64], width: usize, count: usize, i: usize, top: u64) -> bool
+    ensures { λ r. ⌜ r ≡ liveAt top width count (now (ws .entry)) i ⌝ }
+{
+    if rows_fit(ws.len(), width, count) {
+        if i < count {
+            return is_live(ws, i * width, top);
+        }
+        return false;
+    }
+    false
 }
 
 // The first free place; where the rows don't fit, none.

@@ -1,9 +1,13 @@
 // Events at the clerk's end: each is played on the clerk's desk and shown, and what it sends goes onto the wire to the line.
 use crate::requests::asking;
-use crate::requests::identifier_of;
 use crate::wire::about_of;
 use crate::wire::finish;
 use crate::wire::heard_to;
+use crate::wire::is_ended;
+use crate::wire::is_known;
+use crate::wire::name_about;
+use crate::wire::name_of;
+use crate::wire::place_named;
 use crate::wire::sent_of;
 use crate::world::World;
 use clerk::entry::Entry;
@@ -13,9 +17,11 @@ use clerk::entry::bytes_entry;
 use clerk::entry::timer_entry;
 use clerk::on_words::step;
 use clerk_records::WORDS;
-use clerk_records::places::find_meant;
+use clerk_records::meaning::find_meant;
+use clerk_records::places::find_place;
 use clerk_records::places::load;
 use clerk_table::inputs::Act;
+use clerk_table::inputs::Input;
 use clerk_table::table::State;
 use clerk_table::table::Timer;
 use ladder::events::ACCEPT;
@@ -24,13 +30,15 @@ use ladder::events::CANCEL;
 use ladder::events::CLERK_FELL;
 use ladder::events::CLERK_HEARS;
 use ladder::events::Event;
+use ladder::events::NAMELESS;
 use ladder::events::T2;
 use ladder::shown::NO_RECORD;
 use ladder::shown::States;
+use ladder::shown::no_states;
 use ladder::shown::show_silence;
-use lists::Found;
-use lists::words::words_of;
 use printing::part;
+use terms::means::Means;
+use terms::request::Name;
 use told::TOLD;
 use told::tell;
 
@@ -46,16 +54,36 @@ pub fn state_entry(state: State) -> usize {
     }
 }
 
-// The state of a request at the desk.
-fn state_at(words: &[u64; WORDS], tag: u8) -> usize {
-    match find_meant(words, words_of(identifier_of(tag))) {
-        Found::Nothing => NO_RECORD,
-        Found::At(i) => {
+// The state of a request at the desk: that of the record which an act on it is about.
+fn state_at(words: &[u64; WORDS], name: Name) -> usize {
+    match find_meant(words, Input::Act(name, Act::Cancel)) {
+        Means::At(i) => {
             let r = load(words, i);
             let state = r.state;
             state_entry(state)
         }
+        _ => NO_RECORD,
     }
+}
+
+// Its state after a step; where the step ended it, another's record may stand at its place.
+fn state_after(before: &[u64; WORDS], after: &[u64; WORDS], name: Name) -> usize {
+    if is_ended(find_place(before), find_place(after)) {
+        return NO_RECORD;
+    }
+    state_at(after, name)
+}
+
+// The states of the request that a step is about.
+fn states_of(before: &[u64; WORDS], after: &[u64; WORDS], tag: u8, name: Name) -> States {
+    if is_known(tag, name.place) {
+        return States {
+            before: state_at(before, name),
+            after: state_after(before, after, name),
+            nameless: tag == NAMELESS,
+        };
+    }
+    no_states()
 }
 
 // What comes of what the desk is given.
@@ -67,10 +95,8 @@ fn stepped(w: World, event: Event, entry: Entry, heard: &[u8]) -> World {
     let sending = outcome.sending;
     let sent = sent_of(sending);
     let tag = about_of(event, heard, sent);
-    let states = States {
-        before: state_at(&before, tag),
-        after: state_at(&clerk, tag),
-    };
+    let at = outcome.at;
+    let states = states_of(&before, &clerk, tag, name_about(tag, event, at));
     let mut told = [0u64; TOLD];
     tell(&mut told, outcome, sent.length, 0);
     let toLine = finish(event, &told, states, heard, sent, wire);
@@ -85,12 +111,12 @@ fn entry_of(event: Event, preference: u8, heard: &[u8]) -> Entry {
     let code = event.code;
     match code {
         ASK => ask_entry(asking(event.about, preference)),
-        ACCEPT => act_entry(identifier_of(event.about), Act::Accept),
-        CANCEL => act_entry(identifier_of(event.about), Act::Cancel),
-        CLERK_FELL => act_entry(identifier_of(event.about), Act::Fell),
-        T2 => timer_entry(identifier_of(event.about), Timer::T2),
+        ACCEPT => act_entry(name_of(event), Act::Accept),
+        CANCEL => act_entry(name_of(event), Act::Cancel),
+        CLERK_FELL => act_entry(name_of(event), Act::Fell),
+        T2 => timer_entry(name_of(event), Timer::T2),
         _ => {
-            let read = bytes_entry(heard, false);
+            let read = bytes_entry(heard, false, place_named(event));
             read.entry
         }
     }

@@ -1,4 +1,4 @@
-// The story: five scenes on the proved desks, printed as a ladder (docs/STORY.md). It reads nothing and tells the same every time.
+// The story: six scenes on the proved desks, printed as a ladder (docs/STORY.md). It reads nothing and tells the same every time.
 mod clerk_end;
 mod line_end;
 mod play;
@@ -18,4 +18,5 @@ fn main() {
     play_scene(3);
     play_scene(4);
     play_scene(5);
+    play_scene(6);
 }

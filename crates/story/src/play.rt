@@ -1,7 +1,7 @@
 // A scene: its script, played on a world of its own, event by event.
 use crate::clerk_end::clerk_event;
 use crate::line_end::line_event;
-use crate::line_end::stray_result;
+use crate::line_end::stray;
 use crate::records::show_records;
 use crate::script::event_at;
 use crate::world::World;
@@ -28,7 +28,7 @@ fn play_event(w: World, event: Event) -> World {
     let code = event.code;
     match code {
         NOTHING => w,
-        STRAY => stray_result(w, event),
+        STRAY => stray(w, event),
         RECORDS => {
             show_records(w);
             w
@@ -45,7 +45,7 @@ fn play_event(w: World, event: Event) -> World {
 pub fn play_scene(scene: u8) {
     open_scene(scene);
     let mut w = start_world(scene);
-    for step in 0..120 {
+    for step in 0..140 {
         w = play_event(w, event_at(scene, step));
     }
     close_scene(scene);

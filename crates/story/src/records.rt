@@ -2,6 +2,8 @@
 use crate::clerk_end;
 use crate::line_end;
 use crate::world::World;
+use desk::letter::Identifier;
+use ladder::events::NAMELESS;
 use ladder::records::Shown;
 use ladder::records::show_place;
 use lists::words::bytes_of;
@@ -9,13 +11,23 @@ use terms::Terms;
 use terms::codes::flag_code;
 use terms::codes::keep_code;
 
+// The tag of an identifier.
+fn tag_of(identifier: Identifier) -> u8 {
+    match identifier {
+        Identifier::Absent => NAMELESS,
+        Identifier::Is(words) => {
+            let bytes = bytes_of(words);
+            bytes[0]
+        }
+    }
+}
+
 // A record by its terms, the entry of its state and its mark.
 fn shown(agreed: Terms, state: usize, down: bool) -> Shown {
     let identifier = agreed.identifier;
     let keep = agreed.keep;
-    let bytes = bytes_of(identifier);
     Shown {
-        tag: bytes[0],
+        tag: tag_of(identifier),
         state,
         keep: keep_code(keep) as usize,
         down: flag_code(down) as usize,

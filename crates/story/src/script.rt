@@ -1,5 +1,6 @@
 // The scenes as a script: what is done and heard, in order (docs/STORY.md, "The scenes"). What comes of it is the desks' word. An event is a line: the scenes that
-// it is played in (the evening of the 34 in two), or a scene and a dot for an event of its prelude, which is not seen; two digits for what it is about; and its name.
+// it is played in (the evening of the 34 in two), or a scene and a dot for an event of its prelude, which is not seen; two digits for what it is about,
+// or dashes; the place that the host names with it (a digit, or a dash for none), or a blank; and its name.
 use ladder::events::ACCEPT;
 use ladder::events::ALERTED;
 use ladder::events::ASK;
@@ -94,15 +95,25 @@ fn line_at(step: usize) -> Page {
           5  -- records\n5  14 say\n5  34 Line fell\n5  -- records\n\
           5  15 say\n5  41 free\n5  41 look\n5  -- clerk hears\n\
           5  16 say\n5  34 Clerk fell\n5  34 accept\n5  -- line hears\n5  -- records\n\
-          5  34 alerted\n5  -- clerk hears\n5  -- records\n",
+          5  34 alerted\n5  -- clerk hears\n5  -- records\n\
+          6. 41 busy\n\
+          6  17 say\n6  -- ask\n6  -- ask\n6  -- line hears\n6  -- line hears\n\
+          6  --0clerk hears\n6  --1clerk hears\n6  -- records\n\
+          6  18 say\n6  -- stray\n6  ---clerk hears\n6  -- records\n\
+          6  19 say\n6  41 free\n6  41 look\n6  --0clerk hears\n\
+          6  20 say\n6  -- stray\n6  --1clerk hears\n6  -- records\n\
+          6  21 say\n6  --0accept\n6  -- line hears\n6  --0alerted\n6  41 look\n\
+          6  --0clerk hears\n\
+          6  22 say\n6  ---clerk hears\n6  --0line hears\n6  -- records\n",
         step,
     )
 }
 
-fn event_of(code: u8, about: u8, seen: bool) -> Event {
+fn event_of(code: u8, about: u8, place: u8, seen: bool) -> Event {
     Event {
         code,
         about,
+        place,
         atLine: ALERTED <= code && code != CLERK_HEARS,
         seen,
     }
@@ -116,8 +127,9 @@ pub fn event_at(scene: u8, step: usize) -> Event {
         return event_of(
             code_of(bytes[6], bytes[7]),
             number_of(bytes[3], bytes[4]),
+            bytes[5],
             bytes[1] != b'.',
         );
     }
-    event_of(NOTHING, 0, false)
+    event_of(NOTHING, 0, b' ', false)
 }

@@ -1,15 +1,23 @@
 // What an end sends and hears: messages as bytes.
+use crate::requests::identifier_of;
 use desk::outcome::Sending;
 use ladder::events::BUSY;
 use ladder::events::Event;
 use ladder::events::LOOK;
+use ladder::events::NAMELESS;
+use ladder::middle::tag_in;
 use ladder::shown::States;
 use ladder::shown::show;
+use lists::Found;
 use printing::Page;
 use printing::part;
 use printing::put_text;
+use terms::request::Name;
 use told::TOLD;
 use writer::Written;
+
+// What a host names where it names no place: no desk has so many.
+const NO_PLACE: usize = 255;
 
 // A message that is sent, as bytes: none of them, where nothing is.
 pub struct Sent {
@@ -31,7 +39,7 @@ pub fn promised(wrong: bool, sent: Sent) -> Sent {
     let mut bytes = sent.bytes;
     if wrong {
         if bytes[0] == 3 {
-            bytes[18] = 1;
+            bytes[19] = 1;
         }
     }
     Sent {
@@ -65,12 +73,58 @@ pub fn about_of(event: Event, heard: &[u8], sent: Sent) -> u8 {
     }
     if event.code == LOOK {
         let bytes = sent.bytes;
-        return bytes[2];
+        return tag_in(part(&bytes, 0, sent.length));
     }
-    if 2 < heard.len() {
-        return heard[2];
+    tag_in(heard)
+}
+
+// The place that the host names with an event: behind all records where it names none.
+pub fn place_named(event: Event) -> usize {
+    let place = event.place;
+    match place {
+        b'0' => 0,
+        b'1' => 1,
+        _ => NO_PLACE,
     }
-    0
+}
+
+// How the host names the request of an event.
+pub fn name_of(event: Event) -> Name {
+    Name {
+        identifier: identifier_of(event.about),
+        place: place_named(event),
+    }
+}
+
+// How a step's request is found, before and after it: by its identifier, or by the place that the outcome tells, or else by the one that the event names.
+pub fn name_about(tag: u8, event: Event, at: Found) -> Name {
+    let place = match at {
+        Found::At(i) => i,
+        Found::Nothing => place_named(event),
+    };
+    Name {
+        identifier: identifier_of(tag),
+        place,
+    }
+}
+
+// Whether it is known which request a step is about: it has a tag, or a place.
+pub fn is_known(tag: u8, place: usize) -> bool {
+    if tag == NAMELESS {
+        return place != NO_PLACE;
+    }
+    tag != 0
+}
+
+// Whether a step ended a record: the first free place before it and after it.
+pub fn is_ended(before: Found, after: Found) -> bool {
+    match after {
+        Found::Nothing => false,
+        Found::At(i) => match before {
+            Found::Nothing => true,
+            Found::At(j) => i < j,
+        },
+    }
 }
 
 // What came of a step is shown, and what it sends goes onto the wire.

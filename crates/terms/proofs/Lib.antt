@@ -1,2 +1,3 @@
 pub mod CodesLaws
 pub mod TermsLaws
+pub mod MeansLaws

@@ -6,26 +6,37 @@ use lib.ListN.{length, getD, take, List·getD-append}
 use lib.Seq.{getD-take, getD-append-add, length-take-le}
 use native.Mathlib.Omega.{arith}
 use borrow.Author.Tests.{le-leb}
+use lib.Dec.{eqb}
+use Rattle.lists.specs.Choice.{pick}
 use Rattle.lists.specs.Parts.{over}
 use Rattle.message.specs.declared.Kind.{Kind}
+use Rattle.desk.specs.Letter.{isIdentified, identifierWords}
 use Rattle.desk.specs.declared.Connection.{Connection}
 use Rattle.desk.specs.declared.Keep.{Keep}
-use Rattle.terms.specs.Codes.{kindCode}
+use Rattle.desk.specs.declared.letter.Identifier.{Identifier}
+use Rattle.desk.specs.declared.letter.Identifier.the-variants as Identifier
+use Rattle.terms.specs.Codes.{kindCode, flagCode}
 use Rattle.terms.specs.Terms.{width, choicesAt, kindAt, termsOf, choiceWords, termsWords, termsAt, termsPut, withChoices, withKind}
 use Rattle.terms.specs.declared.Terms.{Terms}
 use Rattle.terms.proofs.CodesLaws.{kind-back, keep-back, connection-back}
 
+-- an identifier by its flag and its words
+pub identifier-back :
+    (k : Identifier) → pick (eqb (flagCode (isIdentified k)) 1) (Identifier.Is (record { low = identifierWords k .low; high = identifierWords k .high })) Identifier.Absent ≡ k
+identifier-back Identifier.Absent = refl
+identifier-back (Identifier.Is words) = refl
+
 -- terms and whatever stands behind them
 pub terms-back : (t : Terms) (rest : List ℕ) → termsOf (termsWords t ++ rest) ≡ t
 unfolding termsOf
-terms-back t rest = rw (kind-back (t .kind), keep-back (t .keep), connection-back (t .connection))
+terms-back t rest = rw (identifier-back (t .identifier), kind-back (t .kind), keep-back (t .keep), connection-back (t .connection))
 
 -- terms read their own words alone
 pub terms-front : (n : ℕ) (row : List ℕ) → width ≤ n → termsOf (take n row) ≡ termsOf row
 unfolding termsOf
 terms-front n row h =
     let same : (k : ℕ) → k < width → getD (take n row) k 0 ≡ getD row k 0 = λ k below. getD-take n row k 0 (omega arith) in
-    rw (same 0 (omega arith), same 1 (omega arith), same 2 (omega arith), same 3 (omega arith), same 4 (omega arith), same 5 (omega arith), same 6 (omega arith), same 7 (omega arith), same 8 (omega arith), same 9 (omega arith))
+    rw (same 0 (omega arith), same 1 (omega arith), same 2 (omega arith), same 3 (omega arith), same 4 (omega arith), same 5 (omega arith), same 6 (omega arith), same 7 (omega arith), same 8 (omega arith), same 9 (omega arith), same 10 (omega arith))
 
 -- ---- words put anew from one on
 module _ (from : ℕ) (row last : List ℕ) (long : from ≤ length row) where
@@ -47,7 +58,7 @@ terms-chosen row rest keep connection kind long =
     let last = choiceWords keep connection kind ++ rest in
     let same = word-before choicesAt row last long in
     let new = word-from choicesAt row last long in
-    rw (same 0 (omega arith), same 1 (omega arith), same 2 (omega arith), same 3 (omega arith), same 4 (omega arith), same 5 (omega arith), same 6 (omega arith), new 0, new 1, new 2, keep-back keep, connection-back connection, kind-back kind)
+    rw (same 0 (omega arith), same 1 (omega arith), same 2 (omega arith), same 3 (omega arith), same 4 (omega arith), same 5 (omega arith), same 6 (omega arith), same 7 (omega arith), new 0, new 1, new 2, keep-back keep, connection-back connection, kind-back kind)
 
 pub terms-kind :
     (row rest : List ℕ) (kind : Kind) → kindAt ≤ length row → termsOf (take kindAt row ++ (kindCode kind ∷ rest)) ≡ withKind (termsOf row) kind
@@ -55,7 +66,7 @@ unfolding termsOf
 terms-kind row rest kind long =
     let last = kindCode kind ∷ rest in
     let same = word-before kindAt row last long in
-    rw (same 0 (omega arith), same 1 (omega arith), same 2 (omega arith), same 3 (omega arith), same 4 (omega arith), same 5 (omega arith), same 6 (omega arith), same 7 (omega arith), same 8 (omega arith), word-from kindAt row last long 0, kind-back kind)
+    rw (same 0 (omega arith), same 1 (omega arith), same 2 (omega arith), same 3 (omega arith), same 4 (omega arith), same 5 (omega arith), same 6 (omega arith), same 7 (omega arith), same 8 (omega arith), same 9 (omega arith), word-from kindAt row last long 0, kind-back kind)
 
 -- in words that are long enough
 pub terms-at : (row : List ℕ) → width ≤ length row → termsAt row ≡ termsOf row

@@ -1,3 +1,4 @@
 pub mod Codes
 pub mod Terms
 pub mod Request
+pub mod Means

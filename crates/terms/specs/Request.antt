@@ -5,23 +5,26 @@ use lib.Dec.{eqb}
 use Rattle.lists.specs.declared.words.Words.{Words}
 use Rattle.message.specs.Format.{requestBody}
 use Rattle.message.specs.declared.Carrier.the-variants.{Setup}
+use Rattle.message.specs.declared.Service.the-variants as Service
 use Rattle.desk.specs.Sends.{noNumber}
 use Rattle.desk.specs.declared.Connection.{Connection}
 use Rattle.desk.specs.declared.Keep.{Keep}
+use Rattle.desk.specs.declared.letter.Identifier.{Identifier}
+use Rattle.desk.specs.declared.letter.Identifier.the-variants as Identifier
 use Rattle.desk.specs.declared.letter.Letter.{Letter}
 use Rattle.terms.specs.declared.Terms.{Terms}
 use Rattle.terms.specs.declared.request.Names.{Names}
 use Rattle.terms.specs.declared.request.Request.{Request}
 
--- ---- whom an input names; what it does not name is 0
+-- ---- whom an input names; what it does not name is absent
 abbrev pub letterNames : Letter → Names
-letterNames l = record { identifier = l .identifier; numberA = l .numberA; numberB = l .numberB }
+letterNames l = record { identifier = l .identifier; numberA = l .numberA; numberB = l .numberB; service = l .service }
 
-abbrev pub onlyIdentifier : Words → Names
-onlyIdentifier identifier = record { identifier = identifier; numberA = noNumber; numberB = noNumber }
+abbrev pub onlyIdentifier : Identifier → Names
+onlyIdentifier identifier = record { identifier = identifier; numberA = noNumber; numberB = noNumber; service = Service.Absent }
 
 abbrev pub onlyLine : Words → Names
-onlyLine number = record { identifier = noNumber; numberA = noNumber; numberB = number }
+onlyLine number = record { identifier = Identifier.Absent; numberA = noNumber; numberB = number; service = Service.Absent }
 
 -- ---- a request
 -- flags are can-keep (0 or 1) plus 2 × preference
@@ -49,5 +52,6 @@ requestLetter names q =
       identifier = names .identifier;
       numberA = names .numberA;
       numberB = names .numberB;
+      service = Service.Absent;
       body = requestBody (q .kind) (q .service) (q .flags);
     }

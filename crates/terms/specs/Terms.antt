@@ -2,40 +2,47 @@
 use Prim.Native.Nat.{ℕ}
 use mathlib.Core.List.{List, [], _∷_}
 use lib.ListN.{length, getD}
-use lib.Dec.{leb}
+use lib.Dec.{leb, eqb}
 use Rattle.lists.specs.Choice.{pick}
 use Rattle.lists.specs.Parts.{over}
 use Rattle.message.specs.declared.Kind.{Kind}
+use Rattle.desk.specs.Letter.{isIdentified, identifierWords}
 use Rattle.desk.specs.declared.Connection.{Connection}
 use Rattle.desk.specs.declared.Keep.{Keep}
-use Rattle.terms.specs.Codes.{kindOf, kindCode, keepOf, keepCode, connectionOf, connectionCode}
+use Rattle.desk.specs.declared.letter.Identifier.{Identifier}
+use Rattle.desk.specs.declared.letter.Identifier.the-variants as Identifier
+use Rattle.desk.specs.declared.sends.Elements.{Elements}
+use Rattle.terms.specs.Codes.{kindOf, kindCode, keepOf, keepCode, connectionOf, connectionCode, flagCode}
 use Rattle.terms.specs.declared.Becomes.{Becomes}
 use Rattle.terms.specs.declared.Becomes.the-variants.{Nothing, One}
 use Rattle.terms.specs.declared.Terms.{Terms}
 
 -- how many words the terms take; in a record's words the state stands behind them
 abbrev pub width : ℕ
-width = 10
+width = 11
 
 -- the first word of the two choices: no step changes what stands before it
 abbrev pub choicesAt : ℕ
-choicesAt = 7
+choicesAt = 8
 
 -- the word of the kind: at the line's end no step changes what stands before it
 abbrev pub kindAt : ℕ
-kindAt = 9
+kindAt = 10
 
--- words as terms
+-- words as terms; there is an identifier exactly if the first word is 1
+abbrev pub identifierIn : List ℕ → Identifier
+identifierIn row = pick (eqb (getD row 0 0) 1) (Identifier.Is (record { low = getD row 1 0; high = getD row 2 0 })) Identifier.Absent
+
 unfoldable pub termsOf : List ℕ → Terms
 termsOf row =
     record {
-      identifier = record { low = getD row 0 0; high = getD row 1 0 };
-      numberA = record { low = getD row 2 0; high = getD row 3 0 };
-      numberB = record { low = getD row 4 0; high = getD row 5 0 };
-      service = getD row 6 0;
-      kind = kindOf (getD row 9 0);
-      keep = keepOf (getD row 7 0);
-      connection = connectionOf (getD row 8 0);
+      identifier = identifierIn row;
+      numberA = record { low = getD row 3 0; high = getD row 4 0 };
+      numberB = record { low = getD row 5 0; high = getD row 6 0 };
+      service = getD row 7 0;
+      kind = kindOf (getD row 10 0);
+      keep = keepOf (getD row 8 0);
+      connection = connectionOf (getD row 9 0);
     }
 
 -- terms as words; what steps change, the two choices and the kind, stands last
@@ -44,7 +51,8 @@ choiceWords keep connection kind = keepCode keep ∷ connectionCode connection �
 
 abbrev pub termsWords : Terms → List ℕ
 termsWords t =
-    t .identifier .low ∷ t .identifier .high ∷ t .numberA .low ∷ t .numberA .high ∷ t .numberB .low ∷ t .numberB .high ∷
+    flagCode (isIdentified (t .identifier)) ∷ identifierWords (t .identifier) .low ∷ identifierWords (t .identifier) .high ∷
+    t .numberA .low ∷ t .numberA .high ∷ t .numberB .low ∷ t .numberB .high ∷
     t .service ∷ choiceWords (t .keep) (t .connection) (t .kind)
 
 -- what a free place has
@@ -88,3 +96,7 @@ withKind t kind =
 abbrev pub kindAfter : Becomes → Kind → Kind
 kindAfter Nothing kind = kind
 kindAfter (One new) kind = new
+
+-- what a record with these terms gives the messages that it sends
+abbrev pub elementsOf : Terms → Elements
+elementsOf t = record { identifier = t .identifier; numberA = t .numberA; numberB = t .numberB; service = t .service }

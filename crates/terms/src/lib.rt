@@ -2,29 +2,35 @@
 // inner room of both desks: its functions are no public operations.
 use codes::connection_code;
 use codes::connection_of;
+use codes::flag_code;
 use codes::keep_code;
 use codes::keep_of;
 use codes::kind_code;
 use codes::kind_of;
 use desk::Connection;
 use desk::Keep;
+use desk::letter::Identifier;
+use desk::letter::identifier_words;
+use desk::letter::is_identified;
+use desk::sends::Elements;
 use lists::words::Words;
 use message::Kind;
 
 pub mod codes;
+pub mod means;
 pub mod request;
 
 ghost use mathlib.Core.Path.{_≡_};
-ghost use Rattle.terms.specs.Terms.{noTerms, termsAt, termsPut, withChoices, kindAfter};
+ghost use Rattle.terms.specs.Terms.{noTerms, termsAt, termsPut, withChoices, kindAfter, elementsOf};
 
 // How many words the terms take. They stand at the front of a record's words, and the state behind them.
-pub const WIDTH: usize = 10;
+pub const WIDTH: usize = 11;
 
 // The first word of the two choices: no step changes what stands before it.
-pub const CHOICES_AT: usize = 7;
+pub const CHOICES_AT: usize = 8;
 
 // The word of the kind: at the line's end no step changes what stands before it.
-pub const KIND_AT: usize = 9;
+pub const KIND_AT: usize = 10;
 
 // What a row of a table makes of the kind: nothing, or this one.
 pub enum Becomes {
@@ -33,7 +39,7 @@ pub enum Becomes {
 }
 
 pub struct Terms {
-    pub identifier: Words,
+    pub identifier: Identifier,
     pub numberA: Words,
     pub numberB: Words,
     pub service: u64,
@@ -48,7 +54,7 @@ pub fn no_terms() -> Terms
 {
     let none = Words { low: 0, high: 0 };
     Terms {
-        identifier: none,
+        identifier: Identifier::Absent,
         numberA: none,
         numberB: none,
         service: 0,
@@ -59,16 +65,20 @@ pub fn no_terms() -> Terms
 }
 
 // What the terms at the front of some words say of one thing: its words alone are read. Of too few words, what no terms say.
-pub fn identifier_at(row: &[u64]) -> Words
+pub fn identifier_at(row: &[u64]) -> Identifier
     ensures { λ r. ⌜ r ≡ termsAt (now (row .entry)) .identifier ⌝ }
 {
     if WIDTH <= row.len() {
-        return Words {
-            low: row[0],
-            high: row[1],
-        };
+        if row[0] == 1 {
+            let words = Words {
+                low: row[1],
+                high: row[2],
+            };
+            return Identifier::Is(words);
+        }
+        return Identifier::Absent;
     }
-    Words { low: 0, high: 0 }
+    Identifier::Absent
 }
 
 pub fn number_a_at(row: &[u64]) -> Words
@@ -76,8 +86,8 @@ pub fn number_a_at(row: &[u64]) -> Words
 {
     if WIDTH <= row.len() {
         return Words {
-            low: row[2],
-            high: row[3],
+            low: row[3],
+            high: row[4],
         };
     }
     Words { low: 0, high: 0 }
@@ -88,11 +98,20 @@ pub fn number_b_at(row: &[u64]) -> Words
 {
     if WIDTH <= row.len() {
         return Words {
-            low: row[4],
-            high: row[5],
+            low: row[5],
+            high: row[6],
         };
     }
     Words { low: 0, high: 0 }
+}
+
+pub fn service_at(row: &[u64]) -> u64
+    ensures { λ r. ⌜ r ≡ termsAt (now (row .entry)) .service ⌝ }
+{
+    if WIDTH <= row.len() {
+        return row[7];
+    }
+    0
 }
 
 pub fn kind_at(row: &[u64]) -> Kind
@@ -112,14 +131,15 @@ pub fn terms_of(row: &[u64]) -> Terms
         let identifier = identifier_at(row);
         let numberA = number_a_at(row);
         let numberB = number_b_at(row);
+        let service = service_at(row);
         let kind = kind_at(row);
-        let keep = keep_of(row[7]);
-        let connection = connection_of(row[8]);
+        let keep = keep_of(row[8]);
+        let connection = connection_of(row[9]);
         return Terms {
             identifier,
             numberA,
             numberB,
-            service: row[6],
+            service,
             kind,
             keep,
             connection,
@@ -139,16 +159,18 @@ pub fn put_terms(row: &mut [u64], terms: Terms)
         let kind = terms.kind;
         let keep = terms.keep;
         let connection = terms.connection;
-        row[0] = identifier.low;
-        row[1] = identifier.high;
-        row[2] = numberA.low;
-        row[3] = numberA.high;
-        row[4] = numberB.low;
-        row[5] = numberB.high;
-        row[6] = terms.service;
-        row[7] = keep_code(keep);
-        row[8] = connection_code(connection);
-        row[9] = kind_code(kind);
+        let words = identifier_words(identifier);
+        row[0] = flag_code(is_identified(identifier));
+        row[1] = words.low;
+        row[2] = words.high;
+        row[3] = numberA.low;
+        row[4] = numberA.high;
+        row[5] = numberB.low;
+        row[6] = numberB.high;
+        row[7] = terms.service;
+        row[8] = keep_code(keep);
+        row[9] = connection_code(connection);
+        row[10] = kind_code(kind);
     }
 }
 
@@ -178,5 +200,20 @@ pub fn kind_after(becomes: Becomes, kind: Kind) -> Kind
     match becomes {
         Becomes::Nothing => kind,
         Becomes::One(new) => new,
+    }
+}
+
+// What a record with these terms gives the messages that it sends.
+pub fn elements_of(terms: Terms) -> Elements
+    ensures { λ r. ⌜ r ≡ elementsOf terms ⌝ }
+{
+    let identifier = terms.identifier;
+    let numberA = terms.numberA;
+    let numberB = terms.numberB;
+    Elements {
+        identifier,
+        numberA,
+        numberB,
+        service: terms.service,
     }
 }

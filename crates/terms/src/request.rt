@@ -2,19 +2,29 @@
 use crate::Terms;
 use desk::Connection;
 use desk::Keep;
+use desk::letter::Identifier;
 use desk::letter::Letter;
 use lists::words::Words;
 use message::Carrier;
 use message::Kind;
+use message::Service;
 use message::request_body;
 ghost use mathlib.Core.Path.{_≡_};
 ghost use Rattle.terms.specs.Request.{letterNames, onlyIdentifier, onlyLine, canKeepSent, requestTerms, requestLetter};
 
-// Whom an input names: the request's identifier, User A's number and the line's. What it does not name is 0.
+// Whom an input names: the request's identifier, User A's number, the line's and the service. What it does not name is absent: a number is then 0. A request
+// has its service behind its numbers.
 pub struct Names {
-    pub identifier: Words,
+    pub identifier: Identifier,
     pub numberA: Words,
     pub numberB: Words,
+    pub service: Service,
+}
+
+// How a host names a request of its own desk: by the identifier, or where it has none by its record's place.
+pub struct Name {
+    pub identifier: Identifier,
+    pub place: usize,
 }
 
 // What a request asks for, behind its numbers.
@@ -31,15 +41,17 @@ pub fn letter_names(l: Letter) -> Names
     let identifier = l.identifier;
     let numberA = l.numberA;
     let numberB = l.numberB;
+    let service = l.service;
     Names {
         identifier,
         numberA,
         numberB,
+        service,
     }
 }
 
-// An input that names a request by its identifier alone.
-pub fn only_identifier(identifier: Words) -> Names
+// An input that names a request by its identifier alone, or by none.
+pub fn only_identifier(identifier: Identifier) -> Names
     ensures { λ r. ⌜ r ≡ onlyIdentifier identifier ⌝ }
 {
     let none = Words { low: 0, high: 0 };
@@ -47,6 +59,7 @@ pub fn only_identifier(identifier: Words) -> Names
         identifier,
         numberA: none,
         numberB: none,
+        service: Service::Absent,
     }
 }
 
@@ -56,9 +69,10 @@ pub fn only_line(number: Words) -> Names
 {
     let none = Words { low: 0, high: 0 };
     Names {
-        identifier: none,
+        identifier: Identifier::Absent,
         numberA: none,
         numberB: number,
+        service: Service::Absent,
     }
 }
 
@@ -102,6 +116,7 @@ pub fn request_letter(names: Names, q: Request) -> Letter
         identifier,
         numberA,
         numberB,
+        service: Service::Absent,
         body,
     }
 }

@@ -42,8 +42,17 @@ unfoldable pub sentBuffer : List ℕ → Sending → List ℕ
 sentBuffer out Nothing = out
 sentBuffer out (Send l) = messageBuffer out 0 (messageOf l)
 
--- ---- the nine numbers: refusal, bytes written, first unread place, timers started, timers stopped, notice, clear the call; and of bytes that cannot be read 1 and the place
--- of the fault
+-- ---- a place as two numbers: 1 and the place, or 0 and 0 where there is none
+abbrev pub isPlace : Found → ℕ
+isPlace (Found.At place) = 1
+isPlace Found.Nothing = 0
+
+abbrev pub placeNumber : Found → ℕ
+placeNumber (Found.At place) = place
+placeNumber Found.Nothing = 0
+
+-- ---- the eleven numbers: refusal, bytes written, first unread place, timers started, timers stopped, notice, clear the call; of bytes that cannot be read 1 and the
+-- place of the fault; of a step about a record 1 and the record's place
 abbrev pub toldOf : Outcome → ℕ → ℕ → List ℕ
 toldOf outcome length next =
     outcome .refusal
@@ -55,9 +64,10 @@ toldOf outcome length next =
     ∷ flagCode (outcome .clear)
     ∷ 0
     ∷ 0
+    ∷ isPlace (outcome .at)
+    ∷ placeNumber (outcome .at)
     ∷ []
 
 -- a refusal of the face itself: nothing was done, nothing is sent and nothing is read
 abbrev pub toldRefused : ℕ → Found → List ℕ
-toldRefused number Found.Nothing = number ∷ 0 ∷ 0 ∷ 0 ∷ 0 ∷ 0 ∷ 0 ∷ 0 ∷ 0 ∷ []
-toldRefused number (Found.At place) = number ∷ 0 ∷ 0 ∷ 0 ∷ 0 ∷ 0 ∷ 0 ∷ 1 ∷ place ∷ []
+toldRefused number fault = number ∷ 0 ∷ 0 ∷ 0 ∷ 0 ∷ 0 ∷ 0 ∷ isPlace fault ∷ placeNumber fault ∷ 0 ∷ 0 ∷ []

@@ -1,6 +1,7 @@
-// An outcome told to a host: its message as bytes at the front of a lent buffer, and the rest as plain numbers. Nine numbers: the refusal; the bytes of the
+// An outcome told to a host: its message as bytes at the front of a lent buffer, and the rest as plain numbers. Eleven numbers: the refusal; the bytes of the
 // message written, 0 for none; the first unread place; timers started; timers stopped; the notice; whether to clear the call; whether bytes could not be read, and then
-// the place of the fault. An inner room of the library's face and of the programs: its functions are no public operations.
+// the place of the fault; whether the step was about a record, and then the record's place. An inner room of the library's face and of the programs: its functions are
+// no public operations.
 use desk::letter::message_of;
 use desk::outcome::Notice;
 use desk::outcome::Outcome;
@@ -12,10 +13,10 @@ use writer::Written;
 ghost use mathlib.Core.Path.{_≡_};
 ghost use Prim.Native.Nat.{_≤_};
 ghost use Rattle.lists.specs.Choice.{pick};
-ghost use Rattle.told.specs.Told.{timersNumber, noticeNumber, sentWritten, sentBuffer, toldOf, toldRefused};
+ghost use Rattle.told.specs.Told.{timersNumber, noticeNumber, isPlace, placeNumber, sentWritten, sentBuffer, toldOf, toldRefused};
 
 // How many numbers a host is told of an outcome.
-pub const TOLD: usize = 9;
+pub const TOLD: usize = 11;
 
 // A bit of a sum.
 fn bit(choice: bool, value: u64) -> u64
@@ -58,6 +59,25 @@ pub fn notice_number(notice: Notice) -> u64
     }
 }
 
+// A place as two numbers: 1 and the place, or 0 and 0 where there is none.
+pub fn is_place(found: Found) -> u64
+    ensures { λ r. ⌜ r ≡ isPlace found ⌝ }
+{
+    match found {
+        Found::At(place) => 1,
+        Found::Nothing => 0,
+    }
+}
+
+pub fn place_number(found: Found) -> u64
+    ensures { λ r. ⌜ r ≡ placeNumber found ⌝ }
+{
+    match found {
+        Found::At(place) => place as u64,
+        Found::Nothing => 0,
+    }
+}
+
 // What is sent, at the front of a buffer: how many bytes, 0 where nothing is sent; or the writer's refusal, and the buffer stays as it was.
 pub fn send(out: &mut [u8], sending: Sending) -> Written
     ensures { λ r. ⌜ (r ≡ sentWritten (now (out .entry)) sending) × (now (out .exit) ≡ sentBuffer (now (out .entry)) sending) ⌝ }
@@ -82,6 +102,9 @@ pub fn tell(told: &mut [u64; TOLD], outcome: Outcome, length: usize, next: usize
     let stopped = timers_number(stops);
     let numbered = notice_number(notice);
     let clear = flag_code(outcome.clear);
+    let at = outcome.at;
+    let about = is_place(at);
+    let place = place_number(at);
     *told = [
         outcome.refusal as u64,
         length as u64,
@@ -92,6 +115,8 @@ pub fn tell(told: &mut [u64; TOLD], outcome: Outcome, length: usize, next: usize
         clear,
         0,
         0,
+        about,
+        place,
     ];
 }
 
@@ -100,13 +125,8 @@ pub fn refuse(told: &mut [u64; TOLD], number: u8, fault: Found) -> u64
     ensures { λ r. ⌜ (r ≡ number) × (now (told .exit) ≡ toldRefused number fault) ⌝ }
 {
     let refusal = number as u64;
-    match fault {
-        Found::Nothing => {
-            *told = [refusal, 0, 0, 0, 0, 0, 0, 0, 0];
-        }
-        Found::At(place) => {
-            *told = [refusal, 0, 0, 0, 0, 0, 0, 1, place as u64];
-        }
-    }
+    let unread = is_place(fault);
+    let place = place_number(fault);
+    *told = [refusal, 0, 0, 0, 0, 0, 0, unread, place, 0, 0];
     refusal
 }

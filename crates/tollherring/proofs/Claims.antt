@@ -5,7 +5,7 @@ use mathlib.Core.Bool.{Bool, true, false}
 use mathlib.Core.List.{List}
 use native.Mathlib.Omega.{arith}
 use Rattle.lists.specs.Choice.{pick}
-use Rattle.message.specs.Format.{inRange, messageBytes}
+use Rattle.message.specs.Format.{writable, messageBytes}
 use Rattle.desk.specs.Letter.{messageOf}
 use Rattle.desk.specs.declared.outcome.Sending.{Sending}
 use Rattle.desk.specs.declared.outcome.Sending.the-variants.{Nothing, Send}
@@ -24,7 +24,7 @@ refused-stays false roomy length put out number e = refl
 sent-stays : (out : List ℕ) (sending : Sending) (number : ℕ) → sentWritten out sending ≡ Refused number → sentBuffer out sending ≡ out
 unfolding sentWritten sentBuffer messageWritten messageBuffer
 sent-stays out Nothing number e = let z : _≡_ {A = ℕ} 0 1 = cc in absurd (omega arith)
-sent-stays out (Send l) number e = refused-stays (inRange (messageOf l)) (room out 0 (messageBytes (messageOf l))) _ _ out number e
+sent-stays out (Send l) number e = refused-stays (writable (messageOf l)) (room out 0 (messageBytes (messageOf l))) _ _ out number e
 
 pub no-room-nothing : NoRoomNothing
 unfolding faced

@@ -16,6 +16,6 @@ NoRoomNothing =
     (words after out : List ℕ) (outcome : Outcome) (next number : ℕ) → sentWritten out (outcome .sending) ≡ Refused number
     → faced words after out outcome next ≡ refusedFace words out number Nothing
 
--- a refusal of a desk (`RefusedSame` in clerk_sound and line_sound) is told as its number, the bytes of its reply and what was read: no timer, no notice, no word to clear the call
+-- a refusal of a desk (`RefusedSame` in clerk_sound and line_sound) is told as its number, the bytes of its reply and what was read: no timer, no notice, no word to clear the call, no record
 abbrev pub RefusedTold : Type 0
-RefusedTold = (number : ℕ) (reply : Sending) (length next : ℕ) → toldOf (refusedWith number reply) length next ≡ number ∷ length ∷ next ∷ 0 ∷ 0 ∷ 0 ∷ 0 ∷ 0 ∷ 0 ∷ []
+RefusedTold = (number : ℕ) (reply : Sending) (length next : ℕ) → toldOf (refusedWith number reply) length next ≡ number ∷ length ∷ next ∷ 0 ∷ 0 ∷ 0 ∷ 0 ∷ 0 ∷ 0 ∷ 0 ∷ 0 ∷ []

@@ -22,11 +22,12 @@ unfoldable pub clerkAsked : List ℕ → List ℕ → List ℕ → ℕ → List 
 clerkAsked words out identifier kind numberA numberB service canKeep preference =
     clerkEntered words out (askGiven identifier kind numberA numberB service canKeep preference) 0 Nothing
 
-unfoldable pub clerkReceived : List ℕ → List ℕ → List ℕ → ℕ → Face
-clerkReceived words out bytes busy = clerkBytes words out (clerkBytesGiven bytes busy)
+-- with each of these comes the place that the host names
+unfoldable pub clerkReceived : List ℕ → List ℕ → ℕ → List ℕ → ℕ → Face
+clerkReceived words out place bytes busy = clerkBytes words out (clerkBytesGiven bytes busy place)
 
-unfoldable pub clerkActed : List ℕ → List ℕ → List ℕ → ℕ → Face
-clerkActed words out identifier act = clerkEntered words out (clerkActGiven identifier act) 0 Nothing
+unfoldable pub clerkActed : List ℕ → List ℕ → ℕ → List ℕ → ℕ → Face
+clerkActed words out place identifier act = clerkEntered words out (clerkActGiven identifier place act) 0 Nothing
 
-unfoldable pub clerkReported : List ℕ → List ℕ → List ℕ → ℕ → Face
-clerkReported words out identifier timer = clerkEntered words out (timerGiven identifier timer) 0 Nothing
+unfoldable pub clerkReported : List ℕ → List ℕ → ℕ → List ℕ → ℕ → Face
+clerkReported words out place identifier timer = clerkEntered words out (timerGiven identifier place timer) 0 Nothing

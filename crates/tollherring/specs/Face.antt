@@ -1,5 +1,6 @@
 -- What stands in the host's memory after a call, and the number that the call answers.
 use Prim.Native.Nat.{ℕ}
+use mathlib.Core.Path.{_≡_}
 use mathlib.Core.List.{List}
 use Rattle.lists.specs.declared.Found.{Found}
 use Rattle.lists.specs.declared.Found.the-variants.{Nothing}
@@ -8,7 +9,7 @@ use Rattle.writer.specs.declared.Written.{Written}
 use Rattle.writer.specs.declared.Written.the-variants.{Wrote, Refused}
 use Rattle.told.specs.Told.{sentWritten, sentBuffer, toldOf, toldRefused}
 
--- the desk's words, the buffer for the message that is sent, the outcome's nine numbers, and the answer: the refusal's number or 0
+-- the desk's words, the buffer for the message that is sent, the outcome's eleven numbers, and the answer: the refusal's number or 0
 pub record Face : Type 0 where
   pub words : List ℕ
   pub out : List ℕ
@@ -30,3 +31,11 @@ written (Refused number) words after out outcome next = refusedFace words out nu
 -- a step that makes of `words` the words `after`
 unfoldable pub faced : List ℕ → List ℕ → List ℕ → Outcome → ℕ → Face
 faced words after out outcome next = written (sentWritten out (outcome .sending)) words after (sentBuffer out (outcome .sending)) outcome next
+
+-- a step that changes no word: whatever the desk's words are, they stay
+abbrev pub WordsStay : List ℕ → List ℕ → ℕ → List ℕ → Outcome → ℕ → Type 0
+WordsStay out told answer before outcome next = (words : List ℕ) → face words out told answer ≡ faced words words before outcome next
+
+-- a step that sends nothing: whatever is in the buffer, it stays
+abbrev pub OutStays : List ℕ → List ℕ → ℕ → List ℕ → List ℕ → Outcome → ℕ → Type 0
+OutStays words told answer before after outcome next = (out : List ℕ) → face words out told answer ≡ faced before after out outcome next

@@ -8,12 +8,12 @@ use Rattle.lists.specs.declared.Found.{Found}
 use Rattle.lists.specs.declared.Found.the-variants.{Nothing}
 use Rattle.line.specs.declared.steps.Stepped.{Stepped}
 use Rattle.line.specs.Start.{started}
-use Rattle.line.specs.Entry.{bytesEntry, lookEntry, guardEntry}
+use Rattle.line.specs.Entry.{bytesEntry, lookEntry}
 use Rattle.line.specs.Steps.{deskOf, step}
 use Rattle.line.specs.declared.entry.Entry.{Entry}
 use Rattle.line.specs.declared.entry.Entry.the-variants.{Refused, Given}
 use Rattle.line.specs.declared.entry.BytesEntry.{BytesEntry}
-use Rattle.host_numbers.specs.Given.{lineActGiven, reportGiven, isWord, yes}
+use Rattle.host_numbers.specs.Given.{lineActGiven, guardGiven, reportGiven, isWord, yes}
 use Rattle.tollherring.specs.Face.{Face, refusedFace, faced}
 
 -- a refused start makes no desk: the words stay as they were
@@ -35,8 +35,9 @@ lineEntered words out (Given input) next fault = faced words (step (deskOf words
 abbrev pub lineBytes : List ℕ → List ℕ → BytesEntry → Face
 lineBytes words out read = lineEntered words out (read .entry) (read .next) (read .fault)
 
-unfoldable pub lineReceived : List ℕ → List ℕ → List ℕ → Face
-lineReceived words out bytes = lineBytes words out (bytesEntry bytes)
+-- with a message, an act and a guard comes the place that the host names
+unfoldable pub lineReceived : List ℕ → List ℕ → ℕ → List ℕ → Face
+lineReceived words out place bytes = lineBytes words out (bytesEntry bytes place)
 
 unfoldable pub lineStatusReported : List ℕ → List ℕ → List ℕ → ℕ → Face
 lineStatusReported words out digits busy = lineEntered words out (reportGiven digits busy) 0 Nothing
@@ -44,8 +45,8 @@ lineStatusReported words out digits busy = lineEntered words out (reportGiven di
 unfoldable pub lineLooked : List ℕ → List ℕ → List ℕ → Face
 lineLooked words out digits = lineEntered words out (lookEntry digits) 0 Nothing
 
-unfoldable pub lineActed : List ℕ → List ℕ → List ℕ → ℕ → Face
-lineActed words out identifier act = lineEntered words out (lineActGiven identifier act) 0 Nothing
+unfoldable pub lineActed : List ℕ → List ℕ → ℕ → List ℕ → ℕ → Face
+lineActed words out place identifier act = lineEntered words out (lineActGiven identifier place act) 0 Nothing
 
-unfoldable pub lineGuarded : List ℕ → List ℕ → List ℕ → Face
-lineGuarded words out identifier = lineEntered words out (guardEntry identifier) 0 Nothing
+unfoldable pub lineGuarded : List ℕ → List ℕ → ℕ → List ℕ → Face
+lineGuarded words out place identifier = lineEntered words out (guardGiven identifier place) 0 Nothing

@@ -15,9 +15,10 @@ use Rattle.line_records.specs.Codes as LineCodes
 use Rattle.line_records.specs.Records as LineRecords
 use Rattle.line_records.specs.Lines.{lines, noLine}
 use Rattle.desk.specs.Sends.{noNumber}
+use Rattle.host_numbers.specs.Identifiers.{identifierShown}
 use Rattle.host_numbers.specs.Shown.{clerkNumbers, lineNumbers, kindsNumber}
 
--- identifier, numberA, numberB, the nine numbers, and the answer
+-- identifier, a length and sixteen bytes, numberA, numberB, the nine numbers, and the answer
 pub record Shown : Type 0 where
   pub identifier : List ℕ
   pub numberA : List ℕ
@@ -31,14 +32,14 @@ shown identifier numberA numberB numbers answer = record { identifier = identifi
 -- ---- the record at a place; a place whose record has no state has none
 abbrev pub clerkRecordShown : ClerkRecord.Record → Shown → Shown
 clerkRecordShown r none =
-    pick (eqb (ClerkCodes.stateCode (r .state)) 0) none (shown (bytesOf (r .terms .identifier)) (bytesOf (r .terms .numberA)) (bytesOf (r .terms .numberB)) (clerkNumbers r) 0)
+    pick (eqb (ClerkCodes.stateCode (r .state)) 0) none (shown (identifierShown (r .terms .identifier)) (bytesOf (r .terms .numberA)) (bytesOf (r .terms .numberB)) (clerkNumbers r) 0)
 
 unfoldable pub clerkShown : List ℕ → ℕ → List ℕ → List ℕ → List ℕ → List ℕ → Shown
 clerkShown words place identifier numberA numberB numbers = clerkRecordShown (getD (ClerkRecords.records words) place ClerkRecords.blank) (shown identifier numberA numberB numbers 6)
 
 abbrev pub lineRecordShown : LineRecord.Record → Shown → Shown
 lineRecordShown r none =
-    pick (eqb (LineCodes.stateCode (r .state)) 0) none (shown (bytesOf (r .terms .identifier)) (bytesOf (r .terms .numberA)) (bytesOf (r .terms .numberB)) (lineNumbers r) 0)
+    pick (eqb (LineCodes.stateCode (r .state)) 0) none (shown (identifierShown (r .terms .identifier)) (bytesOf (r .terms .numberA)) (bytesOf (r .terms .numberB)) (lineNumbers r) 0)
 
 unfoldable pub lineShown : List ℕ → ℕ → List ℕ → List ℕ → List ℕ → List ℕ → Shown
 lineShown words place identifier numberA numberB numbers = lineRecordShown (getD (LineRecords.records words) place LineRecords.blank) (shown identifier numberA numberB numbers 6)

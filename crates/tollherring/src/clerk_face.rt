@@ -1,48 +1,20 @@
 // The clerk's desk for hosts: each call lends the desk's words, gives an input and is answered with the refusal's number or 0.
+use crate::clerk_step::step_in;
 use clerk::entry::Entry;
 use clerk::steps::start;
-use clerk_plan::plan_for;
 use clerk_records::WORDS;
-use clerk_records::places::apply;
-use clerk_table::inputs::Input;
 use host_numbers::given::ask_given;
 use host_numbers::given::clerk_act_given;
 use host_numbers::given::clerk_bytes_given;
 use host_numbers::given::timer_given;
+use host_numbers::identifiers::BYTES;
 use lists::Found;
 use told::TOLD;
 use told::refuse;
-use told::send;
-use told::tell;
-use writer::Written;
 ghost use mathlib.Core.Path.{_≡_};
-ghost use Rattle.clerk.specs.Steps.{deskOf, step, startedDesk};
-ghost use Rattle.tollherring.specs.Face.{face, faced};
+ghost use Rattle.clerk.specs.Steps.{startedDesk};
+ghost use Rattle.tollherring.specs.Face.{face};
 ghost use Rattle.tollherring.specs.Clerk.{clerkEntered, clerkAsked, clerkReceived, clerkActed, clerkReported};
-
-// The one step that every call comes to; what was refused at the entry is told at once, without it. It is planned, its message is written, and only then is the change made: with no room for the message, nothing is done.
-fn step_in(
-    words: &mut [u64; WORDS],
-    input: Input,
-    next: usize,
-    out: &mut [u8],
-    told: &mut [u64; TOLD],
-) -> u64
-    ensures { λ r. ⌜ face (now (words .exit)) (now (out .exit)) (now (told .exit)) r ≡ faced (now (words .entry)) (step (deskOf (now (words .entry))) input .desk .words) (now (out .entry)) (step (deskOf (now (words .entry))) input .outcome) next ⌝ }
-{
-    let plan = plan_for(words, input);
-    let outcome = plan.outcome;
-    let sending = outcome.sending;
-    match send(out, sending) {
-        Written::Wrote(length) => {
-            let change = plan.change;
-            apply(words, change);
-            tell(told, outcome, length, next);
-            outcome.refusal as u64
-        }
-        Written::Refused(number) => refuse(told, number, Found::Nothing),
-    }
-}
 
 // An empty desk.
 #[no_mangle]
@@ -58,7 +30,7 @@ pub extern "C" fn tollherring_clerk_start(words: &mut [u64; WORDS])
 #[no_mangle]
 pub extern "C" fn tollherring_clerk_ask(
     words: &mut [u64; WORDS],
-    identifier: &[u8; 16],
+    identifier: &[u8; BYTES],
     kind: u64,
     numberA: &[u8; 16],
     numberB: &[u8; 16],
@@ -89,14 +61,15 @@ pub extern "C" fn tollherring_clerk_ask(
 #[no_mangle]
 pub extern "C" fn tollherring_clerk_receive(
     words: &mut [u64; WORDS],
+    place: u64,
     bytes: &[u8],
     busy: u64,
     out: &mut [u8],
     told: &mut [u64; TOLD],
 ) -> u64
-    ensures { λ r. ⌜ face (now (words .exit)) (now (out .exit)) (now (told .exit)) r ≡ clerkReceived (now (words .entry)) (now (out .entry)) (now (bytes .entry)) busy ⌝ }
+    ensures { λ r. ⌜ face (now (words .exit)) (now (out .exit)) (now (told .exit)) r ≡ clerkReceived (now (words .entry)) (now (out .entry)) place (now (bytes .entry)) busy ⌝ }
 {
-    let read = clerk_bytes_given(bytes, busy);
+    let read = clerk_bytes_given(bytes, busy, place);
     let entry = read.entry;
     let fault = read.fault;
     match entry {
@@ -109,14 +82,15 @@ pub extern "C" fn tollherring_clerk_receive(
 #[no_mangle]
 pub extern "C" fn tollherring_clerk_act(
     words: &mut [u64; WORDS],
-    identifier: &[u8; 16],
+    place: u64,
+    identifier: &[u8; BYTES],
     act: u64,
     out: &mut [u8],
     told: &mut [u64; TOLD],
 ) -> u64
-    ensures { λ r. ⌜ face (now (words .exit)) (now (out .exit)) (now (told .exit)) r ≡ clerkActed (now (words .entry)) (now (out .entry)) (now (identifier .entry)) act ⌝ }
+    ensures { λ r. ⌜ face (now (words .exit)) (now (out .exit)) (now (told .exit)) r ≡ clerkActed (now (words .entry)) (now (out .entry)) place (now (identifier .entry)) act ⌝ }
 {
-    let entry = clerk_act_given(*identifier, act);
+    let entry = clerk_act_given(*identifier, place, act);
     match entry {
         Entry::Refused(number) => refuse(told, number, Found::Nothing),
         Entry::Given(input) => step_in(words, input, 0, out, told),
@@ -127,14 +101,15 @@ pub extern "C" fn tollherring_clerk_act(
 #[no_mangle]
 pub extern "C" fn tollherring_clerk_report(
     words: &mut [u64; WORDS],
-    identifier: &[u8; 16],
+    place: u64,
+    identifier: &[u8; BYTES],
     timer: u64,
     out: &mut [u8],
     told: &mut [u64; TOLD],
 ) -> u64
-    ensures { λ r. ⌜ face (now (words .exit)) (now (out .exit)) (now (told .exit)) r ≡ clerkReported (now (words .entry)) (now (out .entry)) (now (identifier .entry)) timer ⌝ }
+    ensures { λ r. ⌜ face (now (words .exit)) (now (out .exit)) (now (told .exit)) r ≡ clerkReported (now (words .entry)) (now (out .entry)) place (now (identifier .entry)) timer ⌝ }
 {
-    let entry = timer_given(*identifier, timer);
+    let entry = timer_given(*identifier, place, timer);
     match entry {
         Entry::Refused(number) => refuse(told, number, Found::Nothing),
         Entry::Given(input) => step_in(words, input, 0, out, told),

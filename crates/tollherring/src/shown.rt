@@ -1,6 +1,7 @@
 // What a desk holds, for hosts that show it: the record or line of a place, as bytes and plain numbers.
 use clerk_records::codes::state_code as clerk_state_code;
 use clerk_records::places::load as load_clerk;
+use host_numbers::identifiers::BYTES;
 use host_numbers::shown::NUMBERS;
 use host_numbers::shown::clerk_numbers;
 use host_numbers::shown::kinds_number;
@@ -21,7 +22,7 @@ ghost use Rattle.tollherring.specs.Shown.{shown, clerkShown, lineShown, 
 pub extern "C" fn tollherring_clerk_record(
     words: &[u64; clerk_records::WORDS],
     place: u64,
-    identifier: &mut [u8; 16],
+    identifier: &mut [u8; BYTES],
     numberA: &mut [u8; 16],
     numberB: &mut [u8; 16],
     numbers: &mut [u64; NUMBERS],
@@ -44,7 +45,7 @@ pub extern "C" fn tollherring_clerk_record(
 pub extern "C" fn tollherring_line_record(
     words: &[u64; line_records::WORDS],
     place: u64,
-    identifier: &mut [u8; 16],
+    identifier: &mut [u8; BYTES],
     numberA: &mut [u8; 16],
     numberB: &mut [u8; 16],
     numbers: &mut [u64; NUMBERS],

@@ -8,76 +8,90 @@ use lib.Seq.{drop-drop, length-take-le}
 use lib.Dec.{ltb, eqb}
 use native.Mathlib.Omega.{arith}
 use borrow.Author.Tests.{ltb-false, lt-ltb, eqb-true, eqb-false}
+use Rattle.lists.specs.Choice.{pick}
 use Rattle.lists.specs.Words.{Bytes}
 use Rattle.lists.proofs.Choice.{pick-elim, pick-else}
 use Rattle.message.specs.Reading.{Read, took, refused, andThen, endedIn}
 use Rattle.message.specs.Number.{numberBytes, fieldAt, digitsAt, digitsBytes}
-use Rattle.message.specs.Format.{requestBody, typeNumber, carrierNumber, requestInRange, errorInRange, fieldsInRange, inRange, requestBytes, fieldBytes, messageBytes}
+use Rattle.message.specs.Format.{requestBody, hasElements, typeNumber, carrierNumber, requestInRange, errorInRange, fieldsInRange, elementsInRange, elementsComplete, writable, identifierBytes, requestBytes, elementBytes, fieldBytes, fieldsOf, messageBytes}
 use Rattle.message.specs.Equality.{Formed}
-use Rattle.message.specs.Wire.{carrierOf, identifierAt, Fields, requestTail, requestAt, plainAt, fieldsAt, between, messageWith, behindHead, messageAt}
+use Rattle.message.specs.Wire.{carrierOf, identifiedAt, identifierAt, Fields, requestTail, requestAt, elementsTail, elementsAt, plainAt, bareAt, fieldsAt, between, messageWith, behindIdentified, behindHead, messageAt}
 use Rattle.message.specs.declared.Carrier.{Carrier}
 use Rattle.message.specs.declared.Kind.{Kind}
 use Rattle.message.specs.declared.Kind.the-variants.{Ccbs, Ccnr}
 use Rattle.message.specs.declared.Body.{Body}
 use Rattle.message.specs.declared.Body.the-variants.{CcbsRequest, CcnrRequest, RequestResult, RequestError, CcExecPossible, CcRingout, RingoutError, CcSuspend, CcResume, CcCancel, CallAlerts, CallFailed}
+use Rattle.message.specs.declared.Service.{Service}
+use Rattle.message.specs.declared.Service.the-variants.{Absent, Is}
 use Rattle.message.specs.declared.Fault.{Fault}
 use Rattle.message.specs.declared.Message.{Message}
 use Rattle.message.proofs.Reading.{never-took, then-elim}
 use Rattle.message.proofs.NumberLaws.{field-read}
-use Rattle.message.proofs.NumberBack.{field-canonical, byte-canonical, digits-canonical}
-use Rattle.message.proofs.RangeLaws.{message-bytes, fieldsOf, small-bytes}
+use Rattle.message.proofs.NumberBack.{number-canonical, field-canonical, byte-canonical, digits-canonical}
+use Rattle.message.proofs.IdentifierLaws.{identified-read}
+use Rattle.message.proofs.RangeLaws.{digits-other, digits-few, elements-writable, fields-writable, message-bytes}
 use Rattle.writer.proofs.RoundTrip.{between-none}
 
--- the fields that were read from a place on are of their type, in range, and their bytes stand there
-record Read-well (type : ℕ) (s : List ℕ) (at : ℕ) (f : Fields) (n : ℕ) : Type 0 where
+-- the fields that were read from a place on are of their type, can be written, and their bytes stand there
+record Read-well (type : ℕ) (carrier : Carrier) (s : List ℕ) (at : ℕ) (f : Fields) (n : ℕ) : Type 0 where
   typed : typeNumber (f .body) ≡ type
   sixteenA : length (between s at (f .behindA)) ≡ 16
   sixteenB : length (between s (f .behindA) (f .behindB)) ≡ 16
-  ranged : fieldsInRange (between s at (f .behindA)) (between s (f .behindA) (f .behindB)) (f .body) ≡ true
-  bytes : drop at s ≡ fieldBytes (between s at (f .behindA)) (between s (f .behindA) (f .behindB)) (f .body) ++ drop n s
+  ranged : (identified : Bool) (identifier : List ℕ) → writable (messageWith carrier identified identifier s at f) ≡ true
+  bytes : (identified : Bool) (identifier : List ℕ) → drop at s ≡ fieldsOf (messageWith carrier identified identifier s at f) ++ drop n s
 
-abbrev Well : ℕ → List ℕ → ℕ → Read Fields → Type 0
-Well type s at r = (f : Fields) (n : ℕ) → r ≡ took f n → Read-well type s at f n
+abbrev Well : ℕ → Carrier → List ℕ → ℕ → Read Fields → Type 0
+Well type carrier s at r = (f : Fields) (n : ℕ) → r ≡ took f n → Read-well type carrier s at f n
 
-not-well : (type : ℕ) (s : List ℕ) (at : ℕ) (x : Fault) → Well type s at (refused x)
-not-well type s at x f n e = absurd (never-took e)
+not-well : (type : ℕ) (carrier : Carrier) (s : List ℕ) (at : ℕ) (x : Fault) → Well type carrier s at (refused x)
+not-well type carrier s at x f n e = absurd (never-took e)
 
-well-moved : (type : ℕ) (s : List ℕ) (at : ℕ) (f g : Fields) (n m : ℕ) → took f n ≡ took g m → Read-well type s at f n → Read-well type s at g m
-well-moved type s at f g n m e w = let qf : f ≡ g = cc in let qn : n ≡ m = cc in rw (← qf, ← qn) w
+well-moved :
+    (type : ℕ) (carrier : Carrier) (s : List ℕ) (at : ℕ) (f g : Fields) (n m : ℕ) → took f n ≡ took g m → Read-well type carrier s at f n → Read-well type carrier s at g m
+well-moved type carrier s at f g n m e w = let qf : f ≡ g = cc in let qn : n ≡ m = cc in rw (← qf, ← qn) w
 
--- a body whose fields are the bytes between two places, whatever numbers of digits stand beside it
+-- a body without elements whose fields are the bytes between two places, whatever numbers of digits stand beside it
 plain-well :
-    (type : ℕ) (s : List ℕ) (at : ℕ) (body : Body) (next : ℕ) → typeNumber body ≡ type → ((a b : List ℕ) → fieldsInRange a b body ≡ true) →
-    ((a b : List ℕ) → drop at s ≡ fieldBytes a b body ++ drop next s) → Well type s at (plainAt at body next)
-plain-well type s at body next typed ranged bytes f n e =
+    (type : ℕ) (carrier : Carrier) (s : List ℕ) (at : ℕ) (body : Body) (next : ℕ) → hasElements body carrier ≡ false → typeNumber body ≡ type →
+    ((a b : List ℕ) → fieldsInRange a b body ≡ true) → ((a b : List ℕ) → drop at s ≡ fieldBytes a b body ++ drop next s) → Well type carrier s at (plainAt at body next)
+plain-well type carrier s at body next lacks typed ranged bytes f n e =
     let none : length (between s at at) ≡ 16 = rw (between-none s at) in
-    well-moved type s at _ f _ n e (record { typed = typed; sixteenA = none; sixteenB = none; ranged = ranged _ _; bytes = bytes _ _ })
+    well-moved type carrier s at _ f _ n e
+    (record {
+      typed = typed;
+      sixteenA = none;
+      sixteenB = none;
+      ranged = λ identified identifier. fields-writable _ lacks (ranged _ _);
+      bytes = λ identified identifier. rw lacks (bytes _ _);
+    })
 
 one-well :
-    (type : ℕ) (make : ℕ → Body) (s : List ℕ) (at low high : ℕ) → Bytes s → high < 128 → ((v : ℕ) → typeNumber (make v) ≡ type) →
+    (type : ℕ) (carrier : Carrier) (make : ℕ → Body) (s : List ℕ) (at low high : ℕ) → Bytes s → high < 128 → ((v : ℕ) → hasElements (make v) carrier ≡ false) →
+    ((v : ℕ) → typeNumber (make v) ≡ type) →
     ((v : ℕ) → low ≤ v → v ≤ high → (a b : List ℕ) → fieldsInRange a b (make v) ≡ true) → ((v : ℕ) (a b : List ℕ) → fieldBytes a b (make v) ≡ numberBytes v) →
-    Well type s at (andThen (fieldAt s at low high) (λ v next. plainAt at (make v) next))
-one-well type make s at low high byte small typed ranged bytes =
-    then-elim (Well type s at) (fieldAt s at low high) _ (not-well type s at) (λ v next e.
+    Well type carrier s at (andThen (fieldAt s at low high) (λ v next. plainAt at (make v) next))
+one-well type carrier make s at low high byte small lacks typed ranged bytes =
+    then-elim (Well type carrier s at) (fieldAt s at low high) _ (not-well type carrier s at) (λ v next e.
     let r = field-read s at low high v next e in
-    plain-well type s at (make v) next (typed v) (ranged v (r .least) (r .most)) (λ a b. rw (bytes v a b) (field-canonical s at low high v next byte e .1)))
+    plain-well type carrier s at (make v) next (lacks v) (typed v) (ranged v (r .least) (r .most)) (λ a b. rw (bytes v a b) (field-canonical s at low high v next byte e .1)))
 
 request-typed :
-    (kind : Kind) (service flags : ℕ) (a b : List ℕ) →
-    (fieldsInRange a b (requestBody kind service flags) ≡ requestInRange a b service flags) × (fieldBytes a b (requestBody kind service flags) ≡ requestBytes a b service flags)
-request-typed Ccbs service flags a b = (refl, refl)
-request-typed Ccnr service flags a b = (refl, refl)
+    (kind : Kind) (carrier : Carrier) (service flags : ℕ) (a b : List ℕ) →
+    (hasElements (requestBody kind service flags) carrier ≡ false) ×
+    ((fieldsInRange a b (requestBody kind service flags) ≡ requestInRange a b service flags) × (fieldBytes a b (requestBody kind service flags) ≡ requestBytes a b service flags))
+request-typed Ccbs carrier service flags a b = (refl, (refl, refl))
+request-typed Ccnr carrier service flags a b = (refl, (refl, refl))
 
 request-well :
-    (type : ℕ) (kind : Kind) (s : List ℕ) (at : ℕ) → Bytes s → ((service flags : ℕ) → typeNumber (requestBody kind service flags) ≡ type) →
-    Well type s at (requestAt kind s at)
+    (type : ℕ) (carrier : Carrier) (kind : Kind) (s : List ℕ) (at : ℕ) → Bytes s → ((service flags : ℕ) → typeNumber (requestBody kind service flags) ≡ type) →
+    Well type carrier s at (requestAt kind s at)
 unfolding requestAt requestTail
-request-well type kind s at byte typed =
-    let no = not-well type s at in
-    then-elim (Well type s at) (digitsAt s at 0) _ no (λ u na ea.
-    then-elim (Well type s at) (digitsAt s na 1) _ no (λ w nb eb.
-    then-elim (Well type s at) (fieldAt s nb 0 16383) _ no (λ service ns es.
-    then-elim (Well type s at) (fieldAt s ns 0 5) _ no (λ flags nf ef.
+request-well type carrier kind s at byte typed =
+    let no = not-well type carrier s at in
+    then-elim (Well type carrier s at) (digitsAt s at 0) _ no (λ u na ea.
+    then-elim (Well type carrier s at) (digitsAt s na 1) _ no (λ w nb eb.
+    then-elim (Well type carrier s at) (fieldAt s nb 0 16383) _ no (λ service ns es.
+    then-elim (Well type carrier s at) (fieldAt s ns 0 5) _ no (λ flags nf ef.
     λ f n e.
     let a = between s at na in
     let b = between s na nb in
@@ -86,7 +100,7 @@ request-well type kind s at byte typed =
     let cs = field-canonical s nb 0 16383 service ns byte es in
     let cf = field-canonical s ns 0 5 flags nf byte ef in
     let rf = field-read s ns 0 5 flags nf ef in
-    let t = request-typed kind service flags a b in
+    let t = request-typed kind carrier service flags a b in
     let A = digitsBytes a in
     let B = digitsBytes b in
     let N = numberBytes service in
@@ -94,24 +108,65 @@ request-well type kind s at byte typed =
     let ranged : requestInRange a b service flags ≡ true = rw (ca .1 .0, cb .1 .0, lt-ltb service 16384 (cs .0), lt-ltb flags 6 (omega (arith, rf .most))) in
     let g : requestBytes a b service flags ++ drop nf s ≡ A ++ (B ++ (N ++ (F ++ drop nf s))) = append-assoc A (B ++ (N ++ F)) (drop nf s) ∙ ap (λ (t : List ℕ). A ++ t) (append-assoc B (N ++ F) (drop nf s) ∙ ap (λ (t : List ℕ). B ++ t) (append-assoc N F (drop nf s))) in
     let whole : drop at s ≡ requestBytes a b service flags ++ drop nf s = rw g (ca .1 .1 ∙ ap (λ (t : List ℕ). A ++ t) (cb .1 .1 ∙ ap (λ (t : List ℕ). B ++ t) (cs .1 ∙ ap (λ (t : List ℕ). N ++ t) (cf .1)))) in
-    well-moved type s at (record { behindA = na; behindB = nb; body = requestBody kind service flags }) f nf n e (record { typed = typed service flags; sixteenA = ca .0; sixteenB = cb .0; ranged = t .0 ∙ ranged; bytes = rw (t .1) whole })))))
+    well-moved type carrier s at (record { behindA = na; behindB = nb; service = Absent; body = requestBody kind service flags }) f nf n e
+    (record {
+      typed = typed service flags;
+      sixteenA = ca .0;
+      sixteenB = cb .0;
+      ranged = λ identified identifier. fields-writable _ (t .0) (t .1 .0 ∙ ranged);
+      bytes = λ identified identifier. rw (t .0, t .1 .1) whole;
+    })))))
 
-fields-well : (type : ℕ) (s : List ℕ) (at : ℕ) → Bytes s → 1 ≤ type → type ≤ 12 → Well type s at (fieldsAt type s at)
+-- elements: numberB has a digit, and the service is there
+elements-well :
+    (type : ℕ) (carrier : Carrier) (body : Body) (s : List ℕ) (at : ℕ) → Bytes s → hasElements body carrier ≡ true → typeNumber body ≡ type → Well type carrier s at (elementsAt body s at)
+unfolding elementsAt elementsTail
+elements-well type carrier body s at byte has typed =
+    let no = not-well type carrier s at in
+    then-elim (Well type carrier s at) (digitsAt s at 0) _ no (λ u na ea.
+    then-elim (Well type carrier s at) (digitsAt s na 1) _ no (λ w nb eb.
+    then-elim (Well type carrier s at) (fieldAt s nb 0 16383) _ no (λ service ns es.
+    λ f n e.
+    let a = between s at na in
+    let b = between s na nb in
+    let ca = digits-canonical s at 0 na ea in
+    let cb = digits-canonical s na 1 nb eb in
+    let cs = field-canonical s nb 0 16383 service ns byte es in
+    let A = digitsBytes a in
+    let B = digitsBytes b in
+    let N = numberBytes service in
+    let few = digits-few b 1 (cb .1 .0) .0 in
+    let ranged : elementsInRange a b (Is service) ≡ true = rw (ca .1 .0, digits-other b 1 0 (cb .1 .0) (omega arith), lt-ltb service 16384 (cs .0)) in
+    let full : elementsComplete b (Is service) ≡ true = rw (lt-ltb 0 _ few) in
+    let g : (A ++ (B ++ N)) ++ drop ns s ≡ A ++ (B ++ (N ++ drop ns s)) = append-assoc A (B ++ N) (drop ns s) ∙ ap (λ (t : List ℕ). A ++ t) (append-assoc B N (drop ns s)) in
+    let whole : drop at s ≡ (A ++ (B ++ N)) ++ drop ns s = rw g (ca .1 .1 ∙ ap (λ (t : List ℕ). A ++ t) (cb .1 .1 ∙ ap (λ (t : List ℕ). B ++ t) (cs .1))) in
+    well-moved type carrier s at (record { behindA = na; behindB = nb; service = Is service; body = body }) f ns n e
+    (record {
+      typed = typed;
+      sixteenA = ca .0;
+      sixteenB = cb .0;
+      ranged = λ identified identifier. elements-writable _ has ranged full;
+      bytes = λ identified identifier. rw has whole;
+    }))))
+
+fields-well : (type : ℕ) (carrier : Carrier) (s : List ℕ) (at : ℕ) → Bytes s → 1 ≤ type → type ≤ 12 → Well type carrier s at (fieldsAt type carrier s at)
 unfolding fieldsAt
-fields-well type s at byte lo hi =
-    let P = Well type s at in
-    let here : (body : Body) → typeNumber body ≡ type → ((a b : List ℕ) → fieldsInRange a b body ≡ true) → ((a b : List ℕ) → fieldBytes a b body ≡ []) → P (plainAt at body at) =
-    λ body typed ranged bytes. plain-well type s at body at typed ranged (λ a b. rw (bytes a b)) in
+fields-well type carrier s at byte lo hi =
+    let P = Well type carrier s at in
+    let here : (body : Body) → typeNumber body ≡ type → ((a b : List ℕ) → fieldsInRange a b body ≡ true) → ((a b : List ℕ) → fieldBytes a b body ≡ []) → P (bareAt body carrier s at) =
+    λ body typed ranged bytes.
+    pick-elim P (hasElements body carrier) (λ has. elements-well type carrier body s at byte has typed) (λ lacks.
+    plain-well type carrier s at body at lacks typed ranged (λ a b. rw (bytes a b))) in
     let error : (v : ℕ) → 1 ≤ v → v ≤ 2 → errorInRange v ≡ true = λ v l h. rw (lt-ltb 0 v (omega arith), lt-ltb v 3 (omega arith)) in
     let none : (a b : List ℕ) → true ≡ true = λ a b. refl in
     let empty : (a b : List ℕ) → _≡_ {A = List ℕ} [] [] = λ a b. refl in
-    pick-elim P (eqb type 1) (λ t. request-well type Ccbs s at byte (λ service flags. sym (eqb-true type 1 t))) (λ t1.
-    pick-elim P (eqb type 2) (λ t. request-well type Ccnr s at byte (λ service flags. sym (eqb-true type 2 t))) (λ t2.
-    pick-elim P (eqb type 3) (λ t. one-well type RequestResult s at 0 1 byte (omega arith) (λ v. sym (eqb-true type 3 t)) (λ v l h a b. lt-ltb v 2 (omega arith)) (λ v a b. refl)) (λ t3.
-    pick-elim P (eqb type 4) (λ t. one-well type RequestError s at 1 2 byte (omega arith) (λ v. sym (eqb-true type 4 t)) (λ v l h a b. error v l h) (λ v a b. refl)) (λ t4.
+    pick-elim P (eqb type 1) (λ t. request-well type carrier Ccbs s at byte (λ service flags. sym (eqb-true type 1 t))) (λ t1.
+    pick-elim P (eqb type 2) (λ t. request-well type carrier Ccnr s at byte (λ service flags. sym (eqb-true type 2 t))) (λ t2.
+    pick-elim P (eqb type 3) (λ t. one-well type carrier RequestResult s at 0 1 byte (omega arith) (λ v. refl) (λ v. sym (eqb-true type 3 t)) (λ v l h a b. lt-ltb v 2 (omega arith)) (λ v a b. refl)) (λ t3.
+    pick-elim P (eqb type 4) (λ t. one-well type carrier RequestError s at 1 2 byte (omega arith) (λ v. refl) (λ v. sym (eqb-true type 4 t)) (λ v l h a b. error v l h) (λ v a b. refl)) (λ t4.
     pick-elim P (eqb type 5) (λ t. here CcExecPossible (sym (eqb-true type 5 t)) none empty) (λ t5.
     pick-elim P (eqb type 6) (λ t. here CcRingout (sym (eqb-true type 6 t)) none empty) (λ t6.
-    pick-elim P (eqb type 7) (λ t. one-well type RingoutError s at 1 2 byte (omega arith) (λ v. sym (eqb-true type 7 t)) (λ v l h a b. error v l h) (λ v a b. refl)) (λ t7.
+    pick-elim P (eqb type 7) (λ t. one-well type carrier RingoutError s at 1 2 byte (omega arith) (λ v. refl) (λ v. sym (eqb-true type 7 t)) (λ v l h a b. error v l h) (λ v a b. refl)) (λ t7.
     pick-elim P (eqb type 8) (λ t. here CcSuspend (sym (eqb-true type 8 t)) none empty) (λ t8.
     pick-elim P (eqb type 9) (λ t. here CcResume (sym (eqb-true type 9 t)) none empty) (λ t9.
     pick-elim P (eqb type 10) (λ t. here CcCancel (sym (eqb-true type 10 t)) none empty) (λ t10.
@@ -142,42 +197,54 @@ carrier-canonical n lo hi =
 -- n bytes of s are the message m
 pub record Whole (s : List ℕ) (m : Message) (n : ℕ) : Type 0 where
   pub formed : Formed m
-  pub ranged : inRange m ≡ true
+  pub ranged : writable m ≡ true
   pub whole : s ≡ messageBytes m ++ drop n s
 
+-- the identifier that was read, or the one place that says that there is none
 identifier-shape :
-    (s : List ℕ) (at : ℕ) (identifier : List ℕ) (next : ℕ) → identifierAt s at ≡ took identifier next →
-    (at + 16 ≤ length s) × ((take 16 (drop at s) ≡ identifier) × (at + 16 ≡ next))
+    (identified : Bool) (s : List ℕ) (from : ℕ) (identifier : List ℕ) (next : ℕ) → identifierAt identified s from ≡ took identifier next →
+    (length identifier ≡ 16) × (numberBytes (pick identified 16 0) ++ drop from s ≡ identifierBytes identified identifier ++ drop next s)
 unfolding identifierAt
-identifier-shape s at identifier next e =
-    let p = pick-else (ltb (length s) (at + 16)) (endedIn s) _ _ never-took e in
+identifier-shape true s from identifier next e =
+    let p = pick-else (ltb (length s) (from + 16)) (endedIn s) _ _ never-took e in
     let q = p .1 in
-    (ltb-false (length s) (at + 16) (p .0), (cc, cc))
+    let room = ltb-false (length s) (from + 16) (p .0) in
+    let is : take 16 (drop from s) ≡ identifier = cc in
+    let at : from + 16 ≡ next = cc in
+    (rw (← is) (length-take-le 16 (drop from s) (omega (arith, length-drop from s))), rw (← is, ← at, ← drop-drop 16 from s, take-append-drop 16 (drop from s)))
+identifier-shape false s from identifier next e =
+    let is : replicate 16 0 ≡ identifier = cc in
+    let at : from ≡ next = cc in
+    (rw (← is), rw (← at))
 
 head-canonical :
     (s : List ℕ) (at type number : ℕ) (carrier : Carrier) → Bytes s → s ≡ type ∷ number ∷ drop at s → carrierNumber carrier ≡ number → 1 ≤ type → type ≤ 12 →
     (m : Message) (n : ℕ) → behindHead type carrier s at ≡ took m n → Whole s m n
-unfolding behindHead inRange
+unfolding behindHead behindIdentified
 head-canonical s at type number carrier byte head is lo hi =
     let Q : Read Message → Type 0 = λ r. (m : Message) (n : ℕ) → r ≡ took m n → Whole s m n in
     let no : (x : Fault) → Q (refused x) = λ x m n e. absurd (never-took e) in
-    then-elim Q (identifierAt s at) _ no (λ identifier next ei.
-    then-elim Q (fieldsAt type s next) _ no (λ f behind ef.
+    then-elim Q (identifiedAt s at) _ no (λ identified from ed.
+    then-elim Q (identifierAt identified s from) _ no (λ identifier next ei.
+    then-elim Q (fieldsAt type carrier s next) _ no (λ f behind ef.
     λ m n e.
-    let i = take 16 (drop at s) in
-    let shape = identifier-shape s at identifier next ei in
-    let qm : messageWith carrier identifier s next f ≡ m = cc in
+    let M = messageWith carrier identified identifier s next f in
+    let I = identifierBytes identified identifier in
+    let F = fieldsOf M in
+    let qm : M ≡ m = cc in
     let qn : behind ≡ n = cc in
-    let w = fields-well type s next byte lo hi f behind ef in
-    let A = between s next (f .behindA) in
-    let B = between s (f .behindA) (f .behindB) in
-    let F = fieldBytes A B (f .body) in
-    let room = shape .0 in
-    let li : length identifier ≡ 16 = rw (← shape .1 .0) (length-take-le 16 (drop at s) (omega (arith, length-drop at s))) in
-    let rest : drop at s ≡ (identifier ++ F) ++ drop behind s =
-    sym (take-append-drop 16 (drop at s)) ∙ rw (shape .1 .0, drop-drop 16 at s, shape .1 .1) (ap (λ (t : List ℕ). identifier ++ t) (w .bytes)) ∙ sym (append-assoc identifier F (drop behind s)) in
-    let bytes : messageBytes (messageWith carrier identifier s next f) ≡ type ∷ number ∷ (identifier ++ F) = rw (message-bytes (messageWith carrier identifier s next f), w .typed, is) in
-    rw (← qm, ← qn) (record { formed = record { identifier = li; numberA = w .sixteenA; numberB = w .sixteenB }; ranged = w .ranged; whole = head ∙ rw bytes (ap (λ (t : List ℕ). type ∷ number ∷ t) rest) })))
+    let shape = identifier-shape identified s from identifier next ei in
+    let long = number-canonical s at (pick identified 16 0) from byte (identified-read s at identified from ed) in
+    let w = fields-well type carrier s next byte lo hi f behind ef in
+    let rest : drop at s ≡ (I ++ F) ++ drop behind s =
+    long .1 .1 ∙ shape .1 ∙ ap (λ (t : List ℕ). I ++ t) (w .bytes identified identifier) ∙ sym (append-assoc I F (drop behind s)) in
+    let bytes : messageBytes M ≡ type ∷ number ∷ (I ++ F) = rw (message-bytes M, w .typed, is) in
+    rw (← qm, ← qn)
+    (record {
+      formed = record { identifier = shape .0; numberA = w .sixteenA; numberB = w .sixteenB };
+      ranged = w .ranged identified identifier;
+      whole = head ∙ rw bytes (ap (λ (t : List ℕ). type ∷ number ∷ t) rest);
+    }))))
 
 pub canonical : (s : List ℕ) → Bytes s → (m : Message) (n : ℕ) → messageAt s ≡ took m n → Whole s m n
 unfolding messageAt

@@ -13,13 +13,13 @@ use Rattle.lists.specs.Words.{Bytes}
 use Rattle.lists.proofs.Choice.{no-true, pick-then}
 use Rattle.message.specs.Reading.{Read, took, refused}
 use Rattle.message.specs.Number.{digitsBytes, sixteen}
-use Rattle.message.specs.Format.{inRange, requestInRange, fieldsInRange, fieldBytes, requestBytes, messageBytes}
-use Rattle.message.specs.Equality.{digitsOf, numbersOf, withNumbers, normalNumber, Same, Formed, normal}
+use Rattle.message.specs.Format.{hasElements, writable, requestInRange, fieldsInRange, identifierBytes, fieldBytes, requestBytes, elementBytes, fieldsOf, messageBytes}
+use Rattle.message.specs.Equality.{digitsOf, numbersOf, forRequest, withNumbers, normalNumber, Same, Formed, normal}
 use Rattle.message.specs.Wire.{messageAt}
 use Rattle.message.specs.declared.Body.{Body}
 use Rattle.message.specs.declared.Body.the-variants.{CcbsRequest, CcnrRequest, RequestResult, RequestError, CcExecPossible, CcRingout, RingoutError, CcSuspend, CcResume, CcCancel, CallAlerts, CallFailed}
 use Rattle.message.specs.declared.Message.{Message}
-use Rattle.message.proofs.RangeLaws.{request-ranged, digits-length, fields-length, fieldsOf, message-bytes, message-length}
+use Rattle.message.proofs.RangeLaws.{request-ranged, elements-few, writable-elements, writable-fields, fields-most, identifier-few, message-length}
 use Rattle.writer.specs.Write.{putAt, room, messageWritten, messageBuffer}
 use Rattle.writer.specs.Claims.{Back, WrittenReadsBack, Canonical, ReadIsWritten, SameByBytes, BytesOfSame}
 use Rattle.writer.specs.declared.Written.{Written}
@@ -48,9 +48,10 @@ request-numbers a b service flags la lb ok =
 
 body-numbers :
     (a b : List ℕ) (body : Body) → length a ≡ 16 → length b ≡ 16 → fieldsInRange a b body ≡ true →
-    withNumbers body (digitsOf (normalNumber body a) ∷ digitsOf (normalNumber body b) ∷ []) [] ≡ withNumbers body (digitsOf a ∷ digitsOf b ∷ []) []
-body-numbers a b (CcbsRequest service flags) la lb ok = request-numbers a b service flags la lb ok
-body-numbers a b (CcnrRequest service flags) la lb ok = request-numbers a b service flags la lb ok
+    forRequest body (digitsOf (forRequest body (sixteen (digitsBytes a)) (replicate 16 0)) ∷ digitsOf (forRequest body (sixteen (digitsBytes b)) (replicate 16 0)) ∷ []) [] ≡
+    forRequest body (digitsOf a ∷ digitsOf b ∷ []) []
+body-numbers a b (CcbsRequest flags service) la lb ok = request-numbers a b service flags la lb ok
+body-numbers a b (CcnrRequest flags service) la lb ok = request-numbers a b service flags la lb ok
 body-numbers a b (RequestResult keep) la lb ok = refl
 body-numbers a b (RequestError error) la lb ok = refl
 body-numbers a b CcExecPossible la lb ok = refl
@@ -62,18 +63,44 @@ body-numbers a b CcCancel la lb ok = refl
 body-numbers a b CallAlerts la lb ok = refl
 body-numbers a b CallFailed la lb ok = refl
 
-same-normal : (m : Message) → Formed m → inRange m ≡ true → Same (normal m) m
-unfolding normal inRange
-same-normal m f ok = record { carrier = refl; identifier = refl; body = refl; numbers = body-numbers (m .numberA) (m .numberB) (m .body) (f .numberA) (f .numberB) ok }
+numbers-normal : (m : Message) → Formed m → writable m ≡ true → numbersOf (normal m) ≡ numbersOf m
+unfolding normal
+numbers-normal m f ok = go (hasElements (m .body) (m .carrier)) refl
+  where
+    go : (b : Bool) → hasElements (m .body) (m .carrier) ≡ b → numbersOf (normal m) ≡ numbersOf m
+    go true h =
+        let few = elements-few (m .numberA) (m .numberB) (m .service) (writable-elements m ok h .0) in
+        rw (h, digits-normal (m .numberA) (f .numberA) (few .0), digits-normal (m .numberB) (f .numberB) (few .1))
+    go false h = rw h (body-numbers (m .numberA) (m .numberB) (m .body) (f .numberA) (f .numberB) (writable-fields m ok h))
+
+same-normal : (m : Message) → Formed m → writable m ≡ true → Same (normal m) m
+unfolding normal
+same-normal m f ok =
+    record {
+      carrier = refl;
+      identified = refl;
+      identifier = λ h. rw h;
+      body = refl;
+      numbers = numbers-normal m f ok;
+      service = λ h. rw h;
+    }
 
 -- two messages with one normal form
 same-by : (m n : Message) → Same (normal m) m → Same (normal n) n → normal m ≡ normal n → Same m n
 same-by m n p q e =
+    let identified = ap (λ (x : Message). x .identified) e in
+    let has = ap (λ (x : Message). hasElements (x .body) (x .carrier)) e in
     record {
       carrier = sym (p .carrier) ∙ ap (λ (x : Message). x .carrier) e ∙ q .carrier;
-      identifier = sym (p .identifier) ∙ ap (λ (x : Message). x .identifier) e ∙ q .identifier;
+      identified = sym (p .identified) ∙ identified ∙ q .identified;
+      identifier = λ h.
+          let h′ = p .identified ∙ h in
+          sym (p .identifier h′) ∙ ap (λ (x : Message). x .identifier) e ∙ q .identifier (sym identified ∙ h′);
       body = sym (p .body) ∙ ap (λ (x : Message). x .body) e ∙ q .body;
       numbers = sym (p .numbers) ∙ ap numbersOf e ∙ q .numbers;
+      service = λ h.
+          let h′ : hasElements (normal m .body) (normal m .carrier) ≡ true = rw (p .body, p .carrier) h in
+          sym (p .service h′) ∙ ap (λ (x : Message). x .service) e ∙ q .service (sym has ∙ h′);
     }
 
 took-first : {A : Type 0} {v w : A} {n k : ℕ} → took v n ≡ took w k → v ≡ w
@@ -102,9 +129,9 @@ request-same a b c d service flags la lb lc ld ok ok′ e =
 
 body-same :
     (a b c d : List ℕ) (body : Body) → length a ≡ 16 → length b ≡ 16 → length c ≡ 16 → length d ≡ 16 → fieldsInRange a b body ≡ true → fieldsInRange c d body ≡ true →
-    withNumbers body (digitsOf a ∷ digitsOf b ∷ []) [] ≡ withNumbers body (digitsOf c ∷ digitsOf d ∷ []) [] → fieldBytes a b body ≡ fieldBytes c d body
-body-same a b c d (CcbsRequest service flags) la lb lc ld ok ok′ e = request-same a b c d service flags la lb lc ld ok ok′ e
-body-same a b c d (CcnrRequest service flags) la lb lc ld ok ok′ e = request-same a b c d service flags la lb lc ld ok ok′ e
+    forRequest body (digitsOf a ∷ digitsOf b ∷ []) [] ≡ forRequest body (digitsOf c ∷ digitsOf d ∷ []) [] → fieldBytes a b body ≡ fieldBytes c d body
+body-same a b c d (CcbsRequest flags service) la lb lc ld ok ok′ e = request-same a b c d service flags la lb lc ld ok ok′ e
+body-same a b c d (CcnrRequest flags service) la lb lc ld ok ok′ e = request-same a b c d service flags la lb lc ld ok ok′ e
 body-same a b c d (RequestResult keep) la lb lc ld ok ok′ e = refl
 body-same a b c d (RequestError error) la lb lc ld ok ok′ e = refl
 body-same a b c d CcExecPossible la lb lc ld ok ok′ e = refl
@@ -119,13 +146,47 @@ body-same a b c d CallFailed la lb lc ld ok ok′ e = refl
 fields-same :
     (a b c d : List ℕ) (body body′ : Body) → body ≡ body′ → length a ≡ 16 → length b ≡ 16 → length c ≡ 16 → length d ≡ 16 →
     fieldsInRange a b body ≡ true → fieldsInRange c d body′ ≡ true →
-    withNumbers body (digitsOf a ∷ digitsOf b ∷ []) [] ≡ withNumbers body′ (digitsOf c ∷ digitsOf d ∷ []) [] → fieldBytes a b body ≡ fieldBytes c d body′
+    forRequest body (digitsOf a ∷ digitsOf b ∷ []) [] ≡ forRequest body′ (digitsOf c ∷ digitsOf d ∷ []) [] → fieldBytes a b body ≡ fieldBytes c d body′
 fields-same a b c d body body′ h la lb lc ld ok ok′ e = rw (← h) (body-same a b c d body la lb lc ld ok (rw h ok′) (rw (← h) at e))
 
+elements-same :
+    (m n : Message) → Formed m → Formed n → writable m ≡ true → writable n ≡ true → Same m n → hasElements (m .body) (m .carrier) ≡ true → fieldsOf m ≡ fieldsOf n
+elements-same m n fm fn om on s h =
+    let h′ : hasElements (n .body) (n .carrier) ≡ true = rw (← s .body, ← s .carrier) h in
+    let few = elements-few (m .numberA) (m .numberB) (m .service) (writable-elements m om h .0) in
+    let few′ = elements-few (n .numberA) (n .numberB) (n .service) (writable-elements n on h′ .0) in
+    let e : _≡_ {A = List (List ℕ)} (digitsOf (m .numberA) ∷ digitsOf (m .numberB) ∷ []) (digitsOf (n .numberA) ∷ digitsOf (n .numberB) ∷ []) = rw (h, h′) at (s .numbers) in
+    let ea : digitsOf (m .numberA) ≡ digitsOf (n .numberA) = cc in
+    let eb : digitsOf (m .numberB) ≡ digitsOf (n .numberB) = cc in
+    rw (
+      h,
+      h′,
+      digits-same (m .numberA) (n .numberA) (fm .numberA) (fn .numberA) (few .0) (few′ .0) ea,
+      digits-same (m .numberB) (n .numberB) (fm .numberB) (fn .numberB) (few .1) (few′ .1) eb,
+      s .service h,
+    )
+
+behind-same : (m n : Message) → Formed m → Formed n → writable m ≡ true → writable n ≡ true → Same m n → fieldsOf m ≡ fieldsOf n
+behind-same m n fm fn om on s = go (hasElements (m .body) (m .carrier)) refl
+  where
+    go : (b : Bool) → hasElements (m .body) (m .carrier) ≡ b → fieldsOf m ≡ fieldsOf n
+    go true h = elements-same m n fm fn om on s h
+    go false h =
+        let h′ : hasElements (n .body) (n .carrier) ≡ false = rw (← s .body, ← s .carrier) h in
+        rw (h, h′)
+        (fields-same (m .numberA) (m .numberB) (n .numberA) (n .numberB) (m .body) (n .body) (s .body) (fm .numberA) (fm .numberB) (fn .numberA) (fn .numberB) (writable-fields m om h) (writable-fields n on h′) (rw (h, h′) at (s .numbers)))
+
+identifier-same : (b c : Bool) (i j : List ℕ) → b ≡ c → (b ≡ true → i ≡ j) → identifierBytes b i ≡ identifierBytes c j
+identifier-same b c i j e same = rw (← e) (go b same)
+  where
+    go : (b : Bool) → (b ≡ true → i ≡ j) → identifierBytes b i ≡ identifierBytes b j
+    go true same = ap (λ (t : List ℕ). 16 ∷ t) (same refl)
+    go false same = refl
+
 pub bytes-of-same : BytesOfSame
-unfolding messageBytes inRange
+unfolding messageBytes
 bytes-of-same m n fm fn om on s =
-    rw (fields-same (m .numberA) (m .numberB) (n .numberA) (n .numberB) (m .body) (n .body) (s .body) (fm .numberA) (fm .numberB) (fn .numberA) (fn .numberB) om on (s .numbers), s .carrier, s .identifier, s .body)
+    rw (behind-same m n fm fn om on s, identifier-same (m .identified) (n .identified) (m .identifier) (n .identifier) (s .identified) (s .identifier), s .carrier, s .body)
 
 -- ---- written and read
 put-back : (buffer bytes : List ℕ) (place : ℕ) → place + length bytes ≤ length buffer → drop place (putAt buffer place bytes) ≡ bytes ++ drop (place + length bytes) buffer
@@ -137,7 +198,7 @@ no-wrote e = let z : _≡_ {A = ℕ} 0 1 = cc in omega arith
 
 -- what a taken write says
 record Took-place (buffer : List ℕ) (place : ℕ) (m : Message) (n : ℕ) : Type 0 where
-  ranged : inRange m ≡ true
+  ranged : writable m ≡ true
   fits : place + length (messageBytes m) ≤ length buffer
   size : length (messageBytes m) ≡ n
   after : messageBuffer buffer place m ≡ putAt buffer place (messageBytes m)
@@ -145,14 +206,10 @@ record Took-place (buffer : List ℕ) (place : ℕ) (m : Message) (n : ℕ) : Ty
 took-place : (buffer : List ℕ) (place : ℕ) (m : Message) (n : ℕ) → messageWritten buffer place m ≡ Wrote n → Took-place buffer place m n
 unfolding messageWritten messageBuffer
 took-place buffer place m n e =
-    let p = pick-then (inRange m) _ (Refused 2) (Wrote n) no-wrote e in
+    let p = pick-then (writable m) _ (Refused 2) (Wrote n) no-wrote e in
     let q = pick-then (room buffer place (messageBytes m)) _ (Refused 12) (Wrote n) no-wrote (p .1) in
     let k = q .1 in
     record { ranged = p .0; fits = leb-true _ _ (q .0); size = cc; after = rw (p .0, q .0) }
-
-fields-most : (m : Message) → Formed m → inRange m ≡ true → length (fieldsOf m) ≤ 35
-unfolding inRange
-fields-most m f ok = fields-length (m .numberA) (m .numberB) (m .body) (f .numberA) (f .numberB) ok
 
 pub written-reads-back : WrittenReadsBack
 written-reads-back buffer place m n f e =
@@ -162,12 +219,13 @@ written-reads-back buffer place m n f e =
     let size : length bytes ≡ n = t .size in
     let stands : drop place (messageBuffer buffer place m) ≡ bytes ++ drop (place + length bytes) buffer = ap (λ (d : List ℕ). drop place d) (t .after) ∙ put-back buffer bytes place fits in
     let long = message-length m (f .identifier) in
-    let few = fields-most m f (t .ranged) in
+    let few = fields-most m (f .numberA) (f .numberB) (t .ranged) in
+    let head = identifier-few (m .identified) in
     record {
       read = rw stands (round-trip m (drop (place + length bytes) buffer) f (t .ranged) ∙ ap (λ (k : ℕ). took (normal m) k) size);
       equal = same-normal m f (t .ranged);
-      least = omega (arith, long, size);
-      most = omega (arith, long, size, few);
+      least = omega (arith, long, size, head);
+      most = omega (arith, long, size, few, head);
       within = omega (arith, fits, size);
       before = rw (t .after) (take-at (take place buffer) _ place (length-take-le place buffer (omega arith)));
       behind = sym (drop-drop n place (messageBuffer buffer place m)) ∙ rw (stands, ← size) (drop-append-seam bytes (drop (place + length bytes) buffer));

@@ -22,20 +22,24 @@ fn of_message(bytes: &[u8]) -> Option<Told> {
     told(read_message(bytes))
 }
 
-/// Type and carrier, sixteen bytes a0 to af, and the fields.
+/// Type and carrier, the length 16 and sixteen bytes a0 to af, and the fields.
 fn with_fields(type_number: u8, fields: &[u8]) -> Vec<u8> {
-    let mut bytes = vec![type_number, 1];
+    let mut bytes = vec![type_number, 1, 16];
     bytes.extend(0xA0..=0xAF);
     bytes.extend_from_slice(fields);
     bytes
 }
 
-/// numberA 1 2, numberB 3 0 0, service 300, flags 5: the places 18 to 20, 21 to
-/// 24, 25 and 26, 27.
+/// numberA 1 2, numberB 3 0 0, service 300, flags 5: the places 19 to 21, 22 to
+/// 25, 26 and 27, 28. Without the flags they are the elements of request 1.
 const FIELDS: [u8; 10] = [2, 1, 2, 3, 3, 0, 0, 0xAC, 0x02, 5];
+const ELEMENTS: [u8; 9] = [2, 1, 2, 3, 3, 0, 0, 0xAC, 0x02];
+
+/// The types that have elements in Setup, which is the carrier here.
+const WITH_ELEMENTS: [u8; 4] = [5, 6, 9, 10];
 
 /// A good message of each of the twelve types, each small field in each value,
-/// a request with a withheld numberA and the longest one.
+/// a withheld numberA and the longest fields; each with an identifier and without.
 fn good_messages() -> Vec<Vec<u8>> {
     let mut longest = vec![15];
     longest.extend([9; 15]);
@@ -46,11 +50,15 @@ fn good_messages() -> Vec<Vec<u8>> {
     for type_number in 1..=12 {
         let fields: Vec<&[u8]> = match type_number {
             1 | 2 => vec![&FIELDS, &[0, 1, 7, 0, 0], &longest],
+            5 | 6 | 9 | 10 => vec![&ELEMENTS, &[0, 1, 7, 0], &longest[..34]],
             3 => vec![&[0], &[1]],
             4 | 7 => vec![&[1], &[2]],
             _ => vec![&[]],
         };
-        messages.extend(fields.iter().map(|fields| with_fields(type_number, fields)));
+        for fields in fields {
+            messages.push([&[type_number, 1, 0], fields].concat());
+            messages.push(with_fields(type_number, fields));
+        }
     }
     messages
 }
@@ -119,7 +127,7 @@ fn trailing_garbage_is_no_fault_and_moves_none() {
             assert_eq!(read_message(&longer).map(|(_, rest)| rest), Ok(garbage));
         }
     }
-    assert_eq!(of_message(&[with_fields(3, &[2]), vec![0x80; 9]].concat()), Some((2, 18)));
+    assert_eq!(of_message(&[with_fields(3, &[2]), vec![0x80; 9]].concat()), Some((2, 19)));
     assert_eq!(of_message(&[13, 0x80, 0x80]), Some((2, 0)));
 }
 
@@ -152,16 +160,16 @@ fn every_type_tells_a_fault_of_its_carrier_at_1() {
 }
 
 #[test]
-fn keep_and_errors_are_at_18() {
+fn keep_and_errors_are_at_19() {
     for (type_number, good) in [(3, 0..=1), (4, 1..=2), (7, 1..=2)] {
         for value in 0..=127 {
-            let expected = if good.contains(&value) { None } else { Some((2, 18)) };
+            let expected = if good.contains(&value) { None } else { Some((2, 19)) };
             assert_eq!(of_message(&with_fields(type_number, &[value])), expected);
         }
-        assert_eq!(of_message(&with_fields(type_number, &[0x81, 0x01])), Some((2, 18)));
-        assert_eq!(of_message(&with_fields(type_number, &[0x81, 0x00])), Some((1, 18)));
-        assert_eq!(of_message(&with_fields(type_number, &[0x80, 0x80])), Some((1, 18)));
-        assert_eq!(of_message(&with_fields(type_number, &[0x81])), Some((1, 19)));
+        assert_eq!(of_message(&with_fields(type_number, &[0x81, 0x01])), Some((2, 19)));
+        assert_eq!(of_message(&with_fields(type_number, &[0x81, 0x00])), Some((1, 19)));
+        assert_eq!(of_message(&with_fields(type_number, &[0x80, 0x80])), Some((1, 19)));
+        assert_eq!(of_message(&with_fields(type_number, &[0x81])), Some((1, 20)));
     }
 }
 
@@ -175,26 +183,26 @@ fn changed(type_number: u8, place: usize, value: u8) -> Vec<u8> {
 #[test]
 fn a_requests_numbers_are_told_at_their_first_bytes() {
     for type_number in [1, 2] {
-        for (place, value) in [(18, 16), (21, 0), (21, 16), (27, 6), (27, 127)] {
+        for (place, value) in [(19, 16), (22, 0), (22, 16), (28, 6), (28, 127)] {
             assert_eq!(of_message(&changed(type_number, place, value)), Some((2, place)));
         }
         // 80 makes one number of two bytes: 80 01 for the length of numberA,
         // 80 03 for that of numberB, the end of the bytes for the flags.
-        assert_eq!(of_message(&changed(type_number, 18, 0x80)), Some((2, 18)));
-        assert_eq!(of_message(&changed(type_number, 21, 0x80)), Some((2, 21)));
-        assert_eq!(of_message(&changed(type_number, 27, 0x80)), Some((1, 28)));
+        assert_eq!(of_message(&changed(type_number, 19, 0x80)), Some((2, 19)));
+        assert_eq!(of_message(&changed(type_number, 22, 0x80)), Some((2, 22)));
+        assert_eq!(of_message(&changed(type_number, 28, 0x80)), Some((1, 29)));
         // The second byte is the fault, the first one is told.
-        assert_eq!(of_message(&changed(type_number, 26, 0)), Some((1, 25)));
-        assert_eq!(of_message(&changed(type_number, 26, 0x80)), Some((1, 25)));
+        assert_eq!(of_message(&changed(type_number, 27, 0)), Some((1, 26)));
+        assert_eq!(of_message(&changed(type_number, 27, 0x80)), Some((1, 26)));
         // A service of one byte, so that 02 is read as the flags and 05 is left.
-        assert_eq!(of_message(&changed(type_number, 25, 0x7F)), None);
+        assert_eq!(of_message(&changed(type_number, 26, 0x7F)), None);
     }
 }
 
 #[test]
 fn a_digit_over_9_is_told_at_its_byte() {
     for type_number in [1, 2] {
-        for place in [19, 20, 22, 23, 24] {
+        for place in [20, 21, 23, 24, 25] {
             for value in 10..=255 {
                 assert_eq!(of_message(&changed(type_number, place, value)), Some((2, place)));
                 assert_eq!(of_message(&changed(type_number, place, value)[..=place]), Some((2, place)));
@@ -206,22 +214,65 @@ fn a_digit_over_9_is_told_at_its_byte() {
 #[test]
 fn the_first_fault_from_the_left_is_told() {
     let mut bytes = with_fields(1, &FIELDS);
-    for (place, value) in [(27, 9), (26, 0), (23, 10), (21, 16), (20, 10), (18, 99), (1, 6), (0, 0)] {
+    for (place, value) in [(28, 9), (27, 0), (24, 10), (22, 16), (21, 10), (19, 99), (2, 17), (1, 6), (0, 0)] {
         bytes[place] = value;
-        let first = if place == 26 { 25 } else { place };
+        let first = if place == 27 { 26 } else { place };
         assert_eq!(of_message(&bytes).map(|(_, place)| place), Some(first));
     }
 }
 
 #[test]
 fn no_byte_of_an_identifier_is_a_fault() {
-    for bytes in good_messages() {
-        for place in 2..18 {
+    for bytes in good_messages().into_iter().filter(|bytes| bytes[2] == 16) {
+        for place in 3..19 {
             for value in 0..=255 {
                 let mut other = bytes.clone();
                 other[place] = value;
                 assert_eq!(of_message(&other), None);
             }
         }
+    }
+}
+
+#[test]
+fn the_identifiers_length_is_told_at_2() {
+    for type_number in 1..=12 {
+        for value in (1..=15).chain(17..=127) {
+            assert_eq!(of_message(&[type_number, 4, value]), Some((2, 2)));
+        }
+        // "`90 00` is 1 (not shortest), `80 01` is 2."
+        assert_eq!(of_message(&[type_number, 4, 0x90, 0x00]), Some((1, 2)));
+        assert_eq!(of_message(&[type_number, 4, 0x80, 0x00]), Some((1, 2)));
+        assert_eq!(of_message(&[type_number, 4, 0x80, 0x01]), Some((2, 2)));
+        assert_eq!(of_message(&[type_number, 4, 0x80, 0x80]), Some((1, 2)));
+        // "An identifier that is cut short has the slice's length."
+        assert_eq!(of_message(&[type_number, 4]), Some((1, 2)));
+        assert_eq!(of_message(&[type_number, 4, 0x90]), Some((1, 3)));
+        assert_eq!(of_message(&[type_number, 4, 16]), Some((1, 3)));
+        assert_eq!(of_message(&[type_number, 4, 16, 9, 9]), Some((1, 5)));
+    }
+}
+
+#[test]
+fn elements_are_told_as_a_requests_fields_are() {
+    for type_number in WITH_ELEMENTS {
+        let good = with_fields(type_number, &ELEMENTS);
+        for (place, value, told) in [
+            (19, 16, (2, 19)),
+            (20, 10, (2, 20)),
+            (22, 0, (2, 22)),
+            (22, 16, (2, 22)),
+            (25, 255, (2, 25)),
+            (27, 0, (1, 26)),
+            (27, 0x80, (1, 26)),
+        ] {
+            let mut bytes = good.clone();
+            bytes[place] = value;
+            assert_eq!(of_message(&bytes), Some(told));
+        }
+        // In another carrier the message ends behind the identifier.
+        let mut bytes = good.clone();
+        bytes[1] = 4;
+        assert_eq!(read_message(&bytes).map(|(_, rest)| rest), Ok(&ELEMENTS[..]));
     }
 }

@@ -1,6 +1,7 @@
 //! The rows of both desks, listed as a table in document 01's words.
 
 use super::expected_codec;
+use super::meaning::{BY_FIT, BY_IDENTIFIER, BY_PLACE};
 
 /// A completed row: a state, an input, what is done.
 struct Done {
@@ -69,7 +70,10 @@ const BOTH_CANCEL: [&str; 2] = ["Setup", "Release Complete"];
 
 const TO_LINE: [&str; 5] = ["ccbsRequest", "ccnrRequest", "ccRingout", "ccSuspend", "ccResume"];
 
-const TO_CLERK: [&str; 9] = [
+/// What reaches a live record at the line desk.
+pub const TO_LINE_RECORDS: [&str; 4] = ["ccRingout", "ccSuspend", "ccResume", "ccCancel"];
+
+pub const TO_CLERK: [&str; 9] = [
     "result keep 0",
     "result keep 1",
     "request error short",
@@ -207,6 +211,19 @@ fn has_row(rows: &[Done], state: &str, content: &str) -> bool {
     rows.iter().any(|row| row.state == state && row.input.starts_with(&start))
 }
 
+/// Request 1: types 5, 6, 9 and 10 in Setup, at the end that they are for.
+const CLERK_FITTED: [&str; 2] = ["ccExecPossible", "ccCancel"];
+const LINE_FITTED: [&str; 3] = ["ccRingout", "ccResume", "ccCancel"];
+
+/// How a message can be found to be about a record in this state, or about none.
+fn hows(fitted: &[&str], state: &str, content: &str, carrier: &str) -> &'static [&'static str] {
+    match (carrier == "Setup" && fitted.contains(&content), state) {
+        (true, "no record") => &[BY_FIT],
+        (true, _) => &[BY_IDENTIFIER, BY_FIT],
+        (false, _) => &[BY_IDENTIFIER, BY_PLACE],
+    }
+}
+
 /// "Messages: 2, 3, 6, 7, 8" and the replies of M3.
 fn clerk_refusal(rows: &[Done], state: &str, content: &str, carrier: &str) -> String {
     let reply = ", reply ccCancel in Release Complete";
@@ -231,7 +248,9 @@ fn clerk_message_rows(names: &mut Vec<String>, rows: &[Done]) {
                     let input = format!("{content} in {carrier}{suffix}");
                     let refusal = clerk_refusal(rows, &state, content, carrier);
                     let outcome = find(rows, &state, &input).unwrap_or(&refusal);
-                    names.push(format!("clerk: {state}: {input}: {outcome}"));
+                    for how in hows(&CLERK_FITTED, &state, content, carrier) {
+                        names.push(format!("clerk: {state}: {content} in {carrier} {how}{suffix}: {outcome}"));
+                    }
                 }
             }
         }
@@ -254,10 +273,38 @@ fn clerk_act_rows(names: &mut Vec<String>, rows: &[Done]) {
         for (input, refusal) in acts.iter() {
             let refusal = if state == "no record" { "refusal 6" } else { refusal };
             let outcome = find(rows, &state, input).unwrap_or(refusal);
-            names.push(format!("clerk: {state}: {input}: {outcome}"));
+            for how in [BY_IDENTIFIER, BY_PLACE] {
+                names.push(format!("clerk: {state}: {input} {how}: {outcome}"));
+            }
         }
     }
 }
+
+/// Asks that are refused, and what stands on the edges of those that are taken.
+const ASK_FAULTS_AND_EDGES: [&str; 22] = [
+    "numberA has over 15 digits: refusal 2",
+    "numberA has a digit over 9: refusal 2",
+    "numberB has no digits: refusal 2",
+    "numberB has over 15 digits: refusal 2",
+    "numberB has a digit over 9: refusal 2",
+    "service over 16383: refusal 2",
+    "preference over 2: refusal 2",
+    "identifier live, desk not full: refusal 4",
+    "identifier live, desk full: refusal 4",
+    "identifier not live, desk full: refusal 5",
+    "no identifier, desk full: refusal 5",
+    "numberA of 15 digits: taken",
+    "numberA of 16 digits: refusal 2",
+    "numberB of 15 digits: taken",
+    "numberB of 16 digits: refusal 2",
+    "service 16383: taken",
+    "service 16384: refusal 2",
+    "preference 2: taken",
+    "preference 3: refusal 2",
+    "the desk has 15: taken",
+    "the desk has 16: refusal 5",
+    "no identifier, a record is alike in all: taken",
+];
 
 fn ask_rows(names: &mut Vec<String>) {
     for (kind, sent) in [("CCBS", "ccbsRequest"), ("CCNR", "ccnrRequest")].iter() {
@@ -266,37 +313,15 @@ fn ask_rows(names: &mut Vec<String>) {
                 for preference in 0..=2 {
                     let choices = format!("can-keep {can_keep}, preference {preference}");
                     let outcome = format!("Wait-Ack, sends {sent} in Setup, starts T1");
-                    names.push(format!("clerk: ask: {kind}, numberA {number_a}, {choices}: {outcome}"));
+                    for named in ["an identifier", "no identifier"] {
+                        let input = format!("{named}, {kind}, numberA {number_a}, {choices}");
+                        names.push(format!("clerk: ask: {input}: {outcome}"));
+                    }
                 }
             }
         }
     }
-    let faults = [
-        "numberA has over 15 digits: refusal 2",
-        "numberA has a digit over 9: refusal 2",
-        "numberB has no digits: refusal 2",
-        "numberB has over 15 digits: refusal 2",
-        "numberB has a digit over 9: refusal 2",
-        "service over 16383: refusal 2",
-        "preference over 2: refusal 2",
-        "identifier live, desk not full: refusal 4",
-        "identifier live, desk full: refusal 4",
-        "identifier not live, desk full: refusal 5",
-    ];
-    names.extend(faults.iter().map(|fault| format!("clerk: ask: {fault}")));
-    let edges = [
-        "numberA of 15 digits: taken",
-        "numberA of 16 digits: refusal 2",
-        "numberB of 15 digits: taken",
-        "numberB of 16 digits: refusal 2",
-        "service 16383: taken",
-        "service 16384: refusal 2",
-        "preference 2: taken",
-        "preference 3: refusal 2",
-        "the desk has 15: taken",
-        "the desk has 16: refusal 5",
-    ];
-    names.extend(edges.iter().map(|edge| format!("clerk: ask: {edge}")));
+    names.extend(ASK_FAULTS_AND_EDGES.iter().map(|row| format!("clerk: ask: {row}")));
 }
 
 /// "Records stand compact .. a delete closes the gap" (READINGS 19).
@@ -448,7 +473,7 @@ fn line_refusal(rows: &[Done], state: &str, content: &str) -> String {
 }
 
 fn line_message_rows(names: &mut Vec<String>, rows: &[Done]) {
-    let contents = || TO_CLERK.iter().chain(["ccRingout", "ccSuspend", "ccResume", "ccCancel"].iter());
+    let contents = || TO_CLERK.iter().chain(TO_LINE_RECORDS.iter());
     for state in line_states() {
         for content in contents() {
             for carrier in CARRIERS.iter() {
@@ -456,7 +481,9 @@ fn line_message_rows(names: &mut Vec<String>, rows: &[Done]) {
                     let input = format!("{content} in {carrier}{suffix}");
                     let refusal = line_refusal(rows, &state, content);
                     let outcome = find(rows, &state, &input).unwrap_or(&refusal);
-                    names.push(format!("line: {state}: {input}: {outcome}"));
+                    for how in hows(&LINE_FITTED, &state, content, carrier) {
+                        names.push(format!("line: {state}: {content} in {carrier} {how}{suffix}: {outcome}"));
+                    }
                 }
             }
         }
@@ -468,7 +495,9 @@ fn line_act_rows(names: &mut Vec<String>, rows: &[Done]) {
         for input in ["act alerted", "act call failed", "act cancel", "guard runs out", "the connection fell"].iter() {
             let refusal = if state == "no record" { "refusal 6" } else { "refusal 7" };
             let outcome = find(rows, &state, input).unwrap_or(refusal);
-            names.push(format!("line: {state}: {input}: {outcome}"));
+            for how in [BY_IDENTIFIER, BY_PLACE] {
+                names.push(format!("line: {state}: {input} {how}: {outcome}"));
+            }
         }
     }
 }

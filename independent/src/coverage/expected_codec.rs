@@ -19,6 +19,9 @@ const TYPES: [&str; 12] = [
 
 const REQUESTS: [&str; 2] = ["ccbsRequest", "ccnrRequest"];
 
+/// Request 1: these have numberA, numberB and service in Setup.
+const WITH_ELEMENTS: [&str; 4] = ["ccExecPossible", "ccRingout", "ccResume", "ccCancel"];
+
 const CONTENTS: [&str; 15] = [
     "ccbsRequest",
     "ccnrRequest",
@@ -87,6 +90,8 @@ pub fn faults() -> Vec<String> {
     number_faults(&mut rows, "type", 1, Some(12));
     for type_name in TYPES.iter() {
         field_faults(&mut rows, type_name, "carrier", 1, Some(5));
+        field_faults(&mut rows, type_name, "identifier's length", 0, Some(16));
+        rows.push(format!("{type_name}: identifier's length: is 1 to 15: {RANGE_FAULT}"));
         for place in 1..=16 {
             rows.push(format!("{type_name}: identifier: bytes end before byte {place}: {ENDED}"));
         }
@@ -94,12 +99,14 @@ pub fn faults() -> Vec<String> {
     field_faults(&mut rows, "result", "keep", 0, Some(1));
     field_faults(&mut rows, "request error", "error", 1, Some(2));
     field_faults(&mut rows, "ringout error", "error", 1, Some(2));
-    for type_name in REQUESTS.iter() {
+    for type_name in REQUESTS.iter().chain(WITH_ELEMENTS.iter()) {
         field_faults(&mut rows, type_name, "count of numberA", 0, Some(15));
         digits_faults(&mut rows, type_name, "numberA");
         field_faults(&mut rows, type_name, "count of numberB", 1, Some(15));
         digits_faults(&mut rows, type_name, "numberB");
         field_faults(&mut rows, type_name, "service", 0, None);
+    }
+    for type_name in REQUESTS.iter() {
         field_faults(&mut rows, type_name, "flags", 0, Some(5));
     }
     rows
@@ -116,10 +123,11 @@ fn refused_in_rooms(rows: &mut Vec<String>) {
 fn good_messages(rows: &mut Vec<String>) {
     for content in CONTENTS.iter() {
         for carrier in CARRIERS.iter() {
-            rows.push(format!("{content} in {carrier}: written"));
+            rows.push(format!("{content} in {carrier}, an identifier: written"));
+            rows.push(format!("{content} in {carrier}, no identifier: written"));
         }
     }
-    for type_name in REQUESTS.iter() {
+    for type_name in REQUESTS.iter().chain(WITH_ELEMENTS.iter()) {
         for count in 0..=15 {
             rows.push(format!("{type_name}: numberA of {count} digits: written"));
         }
@@ -129,6 +137,8 @@ fn good_messages(rows: &mut Vec<String>) {
         for service in ["0", "1 to 126", "127", "128", "129 to 16382", "16383"].iter() {
             rows.push(format!("{type_name}: service {service}: written"));
         }
+    }
+    for type_name in REQUESTS.iter() {
         for flags in 0..=5 {
             rows.push(format!("{type_name}: flags {flags}: written"));
         }
@@ -154,7 +164,7 @@ fn rooms(rows: &mut Vec<String>) {
         rows.push(format!("{type_name}: place at the end: refusal 12"));
         rows.push(format!("{type_name}: place past the end: refusal 12"));
     }
-    for length in [18, 53].iter() {
+    for length in [3, 53, 54].iter() {
         rows.push(format!("{length} bytes into {length} bytes of room: written"));
         rows.push(format!("{length} bytes into {} bytes of room: refusal 12", length - 1));
     }

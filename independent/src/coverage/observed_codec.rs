@@ -4,7 +4,7 @@
 //! The first fault and its place are found here by a walk of its own, and not by
 //! the reader; the outcome in the name is the reader's and the writer's.
 
-use crate::codec::{read_message, Content, RequestFields};
+use crate::codec::{read_message, Content, Elements};
 use crate::script::Answer;
 
 fn type_name(number: u32) -> &'static str {
@@ -88,7 +88,18 @@ impl Walk<'_> {
         self.number(lowest, highest).map_err(|found| found.of(name))
     }
 
+    /// Request 1: "a number 0 or 16 (how long the identifier is; any other is 2 at
+    /// that number), the identifier".
     fn identifier(&mut self) -> Result<(), Found> {
+        let before = self.walked;
+        let length = self.field("identifier's length", 0, 16)?;
+        if length == 0 {
+            return Ok(());
+        }
+        if length < 16 {
+            self.walked = before;
+            return Err(self.faulty("is 1 to 15", AT_NUMBER).of("identifier's length"));
+        }
         let there = self.rest().len();
         if there < 16 {
             return Err(self.ended(&format!("identifier: bytes end before byte {}", there + 1)));
@@ -109,17 +120,22 @@ impl Walk<'_> {
         Ok(())
     }
 
+    fn elements(&mut self) -> Result<(), Found> {
+        self.digits("numberA", 0)?;
+        self.digits("numberB", 1)?;
+        self.field("service", 0, 16383).map(|_| ())
+    }
+
     /// What stands behind the type.
     fn behind_type(&mut self, number: u32) -> Result<(), Found> {
-        self.field("carrier", 1, 5)?;
+        let carrier = self.field("carrier", 1, 5)?;
         self.identifier()?;
         match number {
             1 | 2 => {
-                self.digits("numberA", 0)?;
-                self.digits("numberB", 1)?;
-                self.field("service", 0, 16383)?;
+                self.elements()?;
                 self.field("flags", 0, 5)?;
             }
+            5 | 6 | 9 | 10 if carrier == 1 => self.elements()?,
             3 => {
                 self.field("keep", 0, 1)?;
             }
@@ -174,15 +190,14 @@ fn service_class(service: u32) -> &'static str {
     }
 }
 
-fn request_names(name: &str, fields: &RequestFields) -> Vec<String> {
+fn element_names(name: &str, elements: &Elements) -> Vec<String> {
     let mut names = vec![
-        format!("{name}: numberA of {} digits", fields.number_a.len()),
-        format!("{name}: numberB of {} digits", fields.number_b.len()),
-        format!("{name}: service {}", service_class(fields.service)),
-        format!("{name}: flags {}", fields.flags),
+        format!("{name}: numberA of {} digits", elements.number_a.len()),
+        format!("{name}: numberB of {} digits", elements.number_b.len()),
+        format!("{name}: service {}", service_class(elements.service)),
     ];
-    names.extend(fields.number_a.iter().map(|digit| format!("numberA has the digit {digit}")));
-    names.extend(fields.number_b.iter().map(|digit| format!("numberB has the digit {digit}")));
+    names.extend(elements.number_a.iter().map(|digit| format!("numberA has the digit {digit}")));
+    names.extend(elements.number_b.iter().map(|digit| format!("numberB has the digit {digit}")));
     names
 }
 
@@ -190,10 +205,14 @@ fn written_names(bytes: &[u8], name: &str) -> Vec<String> {
     let Ok((message, rest)) = read_message(bytes) else {
         return vec!["written and not read".to_string()];
     };
-    let mut names = vec![format!("{} in {}", message.content.name(), message.carrier.name())];
+    let named = if message.identifier.is_some() { "an identifier" } else { "no identifier" };
+    let mut names = vec![format!("{} in {}, {named}", message.content.name(), message.carrier.name())];
     if let Content::CcbsRequest(fields) | Content::CcnrRequest(fields) = &message.content {
-        names.extend(request_names(name, fields));
+        let (number_a, number_b) = (fields.number_a.clone(), fields.number_b.clone());
+        names.extend(element_names(name, &Elements { number_a, number_b, service: fields.service }));
+        names.push(format!("{name}: flags {}", fields.flags));
     }
+    names.extend(message.elements.iter().flat_map(|elements| element_names(name, elements)));
     if !rest.is_empty() {
         names.push(format!("{name}: bytes follow the message"));
     }
@@ -212,7 +231,7 @@ fn room_names(name: &str, length: usize, place: usize, size: usize) -> Vec<Strin
         _ if room + 1 == length => format!("{name}: {at}, one byte short"),
         _ => format!("{name}: more than one byte short"),
     }];
-    if matches!(length, 18 | 53) && (room == length || room + 1 == length) {
+    if matches!(length, 3 | 53 | 54) && (room == length || room + 1 == length) {
         names.push(format!("{length} bytes into {room} bytes of room"));
     }
     names
@@ -240,7 +259,7 @@ fn refused_names(bytes: &[u8], room: Option<usize>, answer: &Answer) -> Vec<Stri
     let mut names = vec![fault_name(bytes, *refusal, *fault_place)];
     match room {
         None => names.push(format!("bytes refused, place past the end: refusal {refusal}")),
-        Some(0..=17) => names.push(format!("bytes refused, room for no message: refusal {refusal}")),
+        Some(0..=2) => names.push(format!("bytes refused, room for no message: refusal {refusal}")),
         Some(_) => {}
     }
     names

@@ -1,63 +1,113 @@
 //! The rows of `stop N`, which only a script's end can reach: "Where the script
 //! ends inside an entry, or an entry has a code or a choice not listed here".
+//!
+//! The entries' layouts are stated here a second time, and walked over.
 
-use crate::script::take_entry;
+/// A field of an entry.
+#[derive(Clone, Copy)]
+enum Field {
+    /// Any byte.
+    Byte,
+    /// "a byte L and then L bytes".
+    Counted,
+    /// "a byte 0 or 16 .. and so many bytes".
+    Identifier,
+    /// A byte from one value to another.
+    Choice(&'static str, u8, u8),
+    /// "count C, C times (digits, kinds ..)".
+    Lines,
+}
+
+use Field::{Byte, Choice, Counted, Identifier, Lines};
 
 /// The codes of entries that have fields.
-const WITH_FIELDS: [u8; 15] = [1, 16, 17, 18, 19, 20, 21, 22, 32, 33, 34, 35, 36, 37, 48];
+const LAYOUTS: [(u8, &[Field]); 15] = [
+    (1, &[Lines, Choice("settings", 0, 3)]),
+    (16, &[Identifier, Choice("kind", 1, 2), Counted, Counted, Byte, Byte, Choice("can-keep", 0, 1), Byte]),
+    (17, &[Choice("User A busy", 0, 1), Byte, Counted]),
+    (18, &[Identifier, Byte]),
+    (19, &[Identifier, Byte, Choice("resume or recall", 0, 1)]),
+    (20, &[Identifier, Byte]),
+    (21, &[Identifier, Byte, Choice("timer", 1, 3)]),
+    (22, &[Identifier, Byte]),
+    (32, &[Byte, Counted]),
+    (33, &[Counted, Choice("busy or free", 0, 1)]),
+    (34, &[Counted]),
+    (35, &[Identifier, Byte, Choice("act", 1, 3)]),
+    (36, &[Identifier, Byte]),
+    (37, &[Identifier, Byte]),
+    (48, &[Counted, Byte, Byte]),
+];
+
+const KINDS: &str = "kinds";
+const LENGTH: &str = "identifier's length";
+
+fn choice_of(field: &Field) -> Option<&'static str> {
+    match field {
+        Identifier => Some(LENGTH),
+        Choice(name, _, _) => Some(name),
+        Lines => Some(KINDS),
+        Byte | Counted => None,
+    }
+}
 
 pub fn rows() -> Vec<String> {
     let mut rows = vec!["stop: code not listed".to_string()];
-    rows.extend(WITH_FIELDS.iter().map(|code| format!("stop: code {code}: the script ends inside")));
-    let choices = ["1: kinds", "1: settings", "16: kind", "16: can-keep", "17: User A busy", "19: resume or recall"];
-    let more = ["21: timer", "33: busy or free", "35: act"];
-    rows.extend(choices.iter().chain(more.iter()).map(|choice| format!("stop: code {choice} not listed")));
+    for (code, fields) in LAYOUTS {
+        rows.push(format!("stop: code {code}: the script ends inside"));
+        let choices = fields.iter().filter_map(choice_of);
+        rows.extend(choices.map(|choice| format!("stop: code {code}: {choice} not listed")));
+    }
     rows
 }
 
-/// More than the longest entry takes: a start with 255 lines of 255 digits.
-const PLENTY: usize = 257 * 255 + 3;
-
-/// True where enough bytes of 1, which is a choice everywhere, make an entry.
-fn can_go_on(bytes: &[u8]) -> bool {
-    let mut longer = bytes.to_vec();
-    longer.resize(bytes.len() + PLENTY, 1);
-    take_entry(&longer).is_some()
+/// Why an entry can't be read: it ends, or a choice isn't listed.
+enum Stop {
+    Ends,
+    NotListed(&'static str),
 }
 
-/// The name of a stop: `rest` is not empty and no entry.
-pub fn name(rest: &[u8]) -> String {
-    let code = rest.first().copied().unwrap_or(0);
-    if !can_go_on(rest.get(..1).unwrap_or(rest)) {
-        return "stop: code not listed".to_string();
-    }
-    if can_go_on(rest) {
-        return format!("stop: code {code}: the script ends inside");
-    }
-    // Halving finds the byte that is no choice: all before it can go on.
-    let (mut good, mut bad) = (1, rest.len());
-    while bad - good > 1 {
-        let middle = (good + bad) / 2;
-        if can_go_on(rest.get(..middle).unwrap_or(rest)) {
-            good = middle;
-        } else {
-            bad = middle;
+fn skip(bytes: &[u8], count: usize) -> Result<&[u8], Stop> {
+    bytes.get(count..).ok_or(Stop::Ends)
+}
+
+fn first(bytes: &[u8]) -> Result<(u8, &[u8]), Stop> {
+    bytes.split_first().map(|(first, rest)| (*first, rest)).ok_or(Stop::Ends)
+}
+
+fn walk(field: Field, bytes: &[u8]) -> Result<&[u8], Stop> {
+    let (value, mut rest) = first(bytes)?;
+    match field {
+        Byte => Ok(rest),
+        Counted => skip(rest, value.into()),
+        Identifier if matches!(value, 0 | 16) => skip(rest, value.into()),
+        Identifier => Err(Stop::NotListed(LENGTH)),
+        Choice(_, lowest, highest) if (lowest..=highest).contains(&value) => Ok(rest),
+        Choice(name, _, _) => Err(Stop::NotListed(name)),
+        Lines => {
+            for _ in 0..value {
+                rest = walk(Counted, rest)?;
+                rest = walk(Choice(KINDS, 0, 3), rest)?;
+            }
+            Ok(rest)
         }
     }
-    let mut mended = rest.get(..good).unwrap_or(rest).to_vec();
-    mended.push(1);
-    let last = take_entry(&mended).is_some();
-    let choice = match code {
-        1 if last => "settings",
-        1 => "kinds",
-        16 if good == 17 => "kind",
-        16 => "can-keep",
-        17 => "User A busy",
-        19 => "resume or recall",
-        21 => "timer",
-        33 => "busy or free",
-        35 => "act",
-        _ => "choice",
+}
+
+/// The name of a stop: `rest` is not empty and no entry. What this walk can read
+/// makes a name that is not listed.
+pub fn name(rest: &[u8]) -> String {
+    let code = rest.first().copied().unwrap_or(0);
+    let Some((_, fields)) = LAYOUTS.iter().find(|(listed, _)| *listed == code) else {
+        return "stop: code not listed".to_string();
     };
-    format!("stop: code {code}: {choice} not listed")
+    let mut bytes = rest.get(1..).unwrap_or(&[]);
+    for field in *fields {
+        match walk(*field, bytes) {
+            Ok(behind) => bytes = behind,
+            Err(Stop::Ends) => return format!("stop: code {code}: the script ends inside"),
+            Err(Stop::NotListed(choice)) => return format!("stop: code {code}: {choice} not listed"),
+        }
+    }
+    format!("stop: code {code}: nothing is wrong")
 }

@@ -40,12 +40,13 @@ impl EmptyDesk {
 }
 
 pub fn at_clerk(scripts: &mut Scripts) {
-    let hand_in = |bytes: &[u8]| to_clerk(false, bytes);
+    let hand_in = |bytes: &[u8]| to_clerk(false, 0, bytes);
     EmptyDesk { start: vec![START_CLERK], hand_in, print: PRINT_CLERK }.add_all(scripts);
 }
 
 /// Without lines every request gets a long error, which stores nothing.
 pub fn at_line(scripts: &mut Scripts) {
     let no_lines: [(&[u8], u8); 0] = [];
-    EmptyDesk { start: start_line(&no_lines, 0), hand_in: to_line, print: PRINT_LINE }.add_all(scripts);
+    let hand_in = |bytes: &[u8]| to_line(0, bytes);
+    EmptyDesk { start: start_line(&no_lines, 0), hand_in, print: PRINT_LINE }.add_all(scripts);
 }

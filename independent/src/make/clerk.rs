@@ -1,16 +1,16 @@
 //! Directed scripts for the clerk's desk.
 
 use super::{
-    bad_input, bytes_of, contents_without_requests, damaged, request_content, requests_on_edges, spread_identifier,
-    to_clerk, with_choice, with_identifier, AskEntry, Case, Scripts, ACCEPT, FELL_AT_CLERK, TIMER, USER_A_FREE,
-    USER_CANCELS,
+    bad_input, bytes_of, clerk_meant, contents_without_requests, damaged, elements, request_content, requests_on_edges,
+    spread_identifier, to_clerk, with_choice, with_name, AskEntry, Case, Scripts, Who, ACCEPT, FELL_AT_CLERK, TIMER,
+    USER_A_FREE, USER_CANCELS,
 };
 use crate::codec::{Carrier, Content, Identifier};
 use crate::outcome::{Connection, Kind};
 
 /// How a record comes to its state: each state, by each road that leads there.
 #[derive(Clone, Copy, PartialEq)]
-enum Road {
+pub enum Road {
     NoRecord,
     WaitAck,
     Invoked,
@@ -37,12 +37,12 @@ const ACKNOWLEDGED_ROADS: [Road; 8] = [
 /// What is chosen for a record: can-keep as sent, keep as answered, the
 /// connection as answered; whether the connection falls behind the answer.
 #[derive(Clone, Copy)]
-struct Choices {
-    kind: Kind,
-    can_keep: bool,
-    keep: u32,
-    connection: Connection,
-    down: bool,
+pub struct Choices {
+    pub kind: Kind,
+    pub can_keep: bool,
+    pub keep: u32,
+    pub connection: Connection,
+    pub down: bool,
 }
 
 fn all_choices() -> Vec<Choices> {
@@ -56,49 +56,55 @@ fn all_choices() -> Vec<Choices> {
     choices
 }
 
-const NUMBER_A: [u8; 3] = [2, 0, 1];
-const NUMBER_B: [u8; 2] = [7, 5];
+pub const NUMBER_A: [u8; 3] = [2, 0, 1];
+pub const NUMBER_B: [u8; 2] = [7, 5];
+pub const SERVICE: u16 = 300;
 
-fn ask(identifier: Identifier, choices: Choices) -> Vec<u8> {
+fn ask(who: Who, choices: Choices) -> Vec<u8> {
     let withheld = choices.keep == 1 && choices.connection == Connection::Rls;
     AskEntry {
-        identifier,
+        identifier: who.identifier,
         kind: choices.kind,
         number_a: if withheld { &[] } else { &NUMBER_A },
         number_b: &NUMBER_B,
-        service: 300,
+        service: SERVICE,
         can_keep: choices.can_keep,
         preference: 0,
     }
     .bytes()
 }
 
-fn hand_in(carrier: Carrier, identifier: Identifier, content: Content) -> Vec<u8> {
-    to_clerk(false, &bytes_of(carrier, identifier, content))
+/// A message's bytes, its elements those of `ask`.
+fn message(carrier: Carrier, who: Who, content: Content) -> Vec<u8> {
+    bytes_of(carrier, who.identifier, content, &elements(&NUMBER_A, &NUMBER_B, SERVICE.into()))
 }
 
-fn result(identifier: Identifier, choices: Choices) -> Vec<u8> {
+pub fn hand_in(carrier: Carrier, who: Who, content: Content) -> Vec<u8> {
+    to_clerk(false, who.place, &message(carrier, who, content))
+}
+
+pub fn result(who: Who, choices: Choices) -> Vec<u8> {
     let carrier = match choices.connection {
         Connection::Ret => Carrier::Connect,
         Connection::Rls => Carrier::ReleaseComplete,
     };
-    hand_in(carrier, identifier, Content::RequestResult { keep: choices.keep })
+    hand_in(carrier, who, Content::RequestResult { keep: choices.keep })
 }
 
 /// In the carrier that the other end sends by, which has seen the fall too.
-fn offer(identifier: Identifier, choices: Choices, user_a_busy: bool) -> Vec<u8> {
+fn offer(who: Who, choices: Choices, user_a_busy: bool) -> Vec<u8> {
     let carrier = choices.connection.for_sending(choices.down).facility_or_setup();
-    to_clerk(user_a_busy, &bytes_of(carrier, identifier, Content::CcExecPossible))
+    to_clerk(user_a_busy, who.place, &message(carrier, who, Content::CcExecPossible))
 }
 
 /// The steps behind the acknowledgment that make up a road.
-fn road_behind_acknowledgment(road: Road, identifier: Identifier, choices: Choices) -> Vec<Vec<u8>> {
-    let recall = offer(identifier, choices, false);
-    let suspend = offer(identifier, choices, true);
-    let resume = with_choice(USER_A_FREE, identifier, 0);
-    let go_on = with_choice(USER_A_FREE, identifier, 1);
-    let accept = with_identifier(ACCEPT, identifier);
-    let again = hand_in(Carrier::ReleaseComplete, identifier, Content::RingoutError { error: 1 });
+pub fn road_behind_acknowledgment(road: Road, who: Who, choices: Choices) -> Vec<Vec<u8>> {
+    let recall = offer(who, choices, false);
+    let suspend = offer(who, choices, true);
+    let resume = with_choice(USER_A_FREE, who, 0);
+    let go_on = with_choice(USER_A_FREE, who, 1);
+    let accept = with_name(ACCEPT, who);
+    let again = hand_in(Carrier::ReleaseComplete, who, Content::RingoutError { error: 1 });
     match road {
         Road::NoRecord | Road::WaitAck | Road::Invoked => vec![],
         Road::InvokedAfterResume => vec![suspend, resume],
@@ -111,25 +117,25 @@ fn road_behind_acknowledgment(road: Road, identifier: Identifier, choices: Choic
     }
 }
 
-fn drive(case: &mut Case, road: Road, identifier: Identifier, choices: Choices) {
+pub fn drive(case: &mut Case, road: Road, who: Who, choices: Choices) {
     if road == Road::NoRecord {
         return;
     }
-    case.step(&ask(identifier, choices));
+    case.step(&ask(who, choices));
     if road == Road::WaitAck {
         return;
     }
-    case.step(&result(identifier, choices));
+    case.step(&result(who, choices));
     if choices.down {
-        case.step(&with_identifier(FELL_AT_CLERK, identifier));
+        case.step(&with_name(FELL_AT_CLERK, who));
     }
-    for entry in road_behind_acknowledgment(road, identifier, choices) {
+    for entry in road_behind_acknowledgment(road, who, choices) {
         case.step(&entry);
     }
 }
 
 /// Every message type in every carrier, User A busy and not busy.
-fn message_inputs(identifier: Identifier) -> Vec<Vec<u8>> {
+fn message_inputs(who: Who) -> Vec<Vec<u8>> {
     let mut contents = contents_without_requests();
     contents.push(request_content(Kind::Ccbs, &NUMBER_A, &NUMBER_B, 300, 1));
     contents.push(request_content(Kind::Ccnr, &[], &NUMBER_B, 0, 4));
@@ -137,47 +143,90 @@ fn message_inputs(identifier: Identifier) -> Vec<Vec<u8>> {
     for content in contents {
         for carrier in Carrier::ALL.iter() {
             for busy in [false, true].iter() {
-                inputs.push(to_clerk(*busy, &bytes_of(*carrier, identifier, content.clone())));
+                inputs.push(to_clerk(*busy, who.place, &message(*carrier, who, content.clone())));
             }
         }
     }
     inputs
 }
 
-/// Every act, every timer, the fallen connection, asks with the same and with
-/// another identifier, and no bytes at all.
-fn other_inputs(identifier: Identifier, choices: Choices) -> Vec<Vec<u8>> {
+/// Every act and every timer that name a record, the fallen connection too.
+pub fn acts(who: Who) -> Vec<Vec<u8>> {
     vec![
-        with_identifier(ACCEPT, identifier),
-        with_choice(USER_A_FREE, identifier, 0),
-        with_choice(USER_A_FREE, identifier, 1),
-        with_identifier(USER_CANCELS, identifier),
-        with_choice(TIMER, identifier, 1),
-        with_choice(TIMER, identifier, 2),
-        with_choice(TIMER, identifier, 3),
-        with_identifier(FELL_AT_CLERK, identifier),
-        ask(identifier, choices),
-        ask(spread_identifier(90), choices),
-        to_clerk(false, &[]),
+        with_name(ACCEPT, who),
+        with_choice(USER_A_FREE, who, 0),
+        with_choice(USER_A_FREE, who, 1),
+        with_name(USER_CANCELS, who),
+        with_choice(TIMER, who, 1),
+        with_choice(TIMER, who, 2),
+        with_choice(TIMER, who, 3),
+        with_name(FELL_AT_CLERK, who),
     ]
 }
 
-/// One road, every input. With neighbours the record stands between two
-/// others, so that a delete has a gap to close.
-fn every_input(scripts: &mut Scripts, road: Road, choices: Choices, neighbours: bool) {
-    let identifier = spread_identifier(40);
-    let mut inputs = message_inputs(identifier);
-    inputs.extend(other_inputs(identifier, choices));
-    for input in inputs {
+/// The acts, asks with the same and with another identifier, and no bytes at all.
+fn other_inputs(who: Who, choices: Choices) -> Vec<Vec<u8>> {
+    let mut inputs = acts(who);
+    inputs.push(ask(who, choices));
+    inputs.push(ask(Who::seed(90), choices));
+    inputs.push(to_clerk(false, who.place, &[]));
+    inputs
+}
+
+/// A record of other numbers than the others have.
+fn stranger(case: &mut Case, seed: u8, acknowledged: bool) {
+    case.step(&plain_ask(seed, &[1], &[8, 8], 7, 1).bytes());
+    if acknowledged {
+        let content = Content::RequestResult { keep: 1 };
+        case.step(&hand_in(Carrier::Connect, Who::seed(seed), content));
+    }
+}
+
+/// Who the record is that every input is tried on.
+#[derive(Clone, Copy, PartialEq)]
+enum Naming {
+    /// With an identifier, alone at the desk.
+    Alone,
+    /// With one, between others with the same numbers, so that a delete has a gap
+    /// to close.
+    Between,
+    /// Without an identifier, alone at the desk.
+    Nameless,
+    /// Without one, between others that its messages don't fit.
+    NamelessBetween,
+}
+
+impl Naming {
+    fn who(self) -> Who {
+        match self {
+            Naming::Alone | Naming::Between => Who::seed(40),
+            Naming::Nameless => Who::at(0),
+            Naming::NamelessBetween => Who::at(1),
+        }
+    }
+}
+
+/// One road, every input; the way there is printed once.
+fn every_input(scripts: &mut Scripts, road: Road, choices: Choices, naming: Naming) {
+    let who = naming.who();
+    let mut inputs = message_inputs(who);
+    inputs.extend(other_inputs(who, choices));
+    for (n, input) in inputs.iter().enumerate() {
         let mut case = Case::at_clerk();
-        if neighbours {
-            drive(&mut case, Road::Invoked, spread_identifier(41), choices);
+        case.hush(n > 0);
+        match naming {
+            Naming::Between => drive(&mut case, Road::Invoked, Who::seed(41), choices),
+            Naming::NamelessBetween => stranger(&mut case, 41, true),
+            _ => {}
         }
-        drive(&mut case, road, identifier, choices);
-        if neighbours {
-            drive(&mut case, Road::WaitAck, spread_identifier(39), choices);
+        drive(&mut case, road, who, choices);
+        match naming {
+            Naming::Between => drive(&mut case, Road::WaitAck, Who::seed(39), choices),
+            Naming::NamelessBetween => stranger(&mut case, 39, false),
+            _ => {}
         }
-        case.step(&input);
+        case.hush(false);
+        case.step(input);
         scripts.add(&case.bytes);
     }
 }
@@ -186,22 +235,46 @@ fn every_input(scripts: &mut Scripts, road: Road, choices: Choices, neighbours: 
 fn every_state(scripts: &mut Scripts) {
     for choices in all_choices() {
         if choices.connection == Connection::Ret {
-            every_input(scripts, Road::WaitAck, choices, true);
+            every_input(scripts, Road::WaitAck, choices, Naming::Between);
         }
         let kept = choices.can_keep && choices.keep == 1;
         for road in ACKNOWLEDGED_ROADS.iter() {
             if *road != Road::InvokedAfterBusyAgain || kept {
-                every_input(scripts, *road, choices, true);
+                every_input(scripts, *road, choices, Naming::Between);
                 if kept {
-                    every_input(scripts, *road, choices, false);
-                    every_input(scripts, *road, Choices { kind: Kind::Ccnr, ..choices }, false);
+                    every_input(scripts, *road, choices, Naming::Alone);
+                    every_input(scripts, *road, Choices { kind: Kind::Ccnr, ..choices }, Naming::Alone);
                 }
             }
         }
         if kept {
-            every_input(scripts, Road::NoRecord, choices, true);
-            every_input(scripts, Road::NoRecord, choices, false);
-            every_input(scripts, Road::WaitAck, choices, false);
+            every_input(scripts, Road::NoRecord, choices, Naming::Between);
+            every_input(scripts, Road::NoRecord, choices, Naming::Alone);
+            every_input(scripts, Road::WaitAck, choices, Naming::Alone);
+        }
+    }
+}
+
+/// The same for a record without an identifier, by place and by fit.
+fn every_state_nameless(scripts: &mut Scripts) {
+    for choices in all_choices().into_iter().chain(fallen_choices()) {
+        let kept = choices.can_keep && choices.keep == 1;
+        if choices.connection == Connection::Ret && !choices.down {
+            every_input(scripts, Road::WaitAck, choices, Naming::Nameless);
+        }
+        for road in ACKNOWLEDGED_ROADS {
+            let in_ringout = matches!(road, Road::Ringout | Road::RingoutFromSuspended);
+            if kept || in_ringout {
+                every_input(scripts, road, choices, Naming::Nameless);
+                every_input(scripts, road, Choices { kind: Kind::Ccnr, ..choices }, Naming::Nameless);
+            }
+            if kept && choices.kind == Kind::Ccbs {
+                every_input(scripts, road, choices, Naming::NamelessBetween);
+            }
+        }
+        if kept && choices.kind == Kind::Ccbs {
+            every_input(scripts, Road::WaitAck, choices, Naming::NamelessBetween);
+            every_input(scripts, Road::NoRecord, choices, Naming::Nameless);
         }
     }
 }
@@ -221,7 +294,7 @@ fn every_state_fallen(scripts: &mut Scripts) {
         for road in ACKNOWLEDGED_ROADS {
             let in_ringout = matches!(road, Road::Ringout | Road::RingoutFromSuspended);
             if choices.keep == 1 || in_ringout {
-                every_input(scripts, road, choices, false);
+                every_input(scripts, road, choices, Naming::Alone);
             }
         }
     }
@@ -229,25 +302,24 @@ fn every_state_fallen(scripts: &mut Scripts) {
 
 /// The connection falls at each step of a life and is reported twice; the
 /// record's life goes on, with messages in the carriers of either kind.
-fn falls_on_the_way(scripts: &mut Scripts) {
-    let identifier = spread_identifier(6);
+fn falls_on_the_way(scripts: &mut Scripts, who: Who) {
     for choices in all_choices() {
         for road in [Road::WaitAck].into_iter().chain(ACKNOWLEDGED_ROADS) {
             let mut case = Case::at_clerk();
-            drive(&mut case, road, identifier, choices);
-            case.step(&with_identifier(FELL_AT_CLERK, identifier));
-            case.step(&with_identifier(FELL_AT_CLERK, identifier));
-            case.step(&result(identifier, choices));
+            drive(&mut case, road, who, choices);
+            case.step(&with_name(FELL_AT_CLERK, who));
+            case.step(&with_name(FELL_AT_CLERK, who));
+            case.step(&result(who, choices));
             for carrier in [Carrier::Setup, Carrier::Facility] {
-                case.step(&to_clerk(true, &bytes_of(carrier, identifier, Content::CcExecPossible)));
-                case.step(&with_choice(USER_A_FREE, identifier, 0));
+                case.step(&to_clerk(true, who.place, &message(carrier, who, Content::CcExecPossible)));
+                case.step(&with_choice(USER_A_FREE, who, 0));
             }
-            case.step(&offer(identifier, choices, false));
-            case.step(&with_identifier(ACCEPT, identifier));
-            case.step(&hand_in(Carrier::ReleaseComplete, identifier, Content::RingoutError { error: 1 }));
-            case.step(&with_identifier(FELL_AT_CLERK, identifier));
-            case.step(&with_identifier(USER_CANCELS, identifier));
-            case.step(&with_identifier(FELL_AT_CLERK, identifier));
+            case.step(&offer(who, choices, false));
+            case.step(&with_name(ACCEPT, who));
+            case.step(&hand_in(Carrier::ReleaseComplete, who, Content::RingoutError { error: 1 }));
+            case.step(&with_name(FELL_AT_CLERK, who));
+            case.step(&with_name(USER_CANCELS, who));
+            case.step(&with_name(FELL_AT_CLERK, who));
             scripts.add(&case.bytes);
         }
     }
@@ -255,24 +327,23 @@ fn falls_on_the_way(scripts: &mut Scripts) {
 
 /// All that is refused in a state, one input behind the other: they change
 /// nothing.
-fn refused_in_a_row(scripts: &mut Scripts) {
-    let identifier = spread_identifier(40);
+fn refused_in_a_row(scripts: &mut Scripts, who: Who) {
     let mut every = all_choices();
     every.extend(fallen_choices());
     for choices in every.into_iter().filter(|c| c.can_keep) {
         for road in [Road::NoRecord, Road::WaitAck].into_iter().chain(ACKNOWLEDGED_ROADS) {
             let mut case = Case::at_clerk();
-            drive(&mut case, road, identifier, choices);
-            let mut inputs = message_inputs(identifier);
-            inputs.extend(other_inputs(identifier, choices));
+            drive(&mut case, road, who, choices);
+            let mut inputs = message_inputs(who);
+            inputs.extend(other_inputs(who, choices));
             case.step_refused(&inputs);
             scripts.add(&case.bytes);
         }
     }
 }
 
-fn plain_ask<'a>(seed: u8, number_a: &'a [u8], number_b: &'a [u8], service: u16, preference: u8) -> AskEntry<'a> {
-    let identifier = spread_identifier(seed);
+pub fn plain_ask<'a>(seed: u8, number_a: &'a [u8], number_b: &'a [u8], service: u16, preference: u8) -> AskEntry<'a> {
+    let identifier = Some(spread_identifier(seed));
     AskEntry { identifier, kind: Kind::Ccbs, number_a, number_b, service, can_keep: true, preference }
 }
 
@@ -286,6 +357,8 @@ fn asks_taken(scripts: &mut Scripts) {
                     let mut entry = plain_ask(1, number_a, number_b, 7, flags / 2);
                     entry.kind = *kind;
                     entry.can_keep = flags % 2 == 1;
+                    case.step(&entry.bytes());
+                    entry.identifier = None;
                     case.step(&entry.bytes());
                     scripts.add(&case.bytes);
                 }
@@ -347,32 +420,35 @@ fn asks_refused(scripts: &mut Scripts) {
         }
         case.step(&plain_ask(3, &[1], &[2], 0, 0).bytes());
         case.step(&plain_ask(200, &[1], &[2], 0, 0).bytes());
+        for _ in 0..2 {
+            case.step(&AskEntry { identifier: None, ..plain_ask(0, &[1], &[2], 0, 0) }.bytes());
+        }
         case.step(&plain_ask(201, &[1], &[2], 0, 0).bytes());
         scripts.add(&case.bytes);
     }
 }
 
 /// The ways in which a record in Wait-Ack goes.
-fn removals(identifier: Identifier) -> Vec<Vec<u8>> {
+fn removals(who: Who) -> Vec<Vec<u8>> {
     vec![
-        with_identifier(USER_CANCELS, identifier),
-        with_choice(TIMER, identifier, 1),
-        hand_in(Carrier::ReleaseComplete, identifier, Content::CcCancel),
-        hand_in(Carrier::Setup, identifier, Content::CcCancel),
-        hand_in(Carrier::ReleaseComplete, identifier, Content::RequestError { error: 1 }),
-        hand_in(Carrier::ReleaseComplete, identifier, Content::RequestError { error: 2 }),
+        with_name(USER_CANCELS, who),
+        with_choice(TIMER, who, 1),
+        hand_in(Carrier::ReleaseComplete, who, Content::CcCancel),
+        hand_in(Carrier::Setup, who, Content::CcCancel),
+        hand_in(Carrier::ReleaseComplete, who, Content::RequestError { error: 1 }),
+        hand_in(Carrier::ReleaseComplete, who, Content::RequestError { error: 2 }),
     ]
 }
 
 /// "16 against 17 asks"; "A freed place is used again", for each of the places.
 fn full_desk(scripts: &mut Scripts) {
     for gone in 0..16 {
-        for (which, _) in removals(spread_identifier(0)).iter().enumerate() {
+        for (which, _) in removals(Who::seed(0)).iter().enumerate() {
             let mut case = Case::at_clerk();
             for seed in 0..17 {
                 case.step(&plain_ask(seed, &[seed % 10], &[2], u16::from(seed), seed % 3).bytes());
             }
-            if let Some(removal) = removals(spread_identifier(gone)).get(which) {
+            if let Some(removal) = removals(Who::seed(gone)).get(which) {
                 case.step(removal);
                 case.step(removal);
             }
@@ -386,22 +462,23 @@ fn full_desk(scripts: &mut Scripts) {
 /// Sixteen identifiers that differ from one another in a single byte each.
 fn nearly_equal_identifiers(scripts: &mut Scripts) {
     let mut case = Case::at_clerk();
-    let one_off = |place: usize| {
+    let one_off = |place: usize| -> Identifier {
         let mut identifier = [0x80; 16];
         identifier[place % 16] = 0x81;
         identifier
     };
+    let who = |identifier: Identifier| Who { identifier: Some(identifier), place: 3 };
     for place in 0..16 {
         let mut entry = plain_ask(0, &[1], &[2], 0, 0);
-        entry.identifier = one_off(place);
+        entry.identifier = Some(one_off(place));
         case.step(&entry.bytes());
     }
     for place in [5, 0, 15, 8, 1, 14, 2, 13, 3, 12, 4, 11, 6, 10, 7, 9].iter() {
-        case.step(&hand_in(Carrier::Connect, one_off(*place), Content::RequestResult { keep: 1 }));
-        case.step(&with_identifier(USER_CANCELS, [0x80; 16]));
+        case.step(&hand_in(Carrier::Connect, who(one_off(*place)), Content::RequestResult { keep: 1 }));
+        case.step(&with_name(USER_CANCELS, who([0x80; 16])));
     }
     for place in 0..16 {
-        case.step(&hand_in(Carrier::Setup, one_off(15 - place), Content::CcCancel));
+        case.step(&hand_in(Carrier::Setup, who(one_off(15 - place)), Content::CcCancel));
     }
     scripts.add(&case.bytes);
 }
@@ -424,26 +501,30 @@ fn road_and_carrier(content: &Content) -> (Road, Carrier) {
 
 /// Bytes that hold no message, and bytes behind one, for every type; the record
 /// they speak of is live, so that a fault that isn't seen would change the desk.
-fn bad_bytes(scripts: &mut Scripts) {
-    let identifier = spread_identifier(9);
+fn bad_bytes(scripts: &mut Scripts, who: Who) {
     let choices = Choices { kind: Kind::Ccbs, can_keep: true, keep: 1, connection: Connection::Ret, down: false };
     let mut contents = contents_without_requests();
     contents.push(request_content(Kind::Ccbs, &NUMBER_A, &NUMBER_B, 300, 5));
     contents.push(request_content(Kind::Ccnr, &[], &NUMBER_B, 0, 4));
     for content in contents {
-        let (road, carrier) = road_and_carrier(&content);
-        for bytes in damaged(&bytes_of(carrier, identifier, content)) {
-            let mut case = Case::at_clerk();
-            drive(&mut case, road, identifier, choices);
-            case.step(&to_clerk(false, &bytes));
-            scripts.add(&case.bytes);
+        let (road, usual) = road_and_carrier(&content);
+        let elements = content.carries_elements(Carrier::Setup) && usual != Carrier::Setup;
+        for carrier in [usual].into_iter().chain(elements.then_some(Carrier::Setup)) {
+            for bytes in damaged(&message(carrier, who, content.clone())) {
+                let mut case = Case::at_clerk();
+                case.hush(true);
+                drive(&mut case, road, who, choices);
+                case.hush(false);
+                case.step(&to_clerk(false, who.place, &bytes));
+                scripts.add(&case.bytes);
+            }
         }
     }
     for type_number in [1, 2] {
         let mut case = Case::at_clerk();
-        drive(&mut case, Road::WaitAck, identifier, choices);
-        for bytes in requests_on_edges(type_number, identifier, &[7; 15]) {
-            case.step(&to_clerk(false, &bytes));
+        drive(&mut case, Road::WaitAck, who, choices);
+        for bytes in requests_on_edges(type_number, who.identifier, &[7; 15]) {
+            case.step(&to_clerk(false, who.place, &bytes));
         }
         scripts.add(&case.bytes);
     }
@@ -452,18 +533,18 @@ fn bad_bytes(scripts: &mut Scripts) {
 /// Busy again in Ringout, three times where the record is kept: CCBS and CCNR,
 /// every can-keep and keep, RET and RLS, by both roads to Ringout. A CCNR record
 /// is CCBS from the first time on (request 5).
-fn busy_again(scripts: &mut Scripts) {
+fn busy_again(scripts: &mut Scripts, who: Who) {
     for choices in all_choices() {
         for kind in [Kind::Ccbs, Kind::Ccnr] {
             for suspended in [false, true] {
                 let choices = Choices { kind, ..choices };
                 let mut case = Case::at_clerk();
-                drive(&mut case, Road::Invoked, spread_identifier(8), choices);
+                drive(&mut case, Road::Invoked, who, choices);
                 for _ in 0..3 {
-                    busy_again_once(&mut case, spread_identifier(8), choices, suspended);
+                    busy_again_once(&mut case, who, choices, suspended);
                 }
-                case.step(&offer(spread_identifier(8), choices, false));
-                case.step(&with_choice(TIMER, spread_identifier(8), 2));
+                case.step(&offer(who, choices, false));
+                case.step(&with_choice(TIMER, who, 2));
                 scripts.add(&case.bytes);
             }
         }
@@ -471,29 +552,30 @@ fn busy_again(scripts: &mut Scripts) {
 }
 
 /// From Invoked to Ringout, where the ringout error meets the record.
-fn busy_again_once(case: &mut Case, identifier: Identifier, choices: Choices, suspended: bool) {
+fn busy_again_once(case: &mut Case, who: Who, choices: Choices, suspended: bool) {
     let road = if suspended { Road::RingoutFromSuspended } else { Road::Ringout };
-    for entry in road_behind_acknowledgment(road, identifier, choices) {
+    for entry in road_behind_acknowledgment(road, who, choices) {
         case.step(&entry);
     }
-    case.step(&hand_in(Carrier::ReleaseComplete, identifier, Content::RingoutError { error: 1 }));
+    case.step(&hand_in(Carrier::ReleaseComplete, who, Content::RingoutError { error: 1 }));
 }
 
-/// A long run: the same identifier goes through its life again and again.
-fn lives(scripts: &mut Scripts) {
+/// A long run: the same identifier, or none, goes through its life again and again;
+/// each turn leaves a record in Wait-Ack behind.
+fn lives(scripts: &mut Scripts, identifier: Option<Identifier>) {
     let mut case = Case::at_clerk();
     for (turn, choices) in all_choices().into_iter().enumerate() {
-        let identifier = spread_identifier(5);
-        drive(&mut case, Road::WaitAck, spread_identifier(100 + turn as u8), choices);
-        drive(&mut case, Road::InvokedAfterResume, identifier, choices);
-        case.step(&offer(identifier, choices, false));
-        case.step(&with_choice(TIMER, identifier, 2 + (turn % 2) as u8));
-        drive(&mut case, Road::RingoutFromSuspended, identifier, choices);
-        case.step(&with_choice(TIMER, identifier, 2));
-        case.step(&hand_in(Carrier::ReleaseComplete, identifier, Content::RingoutError { error: 1 }));
-        case.step(&with_choice(TIMER, identifier, 2));
-        drive(&mut case, Road::Ringout, identifier, choices);
-        case.step(&hand_in(Carrier::Alerting, identifier, Content::CallAlerts));
+        let who = Who { identifier, place: turn as u8 + 1 };
+        drive(&mut case, Road::WaitAck, Who::seed(100 + turn as u8), choices);
+        drive(&mut case, Road::InvokedAfterResume, who, choices);
+        case.step(&offer(who, choices, false));
+        case.step(&with_choice(TIMER, who, 2 + (turn % 2) as u8));
+        drive(&mut case, Road::RingoutFromSuspended, who, choices);
+        case.step(&with_choice(TIMER, who, 2));
+        case.step(&hand_in(Carrier::ReleaseComplete, who, Content::RingoutError { error: 1 }));
+        case.step(&with_choice(TIMER, who, 2));
+        drive(&mut case, Road::Ringout, who, choices);
+        case.step(&hand_in(Carrier::Alerting, who, Content::CallAlerts));
     }
     scripts.add(&case.bytes);
 }
@@ -503,14 +585,21 @@ pub fn scripts() -> Scripts {
     asks_taken(&mut scripts);
     asks_refused(&mut scripts);
     nearly_equal_identifiers(&mut scripts);
-    lives(&mut scripts);
-    busy_again(&mut scripts);
+    lives(&mut scripts, Some(spread_identifier(5)));
+    lives(&mut scripts, None);
+    busy_again(&mut scripts, Who::seed(8));
+    busy_again(&mut scripts, Who::at(0));
     full_desk(&mut scripts);
-    bad_bytes(&mut scripts);
+    bad_bytes(&mut scripts, Who::seed(9));
+    bad_bytes(&mut scripts, Who::at(0));
     bad_input::at_clerk(&mut scripts);
     every_state(&mut scripts);
     every_state_fallen(&mut scripts);
-    falls_on_the_way(&mut scripts);
-    refused_in_a_row(&mut scripts);
+    every_state_nameless(&mut scripts);
+    falls_on_the_way(&mut scripts, Who::seed(6));
+    falls_on_the_way(&mut scripts, Who::at(0));
+    refused_in_a_row(&mut scripts, Who::seed(40));
+    refused_in_a_row(&mut scripts, Who::at(0));
+    clerk_meant::add(&mut scripts);
     scripts
 }

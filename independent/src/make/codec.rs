@@ -4,7 +4,7 @@
 //! of codec.rs, so that a fault there is not repeated here. The bad ones among
 //! them are also handed to both desks (bad_input.rs).
 
-use super::{spread_identifier, write_entry, Scripts};
+use super::{spread_identifier, values_at, write_entry, Scripts};
 
 /// A part of a message's bytes: a number in seven-bit groups, or raw bytes.
 #[derive(Clone)]
@@ -28,10 +28,18 @@ fn small(number: u8) -> Part {
     Part::Number(vec![number])
 }
 
-/// Type, carrier and identifier of a good message.
+/// Type, carrier and identifier of a good message: "type, carrier, a number 0 or
+/// 16 (how long the identifier is ..), the identifier".
 fn head(type_number: u8, carrier: u8) -> Vec<Part> {
     let identifier = spread_identifier(type_number.wrapping_mul(31).wrapping_add(carrier));
-    vec![small(type_number), small(carrier), Part::Raw(identifier.to_vec())]
+    vec![small(type_number), small(carrier), small(16), Part::Raw(identifier.to_vec())]
+}
+
+/// The same message without its identifier.
+fn nameless(mut parts: Vec<Part>) -> Vec<Part> {
+    parts[2] = small(0);
+    parts.remove(3);
+    parts
 }
 
 /// What a request of the codec's scripts has in its fields; the service stands
@@ -62,16 +70,40 @@ fn some_digits(count: u8, first: u8) -> Vec<u8> {
     (0..count).map(|n| (first + n) % 10).collect()
 }
 
-fn request(type_number: u8, carrier: u8, fields: Fields) -> Vec<Part> {
+/// The longest fields that there are.
+const LONGEST: Fields = Fields { digits_a: 15, digits_b: 15, service: &[0xFF, 0x7F], flags: 5 };
+
+/// Types 5, 6, 9 and 10 in Setup have numberA, numberB and service; the flags of
+/// `fields` stand in no message of theirs.
+const WITH_ELEMENTS: [u8; 4] = [5, 6, 9, 10];
+const SETUP: u8 = 1;
+
+fn with_elements(type_number: u8, carrier: u8, fields: Fields) -> Vec<Part> {
     let mut parts = head(type_number, carrier);
     parts.push(small(fields.digits_a));
     parts.push(Part::Raw(some_digits(fields.digits_a, 9)));
     parts.push(small(fields.digits_b));
     parts.push(Part::Raw(some_digits(fields.digits_b, 4)));
     parts.push(Part::Number(fields.service.to_vec()));
+    parts
+}
+
+fn request(type_number: u8, carrier: u8, fields: Fields) -> Vec<Part> {
+    let mut parts = with_elements(type_number, carrier, fields);
     parts.push(small(fields.flags));
     parts
 }
+
+/// A request, or the elements in Setup of the types that have them.
+fn with_numbers(type_number: u8, fields: Fields) -> Vec<Part> {
+    match type_number {
+        1 | 2 => request(type_number, SETUP, fields),
+        _ => with_elements(type_number, SETUP, fields),
+    }
+}
+
+/// The types whose messages in Setup hold numbers of digits.
+const WITH_DIGITS: [u8; 6] = [1, 2, 5, 6, 9, 10];
 
 fn with_field(type_number: u8, carrier: u8, field: u8) -> Vec<Part> {
     let mut parts = head(type_number, carrier);
@@ -79,14 +111,36 @@ fn with_field(type_number: u8, carrier: u8, field: u8) -> Vec<Part> {
     parts
 }
 
-/// The good messages of one type in one carrier: several for a type with fields.
+/// The good messages of one type in one carrier: several for a type with fields,
+/// the shortest and the longest first. All have an identifier.
 fn good_messages(type_number: u8, carrier: u8) -> Vec<Vec<Part>> {
     match type_number {
         1 | 2 => REQUESTS.iter().map(|fields| request(type_number, carrier, *fields)).collect(),
         3 => vec![with_field(3, carrier, 0), with_field(3, carrier, 1)],
         4 | 7 => vec![with_field(type_number, carrier, 1), with_field(type_number, carrier, 2)],
+        5 | 6 | 9 | 10 if carrier == SETUP => {
+            REQUESTS.iter().map(|fields| with_elements(type_number, carrier, *fields)).collect()
+        }
         _ => vec![head(type_number, carrier)],
     }
+}
+
+/// A few of them, and the same without an identifier: the shortest and the longest
+/// of each type, with elements and without.
+fn few_messages() -> Vec<Vec<Part>> {
+    let mut messages = Vec::new();
+    for type_number in 1..=12 {
+        let usual = usual_carrier(type_number);
+        let other =
+            if WITH_ELEMENTS.contains(&type_number) { Some(if usual == SETUP { 4 } else { SETUP }) } else { None };
+        for carrier in [usual].into_iter().chain(other) {
+            for parts in good_messages(type_number, carrier).into_iter().take(2) {
+                messages.push(nameless(parts.clone()));
+                messages.push(parts);
+            }
+        }
+    }
+    messages
 }
 
 /// The carrier that each type mostly goes in.
@@ -99,8 +153,11 @@ fn usual_carrier(type_number: u8) -> u8 {
     }
 }
 
+/// All requests, and of the others a few; each with an identifier and a few
+/// without.
 fn each_good_message() -> Vec<Vec<Part>> {
-    (1..=12).flat_map(|t| good_messages(t, usual_carrier(t))).collect()
+    let requests = [1, 2].into_iter().flat_map(|t| good_messages(t, usual_carrier(t)).into_iter().skip(2));
+    few_messages().into_iter().chain(requests).collect()
 }
 
 /// The entry that most cases use: room for any message, a byte in front of it
@@ -131,6 +188,7 @@ fn all_carriers(scripts: &mut Scripts) {
         for carrier in 1..=5 {
             for parts in good_messages(type_number, carrier) {
                 scripts.add(&write_roomy(&joined(&parts)));
+                scripts.add(&write_roomy(&joined(&nameless(parts))));
             }
         }
     }
@@ -152,10 +210,11 @@ fn truncations() -> Vec<Vec<u8>> {
     inputs
 }
 
-/// Bytes with one of them replaced by each of the 256 values, its own too.
+/// Bytes with one of them replaced by each of the 256 values, its own too; a byte of
+/// the identifier by some.
 pub fn replaced_at(bytes: &[u8], place: usize) -> Vec<Vec<u8>> {
     let mut inputs = Vec::new();
-    for value in 0..=255 {
+    for value in values_at(bytes, place) {
         let mut changed = bytes.to_vec();
         if let Some(byte) = changed.get_mut(place) {
             *byte = value;
@@ -175,16 +234,10 @@ fn replacements(scripts: &mut Scripts) {
     }
 }
 
-/// The shortest and the longest request of both kinds, and every good message
-/// of the other types.
+/// The shortest and the longest message of each type, with an identifier and
+/// without.
 pub fn shortest_and_longest() -> Vec<Vec<u8>> {
-    let mut messages = Vec::new();
-    for type_number in 1..=12 {
-        let most = if type_number <= 2 { 2 } else { usize::MAX };
-        let good = good_messages(type_number, usual_carrier(type_number));
-        messages.extend(good.iter().take(most).map(|parts| joined(parts)));
-    }
-    messages
+    few_messages().iter().map(|parts| joined(parts)).collect()
 }
 
 /// "trailing bytes behind a good message": few, many and all that N allows,
@@ -209,7 +262,7 @@ fn trailing_bytes() -> Vec<Vec<u8>> {
 
 /// Forms that are tried in the place of every number. The single bytes at the
 /// end are next to the edges of the ranges.
-pub const FORMS: [&[u8]; 28] = [
+pub const FORMS: [&[u8]; 34] = [
     &[0x80, 0x00],
     &[0x80, 0x80, 0x01],
     &[0xFF, 0x7F],
@@ -238,6 +291,12 @@ pub const FORMS: [&[u8]; 28] = [
     &[0x10],
     &[0x11],
     &[0x7F],
+    &[0x90, 0x00],
+    &[0x90, 0x01],
+    &[0x90],
+    &[0x01],
+    &[0x08],
+    &[0x0F],
 ];
 
 /// Every form in the place of one number, with the rest of the message behind
@@ -279,24 +338,33 @@ fn number_forms() -> Vec<Vec<u8>> {
     inputs
 }
 
-/// Each digit of the longest requests over 9, with the rest of the message
-/// behind it, with nothing behind it, and with FF behind it, which no digit and
-/// no length is: "first fault from the left".
+/// Each digit of the longest messages over 9, with the rest of the message behind
+/// it, with nothing behind it, and with FF behind it, which no digit and no length
+/// is: "first fault from the left". Without an identifier, and requests with one.
 fn digits_over_9() -> Vec<Vec<u8>> {
     let mut inputs = Vec::new();
-    for type_number in [1, 2] {
-        let fields = Fields { digits_a: 15, digits_b: 15, service: &[0xFF, 0x7F], flags: 5 };
-        let bytes = joined(&request(type_number, 1, fields));
-        // Behind the head and the length of numberA, and behind that of numberB.
-        for place in (19..34).chain(35..50) {
-            for value in [10, 15, 16, 127, 128, 255] {
-                let mut changed = bytes.clone();
-                changed[place] = value;
-                inputs.push(changed.clone());
-                inputs.push(changed[..=place].to_vec());
-                changed[place + 1] = 0xFF;
-                inputs.push(changed);
-            }
+    for type_number in WITH_DIGITS {
+        let parts = with_numbers(type_number, LONGEST);
+        inputs.extend(digits_over_9_behind(4, &joined(&nameless(parts.clone()))));
+        if type_number <= 2 {
+            inputs.extend(digits_over_9_behind(20, &joined(&parts)));
+        }
+    }
+    inputs
+}
+
+/// The same in a message whose numberA has its first digit at a place: fifteen
+/// digits, a length, fifteen digits.
+fn digits_over_9_behind(first: usize, bytes: &[u8]) -> Vec<Vec<u8>> {
+    let mut inputs = Vec::new();
+    for place in (first..first + 15).chain(first + 16..first + 31) {
+        for value in [10, 15, 16, 127, 128, 255] {
+            let mut changed = bytes.to_vec();
+            changed[place] = value;
+            inputs.push(changed.clone());
+            inputs.push(changed[..=place].to_vec());
+            changed[place + 1] = 0xFF;
+            inputs.push(changed);
         }
     }
     inputs
@@ -307,14 +375,14 @@ fn digits_over_9() -> Vec<Vec<u8>> {
 /// first byte is under 128 the second one is read as the flags.
 fn every_service(scripts: &mut Scripts) {
     let fields = Fields { digits_a: 0, digits_b: 1, service: &[], flags: 5 };
-    let mut parts = request(1, 1, fields);
+    let mut parts = nameless(request(1, 1, fields));
     let place = parts.len() - 2;
     for first in 0..=255 {
         for second in 0..=255 {
             if let Some(part) = parts.get_mut(place) {
                 *part = Part::Number(vec![first, second]);
             }
-            scripts.add(&write_entry(&joined(&parts), 0, 26));
+            scripts.add(&write_entry(&joined(&parts), 0, 10));
         }
     }
 }
@@ -327,7 +395,39 @@ fn digit_counts() -> Vec<Vec<u8>> {
         for count_a in 0..=20 {
             for count_b in 0..=20 {
                 let fields = Fields { digits_a: count_a, digits_b: count_b, service: &[0x05], flags: 1 };
-                inputs.push(joined(&request(type_number, 1, fields)));
+                inputs.push(joined(&nameless(request(type_number, 1, fields))));
+            }
+        }
+    }
+    let edges = [0, 1, 2, 14, 15, 16, 17, 20, 127];
+    for type_number in WITH_DIGITS {
+        for digits_a in edges {
+            for digits_b in edges {
+                let fields = Fields { digits_a, digits_b, service: &[0xAC, 0x02], flags: 4 };
+                inputs.push(joined(&nameless(with_numbers(type_number, fields))));
+            }
+        }
+        for digits in 0..=16 {
+            let fields = Fields { digits_a: digits, digits_b: 16 - digits, service: &[0x05], flags: 1 };
+            inputs.push(joined(&with_numbers(type_number, fields)));
+        }
+    }
+    inputs
+}
+
+/// "length numbers": every length from 0 to 17 and others in the place of the
+/// identifier's, with so many bytes behind it and the rest of the message.
+fn identifier_lengths() -> Vec<Vec<u8>> {
+    let mut inputs = Vec::new();
+    for type_number in 1..=12 {
+        for parts in good_messages(type_number, usual_carrier(type_number)).into_iter().take(1) {
+            for length in (0..=18).chain([31, 32, 64, 127]) {
+                let mut changed = parts.clone();
+                changed[2] = small(length);
+                changed[3] = Part::Raw((0..length).collect());
+                inputs.push(joined(&changed));
+                inputs.push(joined(&changed[..4]));
+                inputs.push(joined(&changed[..3]));
             }
         }
     }
@@ -339,11 +439,17 @@ fn flags_and_services() -> Vec<Vec<u8>> {
     let mut inputs = Vec::new();
     let services: [&'static [u8]; 7] =
         [&[0], &[0x7F], &[0x80, 0x01], &[0xFF, 0x01], &[0xFE, 0x7F], &[0xFF, 0x7F], &[0x80, 0x80, 0x01]];
+    for type_number in WITH_ELEMENTS {
+        for service in services {
+            let fields = Fields { digits_a: 3, digits_b: 2, service, flags: 0 };
+            inputs.push(joined(&nameless(with_elements(type_number, SETUP, fields))));
+        }
+    }
     for service in services {
         for flags in 0..=8 {
             for type_number in [1, 2] {
                 let fields = Fields { digits_a: 3, digits_b: 2, service, flags };
-                inputs.push(joined(&request(type_number, 1, fields)));
+                inputs.push(joined(&nameless(request(type_number, 1, fields))));
             }
         }
     }
@@ -359,6 +465,7 @@ pub fn bad_input() -> Vec<Vec<u8>> {
     inputs.extend(trailing_bytes());
     inputs.extend(digit_counts());
     inputs.extend(flags_and_services());
+    inputs.extend(identifier_lengths());
     inputs
 }
 
@@ -381,7 +488,8 @@ fn rooms(length: u8) -> Vec<(u8, u8)> {
     rooms
 }
 
-/// "53 bytes of room against 52 for the longest message" is among them.
+/// "53 against 54 is the new edge" for the longest message, and 2 against 3 for the
+/// shortest; both are among them.
 fn writers_room(scripts: &mut Scripts) {
     for parts in each_good_message() {
         let bytes = joined(&parts);
@@ -393,13 +501,13 @@ fn writers_room(scripts: &mut Scripts) {
 
 /// Every place against every size, for the shortest and the longest message.
 fn every_room(scripts: &mut Scripts) {
-    let shortest = joined(&head(10, 4));
+    let shortest = joined(&nameless(head(10, 4)));
     for size in 0..=60 {
         for place in 0..=62 {
             scripts.add(&write_entry(&shortest, place, size));
         }
     }
-    let longest = joined(&request(1, 1, Fields { digits_a: 15, digits_b: 15, service: &[0xFF, 0x7F], flags: 5 }));
+    let longest = joined(&request(1, 1, LONGEST));
     for size in 50..=60 {
         for place in 0..=62 {
             scripts.add(&write_entry(&longest, place, size));
@@ -412,7 +520,7 @@ fn every_room(scripts: &mut Scripts) {
 fn refused_bytes_in_every_room(scripts: &mut Scripts) {
     let bad: [&[u8]; 4] = [&[], &[0x0D], &[0x80, 0x00], &[0x0A, 0x04, 0x01]];
     for bytes in bad {
-        for (place, size) in rooms(18) {
+        for (place, size) in rooms(19).into_iter().chain(rooms(3)) {
             scripts.add(&write_entry(bytes, place, size));
         }
     }

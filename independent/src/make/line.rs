@@ -1,28 +1,34 @@
 //! Directed scripts for the line desk.
 
 use super::{
-    bad_input, bytes_of, contents_without_requests, damaged, look, report, request_content, requests_on_edges,
-    spread_identifier, start_line, to_line, with_choice, with_identifier, Case, Scripts, ACT, FELL_AT_LINE,
+    bad_input, bytes_of, contents_without_requests, damaged, elements, line_meant, look, report, request_content,
+    requests_on_edges, start_line, to_line, with_choice, with_name, Case, Scripts, Who, ACT, FELL_AT_LINE,
     GUARD_RUNS_OUT,
 };
-use crate::codec::{Carrier, Content, Identifier};
+use crate::codec::{Carrier, Content};
 use crate::outcome::{Connection, Kind};
 
-const ONE: [u8; 1] = [1];
-const TWO: [u8; 2] = [1, 2];
+pub const ONE: [u8; 1] = [1];
+pub const TWO: [u8; 2] = [1, 2];
 const NUMBER_A: [u8; 3] = [4, 0, 4];
+pub const SERVICE: u32 = 300;
 
 /// Both lines allow both kinds; the number of one begins the other's.
-fn two_lines() -> Vec<(Vec<u8>, u8)> {
+pub fn two_lines() -> Vec<(Vec<u8>, u8)> {
     vec![(ONE.to_vec(), 3), (TWO.to_vec(), 3)]
 }
 
-fn hand_in(carrier: Carrier, identifier: Identifier, content: Content) -> Vec<u8> {
-    to_line(&bytes_of(carrier, identifier, content))
+/// A message's bytes, its elements those of the record that `drive` makes.
+fn message(carrier: Carrier, who: Who, content: Content) -> Vec<u8> {
+    bytes_of(carrier, who.identifier, content, &elements(&NUMBER_A, &ONE, SERVICE))
 }
 
-fn request(identifier: Identifier, kind: Kind, number_a: &[u8], number_b: &[u8], flags: u32) -> Vec<u8> {
-    hand_in(Carrier::Setup, identifier, request_content(kind, number_a, number_b, 300, flags))
+pub fn hand_in(carrier: Carrier, who: Who, content: Content) -> Vec<u8> {
+    to_line(who.place, &message(carrier, who, content))
+}
+
+pub fn request(who: Who, kind: Kind, number_a: &[u8], number_b: &[u8], flags: u32) -> Vec<u8> {
+    hand_in(Carrier::Setup, who, request_content(kind, number_a, number_b, SERVICE, flags))
 }
 
 /// How a record comes to its state: each state, by each road that leads there.
@@ -86,36 +92,36 @@ fn flags(choices: Choices) -> u32 {
     1 + 2 * choices.connection.number()
 }
 
-fn suspend(identifier: Identifier, connection: Connection) -> Vec<u8> {
+pub fn suspend(who: Who, connection: Connection) -> Vec<u8> {
     let carrier = match connection {
         Connection::Ret => Carrier::Facility,
         Connection::Rls => Carrier::ReleaseComplete,
     };
-    hand_in(carrier, identifier, Content::CcSuspend)
+    hand_in(carrier, who, Content::CcSuspend)
 }
 
-fn resume(identifier: Identifier, connection: Connection) -> Vec<u8> {
-    hand_in(connection.facility_or_setup(), identifier, Content::CcResume)
+pub fn resume(who: Who, connection: Connection) -> Vec<u8> {
+    hand_in(connection.facility_or_setup(), who, Content::CcResume)
 }
 
-fn ringout(identifier: Identifier) -> Vec<u8> {
-    hand_in(Carrier::Setup, identifier, Content::CcRingout)
+fn ringout(who: Who) -> Vec<u8> {
+    hand_in(Carrier::Setup, who, Content::CcRingout)
 }
 
 /// A CCNR record is only offered after a period of activity.
-fn activity(case: &mut Case, line: &[u8]) {
+pub fn activity(case: &mut Case, line: &[u8]) {
     case.step(&report(line, true));
     case.step(&report(line, false));
 }
 
 /// Brings a record of line ONE along its road; the line is free afterwards.
-fn drive(case: &mut Case, road: Road, identifier: Identifier, choices: Choices) {
+fn drive(case: &mut Case, road: Road, who: Who, choices: Choices) {
     if road == Road::NoRecord {
         return;
     }
-    case.step(&request(identifier, choices.kind, &NUMBER_A, &ONE, flags(choices)));
+    case.step(&request(who, choices.kind, &NUMBER_A, &ONE, flags(choices)));
     if choices.down {
-        case.step(&with_identifier(FELL_AT_LINE, identifier));
+        case.step(&with_name(FELL_AT_LINE, who));
     }
     if road == Road::Invoked {
         return;
@@ -127,57 +133,64 @@ fn drive(case: &mut Case, road: Road, identifier: Identifier, choices: Choices) 
         return;
     }
     case.step(&look(&ONE));
-    behind_the_offer(case, road, identifier, choices);
+    behind_the_offer(case, road, who, choices);
 }
 
 /// The messages come in the carriers of the other end, which has seen the fall
 /// too.
-fn behind_the_offer(case: &mut Case, road: Road, identifier: Identifier, choices: Choices) {
+fn behind_the_offer(case: &mut Case, road: Road, who: Who, choices: Choices) {
     let connection = choices.connection.for_sending(choices.down);
     match road {
         Road::InvokedAfterResume => {
-            case.step(&suspend(identifier, connection));
-            case.step(&resume(identifier, connection));
+            case.step(&suspend(who, connection));
+            case.step(&resume(who, connection));
         }
         Road::InvokedAfterBusyAgain => {
             case.step(&report(&ONE, true));
-            case.step(&ringout(identifier));
+            case.step(&ringout(who));
             case.step(&report(&ONE, false));
         }
-        Road::AwaitSuspended => case.step(&suspend(identifier, connection)),
-        Road::Alert => case.step(&ringout(identifier)),
+        Road::AwaitSuspended => case.step(&suspend(who, connection)),
+        Road::Alert => case.step(&ringout(who)),
         Road::AlertFromSuspended => {
-            case.step(&suspend(identifier, connection));
-            case.step(&ringout(identifier));
+            case.step(&suspend(who, connection));
+            case.step(&ringout(who));
         }
         _ => {}
     }
 }
 
-/// Every message type in every carrier, with the record's identifier.
-fn message_inputs(identifier: Identifier) -> Vec<Vec<u8>> {
+/// Every message type in every carrier, with the record's identifier or without.
+fn message_inputs(who: Who) -> Vec<Vec<u8>> {
     let mut contents = contents_without_requests();
-    contents.push(request_content(Kind::Ccbs, &NUMBER_A, &ONE, 300, 1));
+    contents.push(request_content(Kind::Ccbs, &NUMBER_A, &ONE, SERVICE, 1));
     contents.push(request_content(Kind::Ccnr, &[], &TWO, 0, 4));
     let mut inputs = Vec::new();
     for content in contents {
         for carrier in Carrier::ALL.iter() {
-            inputs.push(hand_in(*carrier, identifier, content.clone()));
+            inputs.push(hand_in(*carrier, who, content.clone()));
         }
     }
     inputs
 }
 
-/// Every act, the guard, the fallen connection, Looks, reports, requests near to
-/// the record, starts taken and refused, and no bytes at all.
-fn other_inputs(identifier: Identifier) -> Vec<Vec<u8>> {
-    let other = spread_identifier(90);
+/// Every act and the guard, the fallen connection too.
+pub fn acts(who: Who) -> Vec<Vec<u8>> {
     vec![
-        with_choice(ACT, identifier, 1),
-        with_choice(ACT, identifier, 2),
-        with_choice(ACT, identifier, 3),
-        with_identifier(GUARD_RUNS_OUT, identifier),
-        with_identifier(FELL_AT_LINE, identifier),
+        with_choice(ACT, who, 1),
+        with_choice(ACT, who, 2),
+        with_choice(ACT, who, 3),
+        with_name(GUARD_RUNS_OUT, who),
+        with_name(FELL_AT_LINE, who),
+    ]
+}
+
+/// The acts, Looks, reports, requests near to the record, starts taken and refused,
+/// and no bytes at all.
+fn other_inputs(who: Who) -> Vec<Vec<u8>> {
+    let other = Who::seed(90);
+    let mut inputs = acts(who);
+    inputs.extend(vec![
         look(&ONE),
         look(&TWO),
         report(&ONE, true),
@@ -188,35 +201,38 @@ fn other_inputs(identifier: Identifier) -> Vec<Vec<u8>> {
         report(&[2], true),
         start_line(&[(&ONE, 3)], 2),
         start_line(&[(&ONE, 3), (&ONE, 3)], 2),
-        to_line(&[]),
+        to_line(who.place, &[]),
         request(other, Kind::Ccbs, &NUMBER_A, &ONE, 0),
         request(other, Kind::Ccnr, &NUMBER_A, &ONE, 5),
         request(other, Kind::Ccbs, &NUMBER_A, &TWO, 3),
         request(other, Kind::Ccnr, &[], &ONE, 2),
-        request(identifier, Kind::Ccnr, &[9], &TWO, 1),
-    ]
+        request(who, Kind::Ccnr, &[9], &TWO, 1),
+    ]);
+    inputs
 }
 
-/// One road, every input, the line busy or free at that moment. The record
-/// stands between an older one of the other line and a younger one of its own
-/// line, so that a delete has a gap to close and a Look something to find.
-fn every_input(scripts: &mut Scripts, road: Road, choices: Choices, busy: bool, neighbours: bool) {
-    let identifier = spread_identifier(40);
-    let mut inputs = message_inputs(identifier);
-    inputs.extend(other_inputs(identifier));
-    for input in inputs {
+/// One road, every input, the line busy or free at that moment; the way there is
+/// printed once. With neighbours the
+/// record stands between an older one of the other line and a younger one of its
+/// own line, so that a delete has a gap to close and a Look something to find.
+fn every_input(scripts: &mut Scripts, road: Road, choices: Choices, busy: bool, who: Who, neighbours: bool) {
+    let mut inputs = message_inputs(who);
+    inputs.extend(other_inputs(who));
+    for (n, input) in inputs.iter().enumerate() {
         let mut case = Case::at_line(&two_lines(), settings(choices));
+        case.hush(n > 0);
         if neighbours {
-            case.step(&request(spread_identifier(41), Kind::Ccnr, &[3], &TWO, 0));
+            case.step(&request(Who::seed(41), Kind::Ccnr, &[3], &TWO, 0));
         }
-        drive(&mut case, road, identifier, choices);
+        drive(&mut case, road, who, choices);
         if neighbours {
-            case.step(&request(spread_identifier(39), Kind::Ccnr, &[], &ONE, 2));
+            case.step(&request(Who::seed(39), Kind::Ccnr, &[], &ONE, 2));
         }
         if busy {
             case.step(&report(&ONE, true));
         }
-        case.step(&input);
+        case.hush(false);
+        case.step(input);
         case.step(&look(&ONE));
         scripts.add(&case.bytes);
     }
@@ -229,9 +245,28 @@ fn every_state(scripts: &mut Scripts) {
                 continue;
             }
             for busy in [false, true].iter() {
-                every_input(scripts, *road, choices, *busy, true);
+                every_input(scripts, *road, choices, *busy, Who::seed(40), true);
                 if choices.keep && choices.kind == Kind::Ccbs {
-                    every_input(scripts, *road, choices, *busy, false);
+                    every_input(scripts, *road, choices, *busy, Who::seed(40), false);
+                }
+            }
+        }
+    }
+}
+
+/// The same for a record without an identifier, by place and by fit; without keep,
+/// and CCNR, from Await alone, where they decide.
+fn every_state_nameless(scripts: &mut Scripts) {
+    for choices in all_choices().into_iter().chain(fallen_choices()) {
+        for road in ROADS {
+            let in_await = matches!(road, Road::Await | Road::AwaitSuspended);
+            let full = choices.keep && choices.kind == Kind::Ccbs;
+            for busy in [false, true] {
+                if full || in_await {
+                    every_input(scripts, road, choices, busy, Who::at(0), false);
+                }
+                if full && !choices.down && !busy {
+                    every_input(scripts, road, choices, busy, Who::at(1), true);
                 }
             }
         }
@@ -253,7 +288,7 @@ fn every_state_fallen(scripts: &mut Scripts) {
             let full = choices.keep && choices.kind == Kind::Ccbs && road != Road::NoRecord;
             for busy in [false, true] {
                 if full || in_await {
-                    every_input(scripts, road, choices, busy, false);
+                    every_input(scripts, road, choices, busy, Who::seed(40), false);
                 }
             }
         }
@@ -262,28 +297,27 @@ fn every_state_fallen(scripts: &mut Scripts) {
 
 /// The connection falls in each state and is reported twice; the record's life
 /// goes on, with messages in the carriers of either kind.
-fn falls_on_the_way(scripts: &mut Scripts) {
-    let identifier = spread_identifier(6);
+fn falls_on_the_way(scripts: &mut Scripts, who: Who) {
     for choices in all_choices() {
         for road in ROADS {
             let mut case = Case::at_line(&two_lines(), settings(choices));
-            drive(&mut case, road, identifier, choices);
-            case.step(&with_identifier(FELL_AT_LINE, identifier));
-            case.step(&with_identifier(FELL_AT_LINE, identifier));
+            drive(&mut case, road, who, choices);
+            case.step(&with_name(FELL_AT_LINE, who));
+            case.step(&with_name(FELL_AT_LINE, who));
             activity(&mut case, &ONE);
             for carrier in [Carrier::Facility, Carrier::Setup] {
                 case.step(&look(&ONE));
-                case.step(&hand_in(carrier, identifier, Content::CcResume));
+                case.step(&hand_in(carrier, who, Content::CcResume));
             }
             for carrier in [Carrier::Facility, Carrier::ReleaseComplete, Carrier::Connect] {
                 case.step(&look(&ONE));
-                case.step(&hand_in(carrier, identifier, Content::CcSuspend));
-                case.step(&hand_in(Carrier::Setup, identifier, Content::CcResume));
+                case.step(&hand_in(carrier, who, Content::CcSuspend));
+                case.step(&hand_in(Carrier::Setup, who, Content::CcResume));
             }
-            busy_again_once(&mut case, identifier, choices.connection, false);
-            case.step(&with_identifier(FELL_AT_LINE, identifier));
-            case.step(&with_choice(ACT, identifier, 3));
-            case.step(&with_identifier(FELL_AT_LINE, identifier));
+            busy_again_once(&mut case, who, choices.connection, false);
+            case.step(&with_name(FELL_AT_LINE, who));
+            case.step(&with_choice(ACT, who, 3));
+            case.step(&with_name(FELL_AT_LINE, who));
             scripts.add(&case.bytes);
         }
     }
@@ -291,18 +325,17 @@ fn falls_on_the_way(scripts: &mut Scripts) {
 
 /// All that is refused in a state, one input behind the other: they change
 /// nothing.
-fn refused_in_a_row(scripts: &mut Scripts) {
-    let identifier = spread_identifier(40);
+fn refused_in_a_row(scripts: &mut Scripts, who: Who) {
     let mut every = all_choices();
     every.extend(fallen_choices());
     for choices in every {
         for road in ROADS {
             for busy in [false, true] {
                 let mut case = Case::at_line(&two_lines(), settings(choices));
-                drive(&mut case, road, identifier, choices);
+                drive(&mut case, road, who, choices);
                 case.step(&report(&ONE, busy));
-                let mut inputs = message_inputs(identifier);
-                inputs.extend(other_inputs(identifier));
+                let mut inputs = message_inputs(who);
+                inputs.extend(other_inputs(who));
                 case.step_refused(&inputs);
                 scripts.add(&case.bytes);
             }
@@ -319,7 +352,7 @@ fn requests_accepted(scripts: &mut Scripts) {
                 for busy in [false, true].iter() {
                     let mut case = Case::at_line(&two_lines(), settings);
                     case.step(&report(&TWO, *busy));
-                    case.step(&request(spread_identifier(1), *kind, &NUMBER_A, &TWO, flags));
+                    case.step(&request(Who::seed(1), *kind, &NUMBER_A, &TWO, flags));
                     case.step(&look(&TWO));
                     case.step(&report(&TWO, false));
                     case.step(&look(&TWO));
@@ -340,7 +373,7 @@ fn request_fields(scripts: &mut Scripts) {
         for number_a in [&[][..], &[0], &[0, 0], &[9; 14], &[9; 15]].iter() {
             for number_b in [&ONE[..], &long, &[0], &[7; 14], &[0, 0]].iter() {
                 let content = request_content(Kind::Ccbs, number_a, number_b, *service, 5);
-                case.step(&hand_in(Carrier::Setup, spread_identifier(seed), content));
+                case.step(&hand_in(Carrier::Setup, Who::seed(seed), content));
                 seed = seed.wrapping_add(1);
             }
         }
@@ -354,10 +387,10 @@ fn kinds_allowed(scripts: &mut Scripts) {
     let lines = [([1], 0), ([2], 1), ([3], 2), ([4], 3)];
     for digit in 1..=5 {
         let mut case = Case::at_line(&lines, 1);
-        case.step(&request(spread_identifier(1), Kind::Ccbs, &[1], &[digit], 1));
-        case.step(&request(spread_identifier(2), Kind::Ccnr, &[2], &[digit], 1));
-        case.step(&request(spread_identifier(1), Kind::Ccnr, &[1], &[digit], 1));
-        case.step(&request(spread_identifier(2), Kind::Ccbs, &[2], &[digit], 1));
+        case.step(&request(Who::seed(1), Kind::Ccbs, &[1], &[digit], 1));
+        case.step(&request(Who::seed(2), Kind::Ccnr, &[2], &[digit], 1));
+        case.step(&request(Who::seed(1), Kind::Ccnr, &[1], &[digit], 1));
+        case.step(&request(Who::seed(2), Kind::Ccbs, &[2], &[digit], 1));
         scripts.add(&case.bytes);
     }
 }
@@ -366,24 +399,26 @@ fn kinds_allowed(scripts: &mut Scripts) {
 /// both kinds on a line that allows both and on one that allows only that kind,
 /// keep and not, RET and RLS, suspended before or not (request 5). Looks show
 /// how it goes on, and requests near to it what the desk holds.
-fn busy_again(scripts: &mut Scripts) {
+fn busy_again(scripts: &mut Scripts, who: Who) {
     for choices in all_choices() {
         for kinds in [choices.kind.number() as u8, 3] {
             for suspended in [false, true] {
                 let mut case = Case::at_line(&[(&ONE, kinds)], settings(choices));
-                drive(&mut case, Road::InvokedActive, spread_identifier(8), choices);
+                drive(&mut case, Road::InvokedActive, who, choices);
                 for _ in 0..3 {
-                    busy_again_once(&mut case, spread_identifier(8), choices.connection, suspended);
+                    busy_again_once(&mut case, who, choices.connection, suspended);
                 }
-                case.step(&request(spread_identifier(9), Kind::Ccbs, &NUMBER_A, &ONE, 1));
-                case.step(&request(spread_identifier(9), Kind::Ccnr, &[], &ONE, 1));
+                case.step(&request(Who::seed(9), Kind::Ccbs, &NUMBER_A, &ONE, 1));
+                case.step(&request(Who::seed(9), Kind::Ccnr, &[], &ONE, 1));
+                let nameless = Who::at(1);
+                case.step(&request(nameless, Kind::Ccbs, &NUMBER_A, &ONE, 1));
                 for carrier in [Carrier::Facility, Carrier::Setup] {
                     case.step(&look(&ONE));
-                    case.step(&hand_in(carrier, spread_identifier(8), Content::CcResume));
+                    case.step(&hand_in(carrier, who, Content::CcResume));
                 }
                 case.step(&look(&ONE));
-                case.step(&ringout(spread_identifier(8)));
-                case.step(&with_choice(ACT, spread_identifier(8), 1));
+                case.step(&ringout(who));
+                case.step(&with_choice(ACT, who, 1));
                 scripts.add(&case.bytes);
             }
         }
@@ -391,13 +426,13 @@ fn busy_again(scripts: &mut Scripts) {
 }
 
 /// A Look, the line busy, ccRingout, a Look in vain, the line free.
-fn busy_again_once(case: &mut Case, identifier: Identifier, connection: Connection, suspended: bool) {
+fn busy_again_once(case: &mut Case, who: Who, connection: Connection, suspended: bool) {
     case.step(&look(&ONE));
     if suspended {
-        case.step(&suspend(identifier, connection));
+        case.step(&suspend(who, connection));
     }
     case.step(&report(&ONE, true));
-    case.step(&ringout(identifier));
+    case.step(&ringout(who));
     case.step(&look(&ONE));
     case.step(&report(&ONE, false));
 }
@@ -411,12 +446,12 @@ fn duplicates(scripts: &mut Scripts) {
             let choices = Choices { kind: *kind, keep: true, connection: Connection::Ret, down: false };
             for number_a in numbers_a.iter() {
                 let mut case = Case::at_line(&two_lines(), settings(choices));
-                drive(&mut case, *road, spread_identifier(40), choices);
+                drive(&mut case, *road, Who::seed(40), choices);
                 for number_b in [&ONE[..], &TWO].iter() {
                     for other in [Kind::Ccbs, Kind::Ccnr].iter() {
-                        case.step(&request(spread_identifier(40), *other, number_a, number_b, 1));
-                        case.step(&request(spread_identifier(50), *other, number_a, number_b, 1));
-                        case.step(&request(spread_identifier(51), *other, number_a, number_b, 1));
+                        case.step(&request(Who::seed(40), *other, number_a, number_b, 1));
+                        case.step(&request(Who::seed(50), *other, number_a, number_b, 1));
+                        case.step(&request(Who::seed(51), *other, number_a, number_b, 1));
                     }
                 }
                 scripts.add(&case.bytes);
@@ -429,11 +464,11 @@ fn duplicates(scripts: &mut Scripts) {
 /// A record with a withheld numberA is there already.
 fn withheld_first(scripts: &mut Scripts) {
     let mut case = Case::at_line(&two_lines(), 0);
-    case.step(&request(spread_identifier(1), Kind::Ccbs, &[], &ONE, 0));
-    case.step(&request(spread_identifier(2), Kind::Ccbs, &[], &ONE, 0));
-    case.step(&request(spread_identifier(3), Kind::Ccbs, &[1], &ONE, 0));
-    case.step(&request(spread_identifier(1), Kind::Ccbs, &[], &ONE, 0));
-    case.step(&request(spread_identifier(4), Kind::Ccnr, &[], &ONE, 0));
+    case.step(&request(Who::seed(1), Kind::Ccbs, &[], &ONE, 0));
+    case.step(&request(Who::seed(2), Kind::Ccbs, &[], &ONE, 0));
+    case.step(&request(Who::seed(3), Kind::Ccbs, &[1], &ONE, 0));
+    case.step(&request(Who::seed(1), Kind::Ccbs, &[], &ONE, 0));
+    case.step(&request(Who::seed(4), Kind::Ccnr, &[], &ONE, 0));
     scripts.add(&case.bytes);
 }
 
@@ -441,7 +476,7 @@ fn withheld_first(scripts: &mut Scripts) {
 fn fill_one(case: &mut Case, seed: u8, line: &[u8]) {
     let kind = if seed % 2 == 1 { Kind::Ccnr } else { Kind::Ccbs };
     let number_a = [seed / 10 % 10, seed % 10];
-    case.step(&request(spread_identifier(seed), kind, &number_a, line, u32::from(seed % 6)));
+    case.step(&request(Who::seed(seed), kind, &number_a, line, u32::from(seed % 6)));
 }
 
 /// "a line's 5 against 6"; a freed place is used again.
@@ -453,7 +488,7 @@ fn five_of_a_line(scripts: &mut Scripts) {
                 fill_one(&mut case, seed, &ONE);
             }
             fill_one(&mut case, 6, &TWO);
-            remove(&mut case, spread_identifier(gone), removal);
+            remove(&mut case, Who::seed(gone), removal);
             fill_one(&mut case, 7, &ONE);
             fill_one(&mut case, 8, &ONE);
             scripts.add(&case.bytes);
@@ -462,12 +497,12 @@ fn five_of_a_line(scripts: &mut Scripts) {
 }
 
 /// Four ways in which a record goes.
-fn remove(case: &mut Case, identifier: Identifier, which: u8) {
+fn remove(case: &mut Case, who: Who, which: u8) {
     match which {
-        0 => case.step(&with_choice(ACT, identifier, 3)),
-        1 => case.step(&with_identifier(GUARD_RUNS_OUT, identifier)),
-        2 => case.step(&hand_in(Carrier::Setup, identifier, Content::CcCancel)),
-        _ => case.step(&hand_in(Carrier::ReleaseComplete, identifier, Content::CcCancel)),
+        0 => case.step(&with_choice(ACT, who, 3)),
+        1 => case.step(&with_name(GUARD_RUNS_OUT, who)),
+        2 => case.step(&hand_in(Carrier::Setup, who, Content::CcCancel)),
+        _ => case.step(&hand_in(Carrier::ReleaseComplete, who, Content::CcCancel)),
     }
 }
 
@@ -493,16 +528,16 @@ fn full_desk(scripts: &mut Scripts) {
         for seed in 0..33 {
             fill_one(&mut case, seed, &line_digits(seed / 4));
         }
-        let fresh = spread_identifier(99);
+        let fresh = Who::seed(99);
         for kind in [Kind::Ccbs, Kind::Ccnr].iter() {
             case.step(&request(fresh, *kind, &[9], &line_digits(12), 0));
             case.step(&request(fresh, *kind, &[9], &line_digits(14), 0));
             case.step(&request(fresh, *kind, &[9], &line_digits(15), 0));
             case.step(&request(fresh, *kind, &[9], &[5], 0));
-            case.step(&request(spread_identifier(gone), *kind, &[9], &[5], 0));
-            case.step(&request(spread_identifier(gone), *kind, &[9], &line_digits(1), 0));
+            case.step(&request(Who::seed(gone), *kind, &[9], &[5], 0));
+            case.step(&request(Who::seed(gone), *kind, &[9], &line_digits(1), 0));
         }
-        remove(&mut case, spread_identifier(gone), gone % 4);
+        remove(&mut case, Who::seed(gone), gone % 4);
         fill_one(&mut case, 34, &line_digits(9));
         fill_one(&mut case, 35, &line_digits(9));
         scripts.add(&case.bytes);
@@ -529,29 +564,29 @@ const AIMS: [Aim; 6] =
 /// compared all the same.
 fn look_at_mix(scripts: &mut Scripts, aims: &[Aim]) {
     let mut case = Case::at_line(&two_lines(), 1);
-    let identifier = |place: usize| spread_identifier(60 + place as u8);
+    let who = |place: usize| Who::seed(60 + place as u8);
     for (place, aim) in aims.iter().enumerate() {
         let kind = if matches!(aim, Aim::CcnrNeverActive | Aim::CcnrActive) { Kind::Ccnr } else { Kind::Ccbs };
-        case.step(&request(identifier(place), kind, &[place as u8], &ONE, 3));
+        case.step(&request(who(place), kind, &[place as u8], &ONE, 3));
         if *aim == Aim::CcnrActive {
             activity(&mut case, &ONE);
         }
         case.step(&look(&ONE));
-        case.step(&suspend(identifier(place), Connection::Ret));
+        case.step(&suspend(who(place), Connection::Ret));
     }
-    let all = |wanted: &[Aim]| -> Vec<Identifier> {
+    let all = |wanted: &[Aim]| -> Vec<Who> {
         let chosen = aims.iter().enumerate().filter(|(_, aim)| wanted.contains(aim));
-        chosen.map(|(place, _)| identifier(place)).collect()
+        chosen.map(|(place, _)| who(place)).collect()
     };
-    for id in all(&[Aim::Await]) {
-        case.step(&resume(id, Connection::Ret));
+    for who in all(&[Aim::Await]) {
+        case.step(&resume(who, Connection::Ret));
         case.step(&look(&ONE));
     }
-    for id in all(&[Aim::Alert]) {
-        case.step(&ringout(id));
+    for who in all(&[Aim::Alert]) {
+        case.step(&ringout(who));
     }
-    for id in all(&[Aim::CcbsInvoked, Aim::CcnrActive]) {
-        case.step(&resume(id, Connection::Ret));
+    for who in all(&[Aim::CcbsInvoked, Aim::CcnrActive]) {
+        case.step(&resume(who, Connection::Ret));
     }
     looks_and_reports(&mut case);
     scripts.add(&case.bytes);
@@ -593,7 +628,7 @@ fn no_such_line(scripts: &mut Scripts) {
     numbers.extend(vec![ONE.to_vec(), TWO.to_vec(), long.to_vec()]);
     let mut case = Case::at_line(&lines, 1);
     for (place, line) in [&ONE[..], &TWO[..], &long[..]].iter().enumerate() {
-        case.step(&request(spread_identifier(place as u8), Kind::Ccbs, &[1], line, 0));
+        case.step(&request(Who::seed(place as u8), Kind::Ccbs, &[1], line, 0));
     }
     for number in &numbers {
         case.step(&report(number, true));
@@ -636,16 +671,16 @@ fn starts(scripts: &mut Scripts) {
                 let mut case = Case::at_line(&two_lines(), 3 - settings);
                 case.step(&report(&TWO, true));
                 if *with_record {
-                    case.step(&request(spread_identifier(1), Kind::Ccbs, &[1], &ONE, 1));
+                    case.step(&request(Who::seed(1), Kind::Ccbs, &[1], &ONE, 1));
                 }
                 case.step(&start_line(&lines, settings));
                 // The settings aren't printed: a request shows them.
-                case.step(&request(spread_identifier(2), Kind::Ccbs, &[2], &ONE, 1));
+                case.step(&request(Who::seed(2), Kind::Ccbs, &[2], &ONE, 1));
                 if let Some((digits, _)) = lines.first() {
                     let short = digits.len() <= 15 && digits.iter().all(|d| *d <= 9) && !digits.is_empty();
                     let number_b = if short { &digits[..] } else { &TWO[..] };
-                    case.step(&request(spread_identifier(3), Kind::Ccbs, &[3], number_b, 1));
-                    case.step(&request(spread_identifier(4), Kind::Ccnr, &[4], number_b, 1));
+                    case.step(&request(Who::seed(3), Kind::Ccbs, &[3], number_b, 1));
+                    case.step(&request(Who::seed(4), Kind::Ccnr, &[4], number_b, 1));
                 }
                 scripts.add(&case.bytes);
             }
@@ -656,11 +691,11 @@ fn starts(scripts: &mut Scripts) {
 /// What is there before code 1 is played: no lines, keeps nothing, retains nothing.
 fn before_any_start(scripts: &mut Scripts) {
     scripts.close();
-    let mut case = Case { bytes: Vec::new(), print: super::PRINT_LINE };
+    let mut case = Case::new(super::PRINT_LINE);
     case.step(&look(&ONE));
     case.step(&report(&ONE, true));
-    case.step(&request(spread_identifier(1), Kind::Ccbs, &[1], &ONE, 5));
-    for input in message_inputs(spread_identifier(1)) {
+    case.step(&request(Who::seed(1), Kind::Ccbs, &[1], &ONE, 5));
+    for input in message_inputs(Who::seed(1)) {
         case.step(&input);
     }
     scripts.add(&case.bytes);
@@ -678,28 +713,33 @@ fn usual_carrier(content: &Content) -> Carrier {
 
 /// Bytes that hold no message, and bytes behind one, for every type; but for
 /// the requests the record that they speak of is live and in Await.
-fn bad_bytes(scripts: &mut Scripts) {
-    let identifier = spread_identifier(9);
+fn bad_bytes(scripts: &mut Scripts, who: Who) {
     let choices = Choices { kind: Kind::Ccbs, keep: true, connection: Connection::Ret, down: false };
     let mut contents = contents_without_requests();
     contents.push(request_content(Kind::Ccbs, &[], &ONE, 0, 3));
-    contents.push(request_content(Kind::Ccnr, &[8, 8], &TWO, 300, 5));
+    contents.push(request_content(Kind::Ccnr, &[8, 8], &TWO, SERVICE, 5));
     for content in contents {
         let is_request = matches!(content, Content::CcbsRequest(_) | Content::CcnrRequest(_));
-        for bytes in damaged(&bytes_of(usual_carrier(&content), identifier, content)) {
-            let mut case = Case::at_line(&two_lines(), 1);
-            if !is_request {
-                drive(&mut case, Road::Await, identifier, choices);
+        let usual = usual_carrier(&content);
+        let elements = content.carries_elements(Carrier::Setup) && usual != Carrier::Setup;
+        for carrier in [usual].into_iter().chain(elements.then_some(Carrier::Setup)) {
+            for bytes in damaged(&message(carrier, who, content.clone())) {
+                let mut case = Case::at_line(&two_lines(), 1);
+                case.hush(true);
+                if !is_request {
+                    drive(&mut case, Road::Await, who, choices);
+                }
+                case.hush(false);
+                case.step(&to_line(who.place, &bytes));
+                scripts.add(&case.bytes);
             }
-            case.step(&to_line(&bytes));
-            scripts.add(&case.bytes);
         }
     }
     let long = [7; 15];
     for type_number in [1, 2] {
         let mut case = Case::at_line(&[(&ONE[..], 3), (&long[..], 3)], 1);
-        for bytes in requests_on_edges(type_number, identifier, &long) {
-            case.step(&to_line(&bytes));
+        for bytes in requests_on_edges(type_number, who.identifier, &long) {
+            case.step(&to_line(who.place, &bytes));
         }
         scripts.add(&case.bytes);
     }
@@ -712,17 +752,23 @@ pub fn scripts() -> Scripts {
     request_fields(&mut scripts);
     kinds_allowed(&mut scripts);
     duplicates(&mut scripts);
-    busy_again(&mut scripts);
+    busy_again(&mut scripts, Who::seed(8));
+    busy_again(&mut scripts, Who::at(0));
     five_of_a_line(&mut scripts);
     full_desk(&mut scripts);
     looks(&mut scripts);
     no_such_line(&mut scripts);
     starts(&mut scripts);
-    bad_bytes(&mut scripts);
+    bad_bytes(&mut scripts, Who::seed(9));
+    bad_bytes(&mut scripts, Who::at(0));
     bad_input::at_line(&mut scripts);
     every_state(&mut scripts);
     every_state_fallen(&mut scripts);
-    falls_on_the_way(&mut scripts);
-    refused_in_a_row(&mut scripts);
+    every_state_nameless(&mut scripts);
+    falls_on_the_way(&mut scripts, Who::seed(6));
+    falls_on_the_way(&mut scripts, Who::at(0));
+    refused_in_a_row(&mut scripts, Who::seed(40));
+    refused_in_a_row(&mut scripts, Who::at(0));
+    line_meant::add(&mut scripts);
     scripts
 }

@@ -1,54 +1,24 @@
 //! Random scripts: two desks over two wires, played inside the generator, so
 //! that deep states are reached.
 
+mod dice;
+mod host;
+#[cfg(test)]
+mod tests;
+
+use self::dice::Dice;
+use self::host::{Origins, Parcel};
 use super::codec::FORMS;
 use super::{
     bytes_of, contents_without_requests, look, report, request_content, start_line, to_clerk, to_line, with_choice,
-    with_identifier, write_entry, AskEntry, Scripts, ACCEPT, ACT, FELL_AT_CLERK, FELL_AT_LINE, GUARD_RUNS_OUT,
-    PRINT_CLERK, PRINT_LINE, START_CLERK, TIMER, USER_A_FREE, USER_CANCELS,
+    with_name, write_entry, AskEntry, Scripts, ACCEPT, ACT, FELL_AT_CLERK, FELL_AT_LINE, GUARD_RUNS_OUT, PRINT_CLERK,
+    PRINT_LINE, START_CLERK, TIMER, USER_A_FREE, USER_CANCELS,
 };
 use crate::clerk;
 use crate::codec::{message_bytes, Carrier, Content, Identifier};
 use crate::line;
 use crate::outcome::Kind;
-use crate::script::{take_entry, Answer, Entry, Session};
-
-/// splitmix64: the same seed gives the same scripts everywhere.
-struct Dice {
-    state: u64,
-}
-
-impl Dice {
-    fn next(&mut self) -> u64 {
-        self.state = self.state.wrapping_add(0x9E37_79B9_7F4A_7C15);
-        let mut z = self.state;
-        z = (z ^ (z >> 30)).wrapping_mul(0xBF58_476D_1CE4_E5B9);
-        z = (z ^ (z >> 27)).wrapping_mul(0x94D0_49BB_1331_11EB);
-        z ^ (z >> 31)
-    }
-
-    /// A number under `limit`; 0 where there is nothing to choose from.
-    fn below(&mut self, limit: usize) -> usize {
-        if limit == 0 {
-            return 0;
-        }
-        (self.next() >> 16) as usize % limit
-    }
-
-    /// True once in `times`.
-    fn once_in(&mut self, times: usize) -> bool {
-        self.below(times) == 0
-    }
-
-    fn byte(&mut self) -> u8 {
-        (self.next() >> 24) as u8
-    }
-
-    fn pick<T: Clone>(&mut self, from: &[T]) -> Option<T> {
-        let place = self.below(from.len());
-        from.get(place).cloned()
-    }
-}
+use crate::script::{take_entry, Answer, Session};
 
 /// What the run is like for a while.
 #[derive(Clone, Copy, PartialEq)]
@@ -129,13 +99,16 @@ const NUMBERS: [&[u8]; 20] = [
     &[4, 4, 4, 4],
 ];
 
+/// Two desks, two wires, and a host that knows where each message comes from, so
+/// that it can name the right places.
 struct Player {
     dice: Dice,
     session: Session,
     scripts: Scripts,
     left: usize,
-    wire_to_line: Vec<Vec<u8>>,
-    wire_to_clerk: Vec<Vec<u8>>,
+    wire_to_line: Vec<Parcel>,
+    wire_to_clerk: Vec<Parcel>,
+    origins: Origins,
     known: Vec<Identifier>,
     mood: Mood,
     mood_left: usize,
@@ -146,9 +119,31 @@ const MOST_ON_WIRE: usize = 24;
 const MOST_KNOWN: usize = 60;
 
 impl Player {
-    /// Adds an entry, plays it on the generator's own desks and puts what they
-    /// send on the wire to the other end.
+    fn new(seed: u64, entries: usize) -> Player {
+        Player {
+            dice: Dice { state: seed },
+            session: Session::default(),
+            scripts: Scripts::default(),
+            left: entries,
+            wire_to_line: Vec::new(),
+            wire_to_clerk: Vec::new(),
+            origins: Origins::default(),
+            known: Vec::new(),
+            mood: Mood::Calm,
+            mood_left: 0,
+        }
+    }
+
+    /// Adds an entry that speaks of nothing on a wire.
     fn put(&mut self, entry: &[u8]) {
+        let origin = self.origins.fresh();
+        self.put_from(entry, origin);
+    }
+
+    /// Adds an entry, plays it on the generator's own desks and puts what they
+    /// send on the wire to the other end. The origin is that of the message that
+    /// the entry hands in, or of the request that the entry makes.
+    fn put_from(&mut self, entry: &[u8], origin: usize) {
         if self.left == 0 {
             return;
         }
@@ -160,17 +155,15 @@ impl Player {
         let Some((parsed, _)) = take_entry(entry) else {
             return;
         };
-        if let Answer::Step { outcome, .. } = self.session.play(&parsed) {
-            if let Some(message) = outcome.message {
-                let at_line = matches!(
-                    parsed,
-                    Entry::ToLine { .. } | Entry::Look { .. } | Entry::Act(_, _) | Entry::GuardRunsOut(_)
-                );
-                let wire = if at_line { &mut self.wire_to_clerk } else { &mut self.wire_to_line };
-                wire.push(message_bytes(&message));
-                if wire.len() > MOST_ON_WIRE {
-                    wire.remove(0);
-                }
+        let Answer::Step { outcome, .. } = self.session.play(&parsed) else {
+            return;
+        };
+        let origin = self.origins.follow(&self.session, &parsed, &outcome, origin);
+        if let Some(message) = outcome.message {
+            let wire = if host::is_at_line(&parsed) { &mut self.wire_to_clerk } else { &mut self.wire_to_line };
+            wire.push(Parcel { bytes: message_bytes(&message), origin });
+            if wire.len() > MOST_ON_WIRE {
+                wire.remove(0);
             }
         }
     }
@@ -179,6 +172,7 @@ impl Player {
     fn new_file(&mut self) {
         self.scripts.close();
         self.session = Session::default();
+        self.origins = Origins::default();
         self.wire_to_line.clear();
         self.wire_to_clerk.clear();
         let start = self.some_start();
@@ -241,28 +235,9 @@ impl Player {
         identifier
     }
 
-    /// Mostly one that is live at a desk, else one that was.
+    /// One that is known: live at a desk, or over, or none of these.
     fn some_identifier(&mut self) -> Identifier {
-        let at_clerk: Vec<Identifier> = self.session.clerk.records.iter().map(|r| r.identifier).collect();
-        let at_line: Vec<Identifier> = self.session.line.records.iter().map(|r| r.identifier).collect();
-        let pool = match self.dice.below(8) {
-            0 => &self.known,
-            1..=4 => &at_clerk,
-            _ => &at_line,
-        };
-        self.dice.pick(pool).unwrap_or([0xA5; 16])
-    }
-
-    /// Mostly one that is live at the desk that the message goes to.
-    fn identifier_at(&mut self, line_end: bool) -> Identifier {
-        let live: Vec<Identifier> = match line_end {
-            true => self.session.line.records.iter().map(|r| r.identifier).collect(),
-            false => self.session.clerk.records.iter().map(|r| r.identifier).collect(),
-        };
-        match self.dice.pick(&live) {
-            Some(identifier) if !self.dice.once_in(4) => identifier,
-            _ => self.some_identifier(),
-        }
+        self.dice.pick(&self.known).unwrap_or([0xA5; 16])
     }
 
     fn some_kind(&mut self) -> Kind {
@@ -298,12 +273,24 @@ impl Player {
         }
     }
 
+    /// An identifier for an ask: a new one, or none, or one that may be live.
+    fn identifier_of_ask(&mut self) -> Option<Identifier> {
+        match self.dice.below(15) {
+            0 => Some(self.some_identifier()),
+            1..=5 => None,
+            _ => Some(self.new_identifier()),
+        }
+    }
+
     fn ask(&mut self, bad: bool) {
-        let old = self.dice.once_in(15);
-        let identifier = if old { self.some_identifier() } else { self.new_identifier() };
+        let identifier = self.identifier_of_ask();
         let mut number_a = self.some_number_a();
         let mut number_b = self.some_number_b();
         let mut service = self.some_service();
+        if identifier.is_none() && self.dice.once_in(3) {
+            // Ends that withhold their number and look alike.
+            (number_a, service) = (Vec::new(), 300);
+        }
         let mut preference = self.dice.below(3) as u8;
         if bad {
             match self.dice.below(7) {
@@ -326,7 +313,7 @@ impl Player {
     /// Takes a message off a wire: in calm always the first, which is delivered
     /// or dropped; else mostly the first and sometimes any. A lost one is None,
     /// and a doubled one (never in calm) stays on the wire.
-    fn take_off(&mut self, to_the_line: bool) -> Option<Vec<u8>> {
+    fn take_off(&mut self, to_the_line: bool) -> Option<Parcel> {
         let (drop, shuffle) = match self.mood {
             Mood::Calm => (60, None),
             Mood::Crowd => (10, Some(10)),
@@ -350,7 +337,7 @@ impl Player {
     }
 
     /// What the wire does to bytes now and then: a changed byte, a cut end,
-    /// bytes behind, another message's identifier.
+    /// bytes behind, another identifier or none.
     fn weather(&mut self, mut bytes: Vec<u8>) -> Vec<u8> {
         let calm = if self.mood == Mood::Storm { 6 } else { 60 };
         if !self.dice.once_in(calm) {
@@ -369,12 +356,7 @@ impl Player {
                 let count = 1 + self.dice.below(60);
                 bytes.extend((0..count).map(|n| n as u8));
             }
-            3 => {
-                let other = self.some_identifier();
-                if let Some(part) = bytes.get_mut(2..18) {
-                    part.copy_from_slice(&other);
-                }
-            }
+            3 => bytes = self.with_other_identifier(bytes),
             _ => {
                 // Another type, or another carrier.
                 let place = self.dice.below(bytes.len().min(2));
@@ -386,33 +368,44 @@ impl Player {
         bytes
     }
 
+    /// A message with another identifier, or with one more or less.
+    fn with_other_identifier(&mut self, bytes: Vec<u8>) -> Vec<u8> {
+        let behind = match bytes.get(2) {
+            Some(16) => bytes.get(19..),
+            Some(0) => bytes.get(3..),
+            _ => None,
+        };
+        let (Some(head), Some(behind)) = (bytes.get(..2), behind) else {
+            return bytes;
+        };
+        let identifier = if self.dice.once_in(3) { None } else { Some(self.some_identifier()) };
+        [head, &super::id_bytes(&identifier), behind].concat()
+    }
+
+    /// The host names the place of the message's own record, mostly.
     fn deliver(&mut self, to_the_line: bool) {
-        let Some(bytes) = self.take_off(to_the_line) else {
+        let Some(Parcel { bytes, origin }) = self.take_off(to_the_line) else {
             return;
         };
         let bytes = self.weather(bytes);
+        let place = self.place_for(to_the_line, origin);
         if to_the_line {
-            self.put(&to_line(&bytes));
+            self.put_from(&to_line(place, &bytes), origin);
         } else {
             let busy = self.dice.once_in(3);
-            self.put(&to_clerk(busy, &bytes));
+            self.put_from(&to_clerk(busy, place, &bytes), origin);
         }
     }
 
-    /// True where a message with this identifier is on a wire.
-    fn travels(&self, identifier: &Identifier) -> bool {
-        let mut messages = self.wire_to_line.iter().chain(self.wire_to_clerk.iter());
-        messages.any(|bytes| bytes.get(2..18) == Some(&identifier[..]))
-    }
-
-    /// True where nothing travels and the two ends are none of document 01's
-    /// "Pairs when the wires are quiet": only a timer helps such a record.
-    fn is_stuck(&self, identifier: &Identifier) -> bool {
-        if self.travels(identifier) {
+    /// True where nothing of this origin travels and the two ends are none of
+    /// document 01's "Pairs when the wires are quiet": only a timer helps such a
+    /// record.
+    fn is_stuck(&self, origin: usize) -> bool {
+        if self.wire_to_line.iter().chain(self.wire_to_clerk.iter()).any(|parcel| parcel.origin == origin) {
             return false;
         }
-        let at_clerk = self.session.clerk.records.iter().find(|r| r.identifier == *identifier);
-        let at_line = self.session.line.records.iter().find(|r| r.identifier == *identifier);
+        let at_clerk = self.origins.place(false, origin).and_then(|place| self.session.clerk.records.get(place));
+        let at_line = self.origins.place(true, origin).and_then(|place| self.session.line.records.get(place));
         let (Some(here), Some(there)) = (at_clerk, at_line) else {
             return true;
         };
@@ -429,41 +422,45 @@ impl Player {
     /// that is stuck is soon timed out, so that it doesn't stand in the way of
     /// others; M1: "a CC call that dies silently is handed in as type 12".
     fn sensible_clerk_act(&mut self) {
-        let Some(record) = self.dice.pick(&self.session.clerk.records) else {
+        let place = self.dice.below(self.session.clerk.records.len());
+        let Some(record) = self.session.clerk.records.get(place) else {
             return;
         };
-        let id = record.identifier;
-        let stuck = self.is_stuck(&id);
-        let entry = match record.state {
+        let (state, stuck) = (record.state, self.is_stuck(self.origins.of(false, place)));
+        let id = self.who_at(false, place);
+        let entry = match state {
             clerk::State::WaitAck if stuck => with_choice(TIMER, id, 1),
             clerk::State::Ringout if stuck => {
-                to_clerk(false, &bytes_of(Carrier::ReleaseComplete, id, Content::CallFailed))
+                let elements = self.elements_near(false, place);
+                let failed = bytes_of(Carrier::ReleaseComplete, id.identifier, Content::CallFailed, &elements);
+                to_clerk(false, id.place, &failed)
             }
             _ if stuck => with_choice(TIMER, id, 2),
             clerk::State::WaitAnswer if self.dice.once_in(8) => with_choice(TIMER, id, 3),
-            clerk::State::WaitAnswer => with_identifier(ACCEPT, id),
+            clerk::State::WaitAnswer => with_name(ACCEPT, id),
             clerk::State::Suspended => with_choice(USER_A_FREE, id, self.dice.below(2) as u8),
             clerk::State::WaitAck if self.dice.once_in(60) => with_choice(TIMER, id, 1),
             clerk::State::Invoked if self.dice.once_in(200) => with_choice(TIMER, id, 2),
-            clerk::State::Ringout if self.dice.once_in(20) => with_identifier(USER_CANCELS, id),
-            _ if self.dice.once_in(150) => with_identifier(USER_CANCELS, id),
+            clerk::State::Ringout if self.dice.once_in(20) => with_name(USER_CANCELS, id),
+            _ if self.dice.once_in(150) => with_name(USER_CANCELS, id),
             _ => return,
         };
         self.put(&entry);
     }
 
     fn sensible_line_act(&mut self) {
-        let Some(record) = self.dice.pick(&self.session.line.records) else {
+        let place = self.dice.below(self.session.line.records.len());
+        let Some(record) = self.session.line.records.get(place) else {
             return;
         };
-        let id = record.identifier;
-        let stuck = self.is_stuck(&id);
-        let entry = match record.state {
-            _ if stuck && self.mood != Mood::Crowd => with_identifier(GUARD_RUNS_OUT, id),
+        let (state, stuck) = (record.state, self.is_stuck(self.origins.of(true, place)));
+        let id = self.who_at(true, place);
+        let entry = match state {
+            _ if stuck && self.mood != Mood::Crowd => with_name(GUARD_RUNS_OUT, id),
             line::State::Alert if self.dice.once_in(3) => with_choice(ACT, id, 2),
             line::State::Alert => with_choice(ACT, id, 1),
             _ if self.dice.once_in(150) => with_choice(ACT, id, 3),
-            _ if self.dice.once_in(150) => with_identifier(GUARD_RUNS_OUT, id),
+            _ if self.dice.once_in(150) => with_name(GUARD_RUNS_OUT, id),
             _ => return,
         };
         self.put(&entry);
@@ -472,33 +469,36 @@ impl Player {
     /// The connection of a record falls, retained or not: mostly both ends see
     /// it, with other steps between the two or not, and sometimes only one does.
     fn connection_falls(&mut self) {
-        let id = self.some_identifier();
+        let place = self.dice.below(self.session.line.records.len());
+        let origin = self.origins.of(true, place);
         let (clerk_sees, line_sees) = (!self.dice.once_in(4), !self.dice.once_in(4));
-        if clerk_sees {
-            self.put(&with_identifier(FELL_AT_CLERK, id));
+        if let Some(there) = self.origins.place(false, origin).filter(|_| clerk_sees) {
+            let who = self.who_at(false, there);
+            self.put(&with_name(FELL_AT_CLERK, who));
         }
         if line_sees {
-            self.put(&with_identifier(FELL_AT_LINE, id));
+            let who = self.who_at(true, place);
+            self.put(&with_name(FELL_AT_LINE, who));
         }
     }
 
     fn any_clerk_act(&mut self) {
-        let id = self.identifier_at(false);
+        let id = self.some_who(false);
         let entry = match self.dice.below(8) {
-            0 => with_identifier(ACCEPT, id),
+            0 => with_name(ACCEPT, id),
             1 | 2 => with_choice(USER_A_FREE, id, self.dice.below(2) as u8),
-            3 => with_identifier(USER_CANCELS, id),
-            4 => with_identifier(FELL_AT_CLERK, id),
+            3 => with_name(USER_CANCELS, id),
+            4 => with_name(FELL_AT_CLERK, id),
             _ => with_choice(TIMER, id, 1 + self.dice.below(3) as u8),
         };
         self.put(&entry);
     }
 
     fn any_line_act(&mut self) {
-        let id = self.identifier_at(true);
+        let id = self.some_who(true);
         let entry = match self.dice.below(5) {
-            0 => with_identifier(GUARD_RUNS_OUT, id),
-            1 => with_identifier(FELL_AT_LINE, id),
+            0 => with_name(GUARD_RUNS_OUT, id),
+            1 => with_name(FELL_AT_LINE, id),
             _ => with_choice(ACT, id, 1 + self.dice.below(3) as u8),
         };
         self.put(&entry);
@@ -525,22 +525,24 @@ impl Player {
 
     fn stray(&mut self, to_the_line: bool) {
         let carrier = self.dice.pick(&Carrier::ALL).unwrap_or(Carrier::Setup);
-        let identifier = self.identifier_at(to_the_line);
+        let who = self.some_who(to_the_line);
         let content = self.some_content();
-        let bytes = bytes_of(carrier, identifier, content);
+        let elements = self.elements_near(to_the_line, who.place.into());
+        let bytes = bytes_of(carrier, who.identifier, content, &elements);
         if to_the_line {
-            self.put(&to_line(&bytes));
+            self.put(&to_line(who.place, &bytes));
         } else {
             let busy = self.dice.once_in(2);
-            self.put(&to_clerk(busy, &bytes));
+            self.put(&to_clerk(busy, who.place, &bytes));
         }
     }
 
     /// A request that no ask stands behind: only so the line desk gets full.
     fn stray_request(&mut self) {
-        let identifier = self.new_identifier();
+        let identifier = if self.dice.once_in(3) { None } else { Some(self.new_identifier()) };
         let content = self.some_request();
-        self.put(&to_line(&bytes_of(Carrier::Setup, identifier, content)));
+        let elements = self.elements_near(true, 0);
+        self.put(&to_line(0, &bytes_of(Carrier::Setup, identifier, content, &elements)));
     }
 
     /// Looks where there is something to find, and sometimes anywhere.
@@ -574,20 +576,22 @@ impl Player {
         }
     }
 
-    /// A byte of a number or a digit: all but the identifier's sixteen.
-    fn place_of_field(&mut self, length: usize) -> usize {
-        let thrown = self.dice.below(length.saturating_sub(16));
-        if thrown < 2 {
+    /// A byte of a number or a digit: all but the identifier's sixteen, if it is
+    /// there.
+    fn place_of_field(&mut self, bytes: &[u8]) -> usize {
+        let raw = if bytes.get(2) == Some(&16) { 16 } else { 0 };
+        let thrown = self.dice.below(bytes.len().saturating_sub(raw));
+        if thrown < 3 {
             thrown
         } else {
-            thrown + 16
+            thrown + raw
         }
     }
 
     /// A message with a fault in it, mostly, and often with more behind that:
     /// a cut end, a number in another form, a byte that is out of most ranges.
     fn with_fault(&mut self, mut bytes: Vec<u8>) -> Vec<u8> {
-        let place = self.place_of_field(bytes.len());
+        let place = self.place_of_field(&bytes);
         match self.dice.below(3) {
             0 => bytes.truncate(self.dice.below(bytes.len())),
             1 => {
@@ -617,11 +621,13 @@ impl Player {
     fn bad_bytes(&mut self) {
         let content = if self.dice.once_in(2) { self.some_request() } else { self.some_content() };
         let carrier = self.dice.pick(&Carrier::ALL).unwrap_or(Carrier::Setup);
-        let identifier = self.some_identifier();
-        let bytes = self.with_fault(bytes_of(carrier, identifier, content));
+        let line_end = self.dice.once_in(2);
+        let who = self.some_who(line_end);
+        let elements = self.elements_near(line_end, who.place.into());
+        let bytes = self.with_fault(bytes_of(carrier, who.identifier, content, &elements));
         let entry = match self.dice.below(5) {
-            0 | 1 => to_line(&bytes),
-            2 | 3 => to_clerk(self.dice.once_in(2), &bytes),
+            0..=3 if line_end => to_line(who.place, &bytes),
+            0..=3 => to_clerk(self.dice.once_in(2), who.place, &bytes),
             _ => write_entry(&bytes, self.dice.below(12) as u8, self.dice.below(75) as u8),
         };
         self.put(&entry);
@@ -644,9 +650,10 @@ impl Player {
 
     fn write(&mut self) {
         let content = self.some_content();
-        let identifier = self.some_identifier();
+        let who = self.some_who(true);
         let carrier = self.dice.pick(&Carrier::ALL).unwrap_or(Carrier::Setup);
-        let bytes = self.weather(bytes_of(carrier, identifier, content));
+        let elements = self.elements_near(true, who.place.into());
+        let bytes = self.weather(bytes_of(carrier, who.identifier, content, &elements));
         let place = self.dice.below(12) as u8;
         let size = self.dice.below(75) as u8;
         self.put(&write_entry(&bytes, place, size));
@@ -721,100 +728,10 @@ impl Player {
 }
 
 pub fn scripts(seed: u64, entries: usize) -> Scripts {
-    let mut player = Player {
-        dice: Dice { state: seed },
-        session: Session::default(),
-        scripts: Scripts::default(),
-        left: entries,
-        wire_to_line: Vec::new(),
-        wire_to_clerk: Vec::new(),
-        known: Vec::new(),
-        mood: Mood::Calm,
-        mood_left: 0,
-    };
+    let mut player = Player::new(seed, entries);
     player.new_file();
     while player.left > 0 {
         player.turn();
     }
     player.scripts
-}
-
-#[cfg(test)]
-mod tests {
-    use super::*;
-    use std::collections::BTreeSet;
-
-    #[test]
-    fn the_same_seed_gives_the_same_scripts() {
-        let bytes = |seed| {
-            let mut scripts = scripts(seed, 3000);
-            scripts.close();
-            scripts.full
-        };
-        assert_eq!(bytes(5), bytes(5));
-        assert_ne!(bytes(5), bytes(6));
-    }
-
-    #[test]
-    fn every_entry_is_played_and_no_file_is_too_long() {
-        let mut made = scripts(7, 20000);
-        made.close();
-        let entries: usize = made.full.iter().map(|script| crate::make::count_entries(script)).sum();
-        assert_eq!(entries, 20000);
-        assert!(made.full.iter().all(|script| script.len() < crate::make::LARGEST_SCRIPT));
-    }
-
-    #[test]
-    fn faults_at_many_places_are_told_by_both_desks_and_by_writes() {
-        let mut places = [BTreeSet::new(), BTreeSet::new(), BTreeSet::new()];
-        for script in scripts(11, 40000).into_cases() {
-            let Some((entry, _)) = take_entry(&script) else {
-                continue;
-            };
-            let whose = match entry {
-                Entry::ToClerk { .. } => 0,
-                Entry::ToLine { .. } => 1,
-                _ => 2,
-            };
-            match Session::default().play(&entry) {
-                Answer::Step { fault_place, .. } | Answer::Written { fault_place, .. } => {
-                    places[whose].extend(fault_place);
-                }
-                Answer::Printed { .. } => {}
-            }
-        }
-        // The longest message has 53 bytes, and the bytes can end behind 52.
-        assert!(places.iter().all(|told| told.len() > 25 && told.iter().all(|place| *place < 53)), "{places:?}");
-    }
-
-    #[test]
-    fn in_calm_a_wire_delivers_in_order_or_drops() {
-        let mut player = Player {
-            dice: Dice { state: 3 },
-            session: Session::default(),
-            scripts: Scripts::default(),
-            left: 0,
-            wire_to_line: (0..200).map(|n| vec![n]).collect(),
-            wire_to_clerk: Vec::new(),
-            known: Vec::new(),
-            mood: Mood::Calm,
-            mood_left: 0,
-        };
-        let taken: Vec<Option<Vec<u8>>> = (0..200).map(|_| player.take_off(true)).collect();
-        assert!(player.wire_to_line.is_empty());
-        assert!(taken.iter().any(Option::is_none));
-        for (n, message) in taken.iter().enumerate() {
-            assert!(message.is_none() || *message == Some(vec![n as u8]));
-        }
-    }
-
-    #[test]
-    fn nothing_panics_on_any_bytes() {
-        let mut dice = Dice { state: 99 };
-        for _ in 0..20000 {
-            let length = dice.below(400);
-            let script: Vec<u8> = (0..length).map(|_| dice.byte() % 70).collect();
-            crate::script::play_script(&script, |_| {});
-        }
-    }
 }

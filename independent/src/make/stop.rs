@@ -3,16 +3,16 @@
 //! the play, so each stands in a file of its own.
 
 use super::{
-    bytes_of, look, report, spread_identifier, start_line, to_clerk, to_line, with_choice, with_identifier,
-    write_entry, AskEntry, Scripts, ACCEPT, ACT, FELL_AT_CLERK, FELL_AT_LINE, GUARD_RUNS_OUT, PRINT_CLERK, PRINT_LINE,
-    START_CLERK, TIMER, USER_A_FREE, USER_CANCELS,
+    bytes_of, elements, look, report, spread_identifier, start_line, to_clerk, to_line, with_choice, with_name,
+    write_entry, AskEntry, Scripts, Who, ACCEPT, ACT, FELL_AT_CLERK, FELL_AT_LINE, GUARD_RUNS_OUT, PRINT_CLERK,
+    PRINT_LINE, START_CLERK, TIMER, USER_A_FREE, USER_CANCELS,
 };
 use crate::codec::{Carrier, Content};
 use crate::outcome::Kind;
 
 fn an_ask() -> AskEntry<'static> {
     AskEntry {
-        identifier: spread_identifier(1),
+        identifier: Some(spread_identifier(1)),
         kind: Kind::Ccbs,
         number_a: &[1, 2],
         number_b: &[3],
@@ -22,54 +22,82 @@ fn an_ask() -> AskEntry<'static> {
     }
 }
 
-/// One good entry of each code that has fields.
-fn samples() -> Vec<Vec<u8>> {
-    let identifier = spread_identifier(1);
-    let message = bytes_of(Carrier::ReleaseComplete, identifier, Content::CcCancel);
+/// One good entry of each code whose record is named.
+fn named(who: Who) -> Vec<Vec<u8>> {
     vec![
+        with_name(ACCEPT, who),
+        with_choice(USER_A_FREE, who, 0),
+        with_name(USER_CANCELS, who),
+        with_choice(TIMER, who, 1),
+        with_name(FELL_AT_CLERK, who),
+        with_choice(ACT, who, 1),
+        with_name(GUARD_RUNS_OUT, who),
+        with_name(FELL_AT_LINE, who),
+    ]
+}
+
+/// One good entry of each code that has fields, with an identifier and without.
+fn samples() -> Vec<Vec<u8>> {
+    let identifier = Some(spread_identifier(1));
+    let message = bytes_of(Carrier::ReleaseComplete, identifier, Content::CcCancel, &elements(&[], &[3], 0));
+    let mut samples = vec![
         start_line(&[([1, 2], 3), ([3, 4], 1)], 3),
         an_ask().bytes(),
-        to_clerk(true, &message),
-        to_clerk(false, &[]),
-        with_identifier(ACCEPT, identifier),
-        with_choice(USER_A_FREE, identifier, 0),
-        with_identifier(USER_CANCELS, identifier),
-        with_choice(TIMER, identifier, 1),
-        with_identifier(FELL_AT_CLERK, identifier),
-        to_line(&message),
+        AskEntry { identifier: None, ..an_ask() }.bytes(),
+        to_clerk(true, 0, &message),
+        to_clerk(false, 255, &[]),
+        to_line(0, &message),
+        to_line(255, &[]),
         report(&[1, 2], true),
         look(&[1, 2]),
-        with_choice(ACT, identifier, 1),
-        with_identifier(GUARD_RUNS_OUT, identifier),
-        with_identifier(FELL_AT_LINE, identifier),
         write_entry(&message, 1, 20),
-    ]
+    ];
+    samples.extend(named(Who::seed(1)));
+    samples.extend(named(Who::at(0)));
+    samples
+}
+
+/// An identifier's length that is neither 0 nor 16, with more bytes behind it than
+/// any entry takes.
+fn bad_lengths() -> Vec<Vec<u8>> {
+    let mut entries = Vec::new();
+    let codes = [16, ACCEPT, USER_A_FREE, USER_CANCELS, TIMER, FELL_AT_CLERK, ACT, GUARD_RUNS_OUT, FELL_AT_LINE];
+    for code in codes {
+        for length in [1, 2, 8, 15, 17, 32, 128, 255] {
+            entries.push([&[code, length][..], &[1; 40]].concat());
+        }
+    }
+    entries
 }
 
 /// Entries with a choice that isn't listed.
 fn bad_choices() -> Vec<Vec<u8>> {
-    let identifier = spread_identifier(1);
-    let mut entries = Vec::new();
+    let mut entries = bad_lengths();
     for bad in [4, 5, 128, 255].iter() {
         entries.push(start_line(&[([1, 2], *bad)], 0));
         entries.push(start_line(&[([1, 2], 3)], *bad));
-        entries.push(with_choice(TIMER, identifier, *bad));
-        entries.push(with_choice(ACT, identifier, *bad));
+        entries.push(with_choice(TIMER, Who::seed(1), *bad));
+        entries.push(with_choice(TIMER, Who::at(0), *bad));
+        entries.push(with_choice(ACT, Who::seed(1), *bad));
+        entries.push(with_choice(ACT, Who::at(0), *bad));
     }
     for bad in [2, 3, 128, 255].iter() {
-        entries.push(with_choice(USER_A_FREE, identifier, *bad));
-        entries.push(vec![17, *bad, 0]);
+        entries.push(with_choice(USER_A_FREE, Who::seed(1), *bad));
+        entries.push(with_choice(USER_A_FREE, Who::at(255), *bad));
+        entries.push(vec![17, *bad, 0, 0]);
         entries.push(vec![33, 1, 1, *bad]);
     }
-    entries.push(with_choice(TIMER, identifier, 0));
-    entries.push(with_choice(ACT, identifier, 0));
-    for (place, values) in [(17, [0, 3, 255]), (25, [2, 3, 255])].iter() {
-        // Place 17 of an ask's entry is the kind, place 25 the can-keep.
+    entries.push(with_choice(TIMER, Who::seed(1), 0));
+    entries.push(with_choice(ACT, Who::seed(1), 0));
+    for (place, values) in [(18, [0, 3, 255]), (26, [2, 3, 255])].iter() {
+        // Place 18 of an ask's entry is the kind, place 26 the can-keep; sixteen
+        // less without an identifier.
         for value in values.iter() {
             let mut entry = an_ask().bytes();
-            if let Some(byte) = entry.get_mut(*place) {
-                *byte = *value;
-            }
+            entry[*place] = *value;
+            entries.push(entry);
+            let mut entry = AskEntry { identifier: None, ..an_ask() }.bytes();
+            entry[*place - 16] = *value;
             entries.push(entry);
         }
     }
@@ -92,7 +120,7 @@ fn add(scripts: &mut Scripts, stopping: &[u8], behind: &[u8]) {
 /// The end of the stored script: a choice that isn't listed, and prints behind
 /// it that must not be played.
 pub fn ending() -> Vec<u8> {
-    let mut ending = with_choice(ACT, spread_identifier(1), 4);
+    let mut ending = with_choice(ACT, Who::at(1), 4);
     ending.extend([PRINT_CLERK, PRINT_LINE]);
     ending
 }
@@ -103,7 +131,7 @@ pub fn scripts() -> Scripts {
     for sample in samples() {
         for length in 1..sample.len() {
             // Inside an identifier one place is as good as another.
-            if !(6..=14).contains(&length) {
+            if sample.len() < 17 || !(6..=15).contains(&length) {
                 add(&mut scripts, sample.get(..length).unwrap_or(&sample), &[]);
             }
         }

@@ -3,8 +3,8 @@
 //! a clock or on chance, so that it has the same bytes each time.
 
 use super::{clerk, codec, count_entries, line, stop, PRINT_CLERK, PRINT_LINE, START_CLERK};
-use crate::coverage::Coverage;
-use crate::script::{play_script, take_entry, Entry, Session};
+use crate::coverage::{is_at_clerk, Coverage};
+use crate::script::{play_script, take_entry, Answer, Entry, Session};
 use std::cmp::Reverse;
 use std::collections::BinaryHeap;
 use std::fs;
@@ -14,7 +14,7 @@ use std::path::Path;
 /// The stored script's own limits; the replay takes a little more.
 pub const FEWEST_BYTES: usize = 100_000;
 pub const MOST_BYTES: usize = 250_000;
-pub const MOST_PRINTED: usize = 2_000_000;
+pub const MOST_PRINTED: usize = 2_500_000;
 
 /// A case that may be chosen, and the rows that it reaches by itself.
 struct Candidate {
@@ -178,23 +178,39 @@ impl Stored {
     }
 }
 
-/// Plays a case behind what was played before and gives it with a print only
-/// where a row is reached for the first time, and at its end; nothing where it
-/// reaches no row for the first time. The session behind it comes with it.
+/// The print of the desk that an entry is at; a write is at none.
+fn print_of(entry: &Entry) -> Option<u8> {
+    match entry {
+        Entry::Write { .. } | Entry::PrintClerk | Entry::PrintLine => None,
+        entry if is_at_clerk(entry) => Some(PRINT_CLERK),
+        _ => Some(PRINT_LINE),
+    }
+}
+
+fn is_refused(answer: &Answer) -> bool {
+    matches!(answer, Answer::Step { outcome, .. } if outcome.refusal.is_some())
+}
+
+/// Plays a case behind what was played before and gives it up to the last entry
+/// that reaches a row for the first time, with a print behind each such entry and no
+/// other; nothing where no entry does. Of the others those that are refused are left
+/// out, as they change nothing. The session behind it comes with it.
 fn lean_case(coverage: &mut Coverage, before: &Session, case: &[u8]) -> (Option<Vec<u8>>, Session) {
-    let mut session = before.clone();
-    let mut bytes = Vec::new();
-    let mut any = false;
-    let steps = steps(case);
-    for (place, step) in steps.iter().enumerate() {
-        let new = coverage.step(&mut session, &step.entry);
-        any |= new;
-        bytes.extend_from_slice(&step.bytes);
-        if new || place + 1 == steps.len() {
-            bytes.extend(step.print);
+    let (mut session, mut kept) = (before.clone(), before.clone());
+    let (mut bytes, mut length) = (Vec::new(), 0);
+    for step in steps(case) {
+        let (answer, new) = coverage.step(&mut session, &step.entry);
+        if new || !is_refused(&answer) {
+            bytes.extend_from_slice(&step.bytes);
+        }
+        if new {
+            bytes.extend(step.print.or(print_of(&step.entry)));
+            length = bytes.len();
+            kept = session.clone();
         }
     }
-    (any.then_some(bytes), session)
+    bytes.truncate(length);
+    ((length > 0).then_some(bytes), kept)
 }
 
 #[cfg(test)]

@@ -3,8 +3,21 @@
 use self::Event::*;
 use super::ladder::End;
 
-/// A request's tag, "a number of two decimal digits".
-pub type Tag = u8;
+/// A request's tag: "a number of two decimal digits", or none for a request without
+/// an identifier, whose record an event names by its place.
+#[derive(Clone, Copy, PartialEq, Eq, Debug)]
+pub enum Tag {
+    Id(u8),
+    Nameless,
+    At(u8),
+}
+
+const T12: Tag = Tag::Id(12);
+const T20: Tag = Tag::Id(20);
+const T34: Tag = Tag::Id(34);
+
+/// The place that the host names with a message; none for `--`.
+pub type Place = Option<u8>;
 
 /// A line's digits, as they are printed.
 pub type Digits = &'static str;
@@ -18,6 +31,7 @@ pub enum Event {
     T2(Tag),
     ClerkFell(Tag),
     ClerkHears,
+    ClerkHearsAt(Place),
     Busy(Digits),
     Free(Digits),
     Look(Digits),
@@ -25,17 +39,20 @@ pub enum Event {
     Withdraw(Tag),
     LineFell(Tag),
     LineHears,
+    LineHearsAt(Place),
     Stray(Tag),
+    StrayCancel,
     Records,
     Say(usize),
 }
 
 impl Event {
     /// "The event's end is the clerk's for `ask`, `accept`, `cancel`, `T2`,
-    /// `clerk fell` and `clerk hears`, the line's for the others (`stray` too)."
+    /// `clerk fell`, `clerk hears` and `clerk hears at`, the line's for the others
+    /// (`stray` and `stray cancel` too)."
     pub fn end(self) -> End {
         match self {
-            Ask(_) | Accept(_) | Cancel(_) | T2(_) | ClerkFell(_) | ClerkHears => End::Clerk,
+            Ask(_) | Accept(_) | Cancel(_) | T2(_) | ClerkFell(_) | ClerkHears | ClerkHearsAt(_) => End::Clerk,
             _ => End::Line,
         }
     }
@@ -45,6 +62,15 @@ impl Event {
         match self {
             Ask(tag) | Accept(tag) | Cancel(tag) | T2(tag) | ClerkFell(tag) => Some(tag),
             Alerted(tag) | Withdraw(tag) | LineFell(tag) => Some(tag),
+            _ => None,
+        }
+    }
+
+    /// The place that the event itself names: `-- at P`, or that of a hearing.
+    pub fn place(self) -> Place {
+        match (self, self.tag()) {
+            (ClerkHearsAt(place) | LineHearsAt(place), _) => place,
+            (_, Some(Tag::At(place))) => Some(place),
             _ => None,
         }
     }
@@ -59,9 +85,11 @@ pub struct Request {
     pub service: u32,
 }
 
-pub const REQUESTS: [Request; 2] = [
-    Request { tag: 34, number_a: "5550134", number_b: "41180", service: 34 },
-    Request { tag: 12, number_a: "5550112", number_b: "52290", service: 12 },
+/// An empty numberA is a withheld one.
+pub const REQUESTS: [Request; 3] = [
+    Request { tag: T34, number_a: "5550134", number_b: "41180", service: 34 },
+    Request { tag: T12, number_a: "5550112", number_b: "52290", service: 12 },
+    Request { tag: Tag::Nameless, number_a: "", number_b: "41180", service: 34 },
 ];
 
 /// "The line desk starts with the lines 41180 and 52290, in this order".
@@ -98,14 +126,14 @@ impl Scene {
 
 /// "Before the first scene, four lines and an empty line".
 pub const BEFORE: [&str; 5] = [
-    "TOLLHERRING: THREE LESSONS IN FIVE SCENES",
+    "TOLLHERRING: THREE LESSONS IN SIX SCENES",
     "A clerk finds a house's line busy and asks to be rung back. #34 is the request for a group of 34.",
     "A message is sent: o---...   It arrives: ...--->   No desk sent it: ...---?   Its carrier is in [ ].",
     "States, timers, notices and refusals are the desks' own. A scene says which messages it forges.",
     "",
 ];
 
-const NARRATION: [&str; 16] = [
+const NARRATION: [&str; 22] = [
     "* The house's line is busy. The clerk asks to be rung back, and says that it can keep the request.",
     "* The line clears, and the house rings back. But another caller is faster than the clerk.",
     "* Busy again. What has each end kept?",
@@ -122,6 +150,12 @@ const NARRATION: [&str; 16] = [
     "* The connection falls while the request waits. The house's end sees it, the clerk's not yet.",
     "* The line clears. The house rings back all the same, over a new connection.",
     "* Now the clerk's end sees it too. User A accepts, and the call gets through.",
+    "* Two requests that look alike: one line, one service, no identifier. They are no duplicates.",
+    "* A stray ccCancel arrives. The host knows that it belongs to neither, and names no place.",
+    "* The line clears and the house rings back the first. The host knows that too.",
+    "* The same stray ccCancel once more. This time the host guesses, and guesses the second.",
+    "* The first goes on. Its ccRingout has no name either: both records fit, one has been rung back.",
+    "* The house rings back the second. It has no record here any more, and its caller was told \"failed\".",
 ];
 
 /// Line N of the narration, from 1.
@@ -133,7 +167,7 @@ pub fn narration(number: usize) -> Option<&'static str> {
 const EVENING: &[Event] = &[
     Say(1),
     Busy("41180"),
-    Ask(34),
+    Ask(T34),
     LineHears,
     ClerkHears,
     Records,
@@ -142,7 +176,7 @@ const EVENING: &[Event] = &[
     Look("41180"),
     ClerkHears,
     Busy("41180"),
-    Accept(34),
+    Accept(T34),
     LineHears,
     ClerkHears,
     Say(3),
@@ -159,7 +193,7 @@ const WENT_WRONG: Scene = Scene {
     house: House::WrongEnd,
     opening: "The house's end stores no keep; its answer \"keep 1\" is forged here. Each end alone looks well.",
     prelude: &[],
-    events: [EVENING, &[Say(5), T2(34), LineHears, Records]],
+    events: [EVENING, &[Say(5), T2(T34), LineHears, Records]],
     lesson: [
         "LESSON 1. Two good ends are not yet a good pair: one believed in a request that the other had",
         "deleted. No ring-back came, the clerk split the group, and 34 guests slept in two houses.",
@@ -172,7 +206,7 @@ const GOES_NOW: Scene = Scene {
     house: House::Keeps,
     opening: "The same evening and the same inputs; the house's end now stores what it answers.",
     prelude: &[],
-    events: [EVENING, &[Say(6), Accept(34), LineHears, Alerted(34), ClerkHears, Records]],
+    events: [EVENING, &[Say(6), Accept(T34), LineHears, Alerted(T34), ClerkHears, Records]],
     lesson: [
         "LESSON 1, LEARNED. What one end holds as kept, the other has stored. The ring-back came, and the 34",
         "slept in one house.",
@@ -184,9 +218,9 @@ const CANCEL_MEETS_RING_BACK: Scene = Scene {
     preference: RELEASE,
     house: House::Keeps,
     opening: "User A no longer wants the call, just when the house rings back.",
-    prelude: &[Busy("41180"), Ask(34), LineHears, ClerkHears],
+    prelude: &[Busy("41180"), Ask(T34), LineHears, ClerkHears],
     events: [
-        &[Records, Say(7), Free("41180"), Look("41180"), Say(8), Cancel(34)],
+        &[Records, Say(7), Free("41180"), Look("41180"), Say(8), Cancel(T34)],
         &[Say(9), ClerkHears, LineHears, LineHears, Records],
     ],
     lesson: [
@@ -198,10 +232,10 @@ const CANCEL_MEETS_RING_BACK: Scene = Scene {
 const STRAY_PRELUDE: &[Event] = &[
     Busy("41180"),
     Busy("52290"),
-    Ask(34),
+    Ask(T34),
     LineHears,
     ClerkHears,
-    Ask(12),
+    Ask(T12),
     LineHears,
     ClerkHears,
     Free("41180"),
@@ -216,10 +250,10 @@ const STRAY_PRELUDE: &[Event] = &[
 const STRAY_UP_TO_LATE: &[Event] = &[
     Records,
     Say(10),
-    Accept(34),
+    Accept(T34),
     LineHears,
-    Accept(12),
-    Withdraw(12),
+    Accept(T12),
+    Withdraw(T12),
     LineHears,
     ClerkHears,
     Records,
@@ -230,14 +264,14 @@ const STRAY_UP_TO_LATE: &[Event] = &[
 
 const STRAY_TO_THE_END: &[Event] = &[
     Say(12),
-    Stray(20),
+    Stray(T20),
     ClerkHears,
     LineHears,
-    Stray(34),
+    Stray(T34),
     ClerkHears,
     Records,
     Say(13),
-    Alerted(34),
+    Alerted(T34),
     ClerkHears,
     Records,
 ];
@@ -250,24 +284,24 @@ const STRAY_REPLY: Scene = Scene {
     prelude: STRAY_PRELUDE,
     events: [STRAY_UP_TO_LATE, STRAY_TO_THE_END],
     lesson: [
-        "LESSON 3. A stray reply must never touch the nearest request. A record is found by its identifier",
-        "and by nothing else.",
+        "LESSON 3. A stray reply must never touch the nearest request. Different identifiers never meet,",
+        "however alike the two requests are.",
     ],
 };
 
 /// The events of scene 5 up to the ring-back.
 const FALL_UP_TO_RING_BACK: &[Event] =
-    &[Records, Say(14), LineFell(34), Records, Say(15), Free("41180"), Look("41180"), ClerkHears];
+    &[Records, Say(14), LineFell(T34), Records, Say(15), Free("41180"), Look("41180"), ClerkHears];
 
 const FALL_TO_THE_END: &[Event] =
-    &[Say(16), ClerkFell(34), Accept(34), LineHears, Records, Alerted(34), ClerkHears, Records];
+    &[Say(16), ClerkFell(T34), Accept(T34), LineHears, Records, Alerted(T34), ClerkHears, Records];
 
 const CONNECTION_FALLS: Scene = Scene {
     title: "The connection falls",
     preference: RETAIN,
     house: House::Keeps,
     opening: "Both ends keep a connection for the request, and it falls. Nobody cancels anything.",
-    prelude: &[Busy("41180"), Ask(34), LineHears, ClerkHears],
+    prelude: &[Busy("41180"), Ask(T34), LineHears, ClerkHears],
     events: [FALL_UP_TO_RING_BACK, FALL_TO_THE_END],
     lesson: [
         "LESSON 1, ONCE MORE. A connection is not the request. What both ends have stored outlives it, and",
@@ -275,4 +309,54 @@ const CONNECTION_FALLS: Scene = Scene {
     ],
 };
 
-pub const SCENES: [Scene; 5] = [WENT_WRONG, GOES_NOW, CANCEL_MEETS_RING_BACK, STRAY_REPLY, CONNECTION_FALLS];
+/// The events of scene 6 up to the stray ccCancel that is kept off.
+const NAMELESS_UP_TO_RING_BACK: &[Event] = &[
+    Say(17),
+    Ask(Tag::Nameless),
+    Ask(Tag::Nameless),
+    LineHears,
+    LineHears,
+    ClerkHearsAt(Some(0)),
+    ClerkHearsAt(Some(1)),
+    Records,
+    Say(18),
+    StrayCancel,
+    ClerkHearsAt(None),
+    Records,
+    Say(19),
+    Free("41180"),
+    Look("41180"),
+    ClerkHearsAt(Some(0)),
+];
+
+const NAMELESS_TO_THE_END: &[Event] = &[
+    Say(20),
+    StrayCancel,
+    ClerkHearsAt(Some(1)),
+    Records,
+    Say(21),
+    Accept(Tag::At(0)),
+    LineHears,
+    Alerted(Tag::At(0)),
+    Look("41180"),
+    ClerkHearsAt(Some(0)),
+    Say(22),
+    ClerkHearsAt(None),
+    LineHearsAt(Some(0)),
+    Records,
+];
+
+const NAMELESS: Scene = Scene {
+    title: "Two callers without a name",
+    preference: RETAIN,
+    house: House::Keeps,
+    opening: "An end that sends no identifier and withholds its number: #-- is all that a message says.",
+    prelude: &[Busy("41180")],
+    events: [NAMELESS_UP_TO_RING_BACK, NAMELESS_TO_THE_END],
+    lesson: [
+        "LESSON 3, WITHOUT A NAME. Where no identifier tells whose a message is, the host has to know it.",
+        "A right place kept the stray off. A guess let it touch the nearest request, and a caller was lost.",
+    ],
+};
+
+pub const SCENES: [Scene; 6] = [WENT_WRONG, GOES_NOW, CANCEL_MEETS_RING_BACK, STRAY_REPLY, CONNECTION_FALLS, NAMELESS];

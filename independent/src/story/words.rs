@@ -1,21 +1,36 @@
 //! STORY, "Words": what the event's end says to a step.
 
 use super::ladder::End;
-use super::scenes::Event;
+use super::scenes::{Event, Tag};
 use crate::clerk;
 use crate::codec::{Identifier, Refusal};
 use crate::line;
+use crate::meant::place_of;
 use crate::outcome::{Outcome, GUARD, T1, T2, T3};
 use crate::script::Session;
 
-/// "A printed tag is the first byte of the identifier", "`#` and its two digits".
-pub fn tag_text(identifier: &Identifier) -> String {
-    format!("#{:02}", identifier[0])
+/// "A printed tag is the first byte of the identifier", "`#` and its two digits";
+/// `#--` where there is none.
+pub fn tag_text(identifier: &Option<Identifier>) -> String {
+    identifier.map_or("#--".to_string(), |identifier| format!("#{:02}", identifier[0]))
+}
+
+/// A record without an identifier: "`#-- at P`".
+fn placed_text(place: usize) -> String {
+    format!("#-- at {place}")
+}
+
+fn tag_of_event(tag: Tag) -> String {
+    match tag {
+        Tag::Id(tag) => tag_text(&Some([tag; 16])),
+        Tag::Nameless => tag_text(&None),
+        Tag::At(place) => placed_text(place.into()),
+    }
 }
 
 /// STORY, "Events", the column "Words of the cause".
 pub fn cause(event: Event) -> Option<String> {
-    let tag = event.tag().map_or(String::new(), |tag| tag_text(&[tag; 16]));
+    let tag = event.tag().map_or(String::new(), tag_of_event);
     Some(match event {
         Event::Ask(_) => format!("{tag} ask: CCBS, can-keep 1"),
         Event::Accept(_) => format!("{tag} User A accepts"),
@@ -27,7 +42,9 @@ pub fn cause(event: Event) -> Option<String> {
         Event::Look(line) => format!("Look at line {line}"),
         Event::Alerted(_) => format!("{tag} the phone rings"),
         Event::Withdraw(_) => format!("{tag} the house withdraws"),
-        Event::Stray(_) => "(no desk sent this)".to_string(),
+        Event::Stray(_) | Event::StrayCancel => "(no desk sent this)".to_string(),
+        Event::ClerkHearsAt(Some(place)) | Event::LineHearsAt(Some(place)) => format!("the host names place {place}"),
+        Event::ClerkHearsAt(None) | Event::LineHearsAt(None) => "the host names no place".to_string(),
         Event::ClerkHears | Event::LineHears | Event::Records | Event::Say(_) => return None,
     })
 }
@@ -82,12 +99,24 @@ fn state_word(before: &str, after: &str) -> String {
     format!("{before} -> {after}")
 }
 
+/// Whose step it was: a request by its identifier, or a record by its place, with
+/// its states before and after.
+pub struct About {
+    pub nameless_at: Option<usize>,
+    pub before: &'static str,
+    pub after: &'static str,
+}
+
 /// A step's words: the cause "from the cell's first character on; all others
-/// below have two blanks in front of them". The states are those of the step's
-/// request before and after, if it has one.
-pub fn of_step(event: Event, outcome: &Outcome, states: Option<(&str, &str)>) -> Vec<String> {
+/// below have two blanks in front of them". A record without an identifier is named
+/// where the event doesn't name its place.
+pub fn of_step(event: Event, outcome: &Outcome, about: Option<About>) -> Vec<String> {
     let mut below = outcome_words(outcome);
-    below.extend(states.map(|(before, after)| state_word(before, after)));
+    if let Some(About { nameless_at, before, after }) = about {
+        let place = nameless_at.filter(|_| event.place().is_none());
+        below.extend(place.map(|place| format!("about {}", placed_text(place))));
+        below.push(state_word(before, after));
+    }
     cause(event).into_iter().chain(below.into_iter().map(|word| format!("  {word}"))).collect()
 }
 
@@ -98,34 +127,70 @@ fn line_state(record: &line::Record) -> &'static str {
     }
 }
 
-/// The state of a request at one of the desks.
-pub fn state(desks: &Session, end: End, identifier: &Identifier) -> &'static str {
+const NO_RECORD: &str = "no record";
+
+/// The state of the record at a place of one of the desks.
+fn state_at(desks: &Session, end: End, place: usize) -> &'static str {
     let found = match end {
-        End::Clerk => desks.clerk.records.iter().find(|r| r.identifier == *identifier).map(|r| r.state.name()),
-        End::Line => desks.line.records.iter().find(|r| r.identifier == *identifier).map(line_state),
+        End::Clerk => desks.clerk.records.get(place).map(|r| r.state.name()),
+        End::Line => desks.line.records.get(place).map(line_state),
     };
-    found.unwrap_or("no record")
+    found.unwrap_or(NO_RECORD)
+}
+
+/// The state of a request at one of the desks.
+fn state(desks: &Session, end: End, identifier: &Identifier) -> &'static str {
+    let place = match end {
+        End::Clerk => place_of(&desks.clerk.records, identifier),
+        End::Line => place_of(&desks.line.records, identifier),
+    };
+    place.map_or(NO_RECORD, |place| state_at(desks, end, place))
+}
+
+pub fn about_identifier(before: &Session, after: &Session, end: End, identifier: &Identifier) -> About {
+    About { nameless_at: None, before: state(before, end, identifier), after: state(after, end, identifier) }
+}
+
+/// A record that the step stores had none before, one that it ends has none after.
+pub fn about_place(before: &Session, after: &Session, end: End, place: usize) -> About {
+    let count = |desks: &Session| match end {
+        End::Clerk => desks.clerk.records.len(),
+        End::Line => desks.line.records.len(),
+    };
+    let ended = count(after) < count(before);
+    let state_after = if ended { NO_RECORD } else { state_at(after, end, place) };
+    About { nameless_at: Some(place), before: state_at(before, end, place), after: state_after }
 }
 
 /// "A record is its tag, a blank, its state as above, and `, keep 1`,
 /// `, keep 0`, or `, keep -` where the choice is empty"; "A record that is
 /// marked "connection down" ends with `, down`".
-fn record_text(identifier: &Identifier, state: &str, keep: Option<bool>, down: bool) -> String {
+fn record_text(tag: &str, state: &str, keep: Option<bool>, down: bool) -> String {
     let keep = match keep {
         Some(true) => "1",
         Some(false) => "0",
         None => "-",
     };
     let down = if down { ", down" } else { "" };
-    format!("{} {state}, keep {keep}{down}", tag_text(identifier))
+    format!("{tag} {state}, keep {keep}{down}")
 }
 
-pub fn clerk_record(record: &clerk::Record) -> String {
-    record_text(&record.identifier, record.state.name(), record.keep, record.down)
+/// The tag of a record, or `#-- at P`.
+fn record_tag(place: usize, identifier: &Option<Identifier>) -> String {
+    match identifier {
+        Some(_) => tag_text(identifier),
+        None => placed_text(place),
+    }
 }
 
-pub fn line_record(record: &line::Record) -> String {
-    record_text(&record.identifier, line_state(record), Some(record.keep), record.down)
+pub fn clerk_record((place, record): (usize, &clerk::Record)) -> String {
+    let tag = record_tag(place, &record.identifier);
+    record_text(&tag, record.state.name(), record.keep, record.down)
+}
+
+pub fn line_record((place, record): (usize, &line::Record)) -> String {
+    let tag = record_tag(place, &record.identifier);
+    record_text(&tag, line_state(record), Some(record.keep), record.down)
 }
 
 #[cfg(test)]
@@ -147,22 +212,25 @@ mod tests {
             "  clear the call",
             "  Ringout -> no record",
         ];
-        assert_eq!(of_step(Event::T2(7), &outcome, Some(("Ringout", "no record"))), expected);
+        let about = About { nameless_at: None, before: "Ringout", after: "no record" };
+        assert_eq!(of_step(Event::T2(Tag::Id(7)), &outcome, Some(about)), expected);
         assert!(expected.iter().all(|word| word.len() <= 29));
     }
 
     #[test]
     fn the_fall_is_told_alike_at_both_ends() {
         let expected = ["#34 the connection fell", "  still Invoked"];
-        for (event, end) in [(Event::ClerkFell(34), End::Clerk), (Event::LineFell(34), End::Line)] {
+        let tag = Tag::Id(34);
+        for (event, end) in [(Event::ClerkFell(tag), End::Clerk), (Event::LineFell(tag), End::Line)] {
             assert_eq!(event.end(), end);
-            assert_eq!(of_step(event, &Outcome::done(), Some(("Invoked", "Invoked"))), expected);
+            let about = About { nameless_at: None, before: "Invoked", after: "Invoked" };
+            assert_eq!(of_step(event, &Outcome::done(), Some(about)), expected);
         }
     }
 
     #[test]
     fn a_marked_record_ends_with_down() {
-        let text = |keep, down| record_text(&[34; 16], "Invoked", keep, down);
+        let text = |keep, down| record_text("#34", "Invoked", keep, down);
         assert_eq!(text(Some(true), true), "#34 Invoked, keep 1, down");
         assert_eq!(text(Some(true), false), "#34 Invoked, keep 1");
         assert_eq!(text(Some(false), true), "#34 Invoked, keep 0, down");
@@ -178,8 +246,25 @@ mod tests {
     }
 
     #[test]
+    fn a_record_without_an_identifier_is_told_by_its_place() {
+        let words = |event, nameless_at| {
+            let about = About { nameless_at, before: "Await", after: "Alert" };
+            of_step(event, &Outcome::done(), Some(about))
+        };
+        assert_eq!(words(Event::LineHears, Some(1)), ["  about #-- at 1", "  Await -> Alert"]);
+        assert_eq!(words(Event::LineHearsAt(Some(1)), Some(1)), ["the host names place 1", "  Await -> Alert"]);
+        assert_eq!(words(Event::LineHearsAt(None), None), ["the host names no place", "  Await -> Alert"]);
+        assert_eq!(words(Event::Alerted(Tag::At(1)), Some(1)), ["#-- at 1 the phone rings", "  Await -> Alert"]);
+        assert_eq!(words(Event::Ask(Tag::Nameless), Some(1))[0], "#-- ask: CCBS, can-keep 1");
+        assert_eq!(words(Event::Ask(Tag::Nameless), Some(1))[1], "  about #-- at 1");
+        assert_eq!(record_tag(3, &None), "#-- at 3");
+        assert_eq!(record_tag(3, &Some([34; 16])), "#34");
+    }
+
+    #[test]
     fn a_hearing_has_no_cause() {
-        assert_eq!(of_step(Event::LineHears, &Outcome::done(), Some(("Alert", "Alert"))), ["  still Alert"]);
+        let about = About { nameless_at: None, before: "Alert", after: "Alert" };
+        assert_eq!(of_step(Event::LineHears, &Outcome::done(), Some(about)), ["  still Alert"]);
         assert!(of_step(Event::ClerkHears, &Outcome::done(), None).is_empty());
     }
 }

@@ -1,11 +1,18 @@
--- By the input, with the place of the record that it names.
-use Rattle.clerk_plan.specs.Plan.{decided}
+-- By the input, with the record that it means.
+use mathlib.Core.Path.{_≡_, refl}
+use mathlib.Core.List.{List}
+use Rattle.lists.specs.declared.Found.{Found}
+use Rattle.lists.specs.declared.Found.the-variants as Found
+use Rattle.terms.specs.declared.means.Means.the-variants.{Nothing}
+use Rattle.terms.specs.declared.request.Request.{Request}
+use Rattle.clerk_table.specs.declared.record.Record.{Record}
+use denote.Ref.{now}
+use Rattle.clerk_records.specs.Records.{records}
+use Rattle.clerk_records.specs.Meaning.{identifierMeans, orElse, meaning, named, meantBy}
+use Rattle.clerk_plan.specs.Plan.{askFound, askMeant, decided}
 use borrow.Author.Needs.{needs}
 use Rattle.clerk_plan.proofs.decide.Statement.{statement}
 use Rattle.clerk_plan.proofs.decide.Tie as tie
-
-names-of-requires : tie.Need-names-of-requires
-names-of-requires c κs = search needs
 
 find-meant-requires : tie.Need-find-meant-requires
 find-meant-requires c κs = search needs
@@ -40,27 +47,34 @@ row-of-timer-requires c κs = search needs
 decide-own-requires-2 : tie.Need-decide-own-requires-2
 decide-own-requires-2 c κs = search needs
 
+-- an ask means what its identifier finds, and nothing else
+ask-same : (rs : List Record) (q : Request) (f : Found) → askMeant rs q (orElse f Nothing) ≡ askFound rs q f
+ask-same rs q (Found.At i) = refl
+ask-same rs q Found.Nothing = refl
+
 returns : tie.Need-returns
-unfolding decided
-returns c = rw (c .decide-ask .ensures, c .before .before .before .before .find-meant .ensures, c .before .before .before .before .before .before .names-of .ensures, c .before .before .input .given .1)
+unfolding decided meantBy
+returns c =
+    let asked = c .before .before .input .given in
+    let rs = records (now (c .before .before .before .before .before .args .words)) in
+    rw (c .decide-ask .ensures, c .before .before .before .before .find-meant .ensures, asked .1) (ask-same rs (asked .0 .1 .0) (identifierMeans (asked .0 .0 .identifier) rs))
 
 returns-2 : tie.Need-returns-2
-unfolding decided
-returns-2 c = rw (c .decide-message .ensures, c .before .before .before .before .find-meant .ensures, c .before .before .before .before .before .before .names-of .ensures, c .before .before .input2 .given .1)
+unfolding decided meantBy meaning
+returns-2 c = rw (c .decide-message .ensures, c .before .before .before .before .find-meant .ensures, c .before .before .input2 .given .1)
 
 returns-3 : tie.Need-returns-3
-unfolding decided
-returns-3 c = rw (c .decide-own .ensures, c .before .row-of-act .ensures, c .before .before .before .before .before .find-meant .ensures, c .before .before .before .before .before .before .before .names-of .ensures, c .before .before .before .input3 .given .1)
+unfolding decided meantBy named
+returns-3 c = rw (c .decide-own .ensures, c .before .row-of-act .ensures, c .before .before .before .before .before .find-meant .ensures, c .before .before .before .input3 .given .1)
 
 returns-4 : tie.Need-returns-4
-unfolding decided
-returns-4 c = rw (c .decide-own2 .ensures, c .before .row-of-timer .ensures, c .before .before .before .before .before .find-meant .ensures, c .before .before .before .before .before .before .before .names-of .ensures, c .before .before .before .input4 .given .1)
+unfolding decided meantBy named
+returns-4 c = rw (c .decide-own2 .ensures, c .before .row-of-timer .ensures, c .before .before .before .before .before .find-meant .ensures, c .before .before .before .input4 .given .1)
 
 pub decide-spec : {M : Type 1} → statement M
 decide-spec =
     tie.close
     (tie.spec
-    names-of-requires
     find-meant-requires
     enum-known-input
     decide-ask-requires

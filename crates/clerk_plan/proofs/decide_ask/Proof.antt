@@ -10,11 +10,14 @@ enum-told c = search needs
 enum-told-2 : tie.Need-enum-told-2
 enum-told-2 c = search needs
 
+enum-told-3 : tie.Need-enum-told-3
+enum-told-3 c = search needs
+
 find-place-requires : tie.Need-find-place-requires
 find-place-requires c κs = search needs
 
-enum-told-3 : tie.Need-enum-told-3
-enum-told-3 c = search needs
+enum-told-4 : tie.Need-enum-told-4
+enum-told-4 c = search needs
 
 enum-known-place : tie.Need-enum-known-place
 enum-known-place c = search needs
@@ -23,10 +26,13 @@ returns : tie.Need-returns
 returns c = rw (c .enum-told .given .1)
 
 returns-2 : tie.Need-returns-2
-returns-2 c = rw (c .before .before .before .enum-told2 .given .1, sym (c .before .before .find-place .ensures) ∙ c .enum-told3 .given .1)
+returns-2 c = rw (c .enum-told2 .given .1)
 
 returns-3 : tie.Need-returns-3
-returns-3 c = rw (c .before .before .before .before .enum-told2 .given .1, sym (c .before .before .before .find-place .ensures) ∙ c .before .place .given .1)
+returns-3 c = rw (c .before .before .before .enum-told3 .given .1, sym (c .before .before .find-place .ensures) ∙ c .enum-told4 .given .1)
+
+returns-4 : tie.Need-returns-4
+returns-4 c = rw (c .before .before .before .before .enum-told3 .given .1, sym (c .before .before .before .find-place .ensures) ∙ c .before .place .given .1)
 
 pub decide-ask-spec : {M : Type 1} → statement M
 decide-ask-spec =
@@ -34,9 +40,11 @@ decide-ask-spec =
     (tie.spec
     enum-told
     enum-told-2
-    find-place-requires
     enum-told-3
+    find-place-requires
+    enum-told-4
     enum-known-place
     returns
     returns-2
-    returns-3)
+    returns-3
+    returns-4)

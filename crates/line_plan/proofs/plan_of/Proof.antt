@@ -48,11 +48,11 @@ reported-plan-requires c κs = search needs
 
 returns : tie.Need-returns
 unfolding planOf
-returns c = rw (c .refused-plan .ensures, c .before .answer-with .ensures, c .before .before .before .before .before .before .before .names-of .ensures, c .before .before .before .decision .given .1)
+returns c = rw (c .refused-plan .ensures, c .before .answer-with .ensures, c .before .before .before .before .before .before .names-of .ensures, c .before .before .before .decision .given .1)
 
 returns-2 : tie.Need-returns-2
 unfolding planOf
-returns-2 c = rw (c .denied-plan .ensures, c .before .before .before .before .before .before .names-of .ensures, c .before .before .decision2 .given .1)
+returns-2 c = rw (c .denied-plan .ensures, c .before .before .before .before .before .names-of .ensures, c .before .before .decision2 .given .1)
 
 returns-3 : tie.Need-returns-3
 unfolding planOf
@@ -60,11 +60,11 @@ returns-3 c = rw (c .take-row .ensures, c .before .load .ensures, c .before .bef
 
 returns-4 : tie.Need-returns-4
 unfolding planOf
-returns-4 c = rw (c .stored-plan .ensures, c .before .new-record .ensures, c .before .before .before .before .before .before .before .names-of .ensures, c .before .before .before .decision4 .given .1)
+returns-4 c = rw (c .stored-plan .ensures, c .before .new-record .ensures, c .before .before .before .before .before .before .names-of .ensures, c .before .before .before .decision4 .given .1)
 
 returns-5 : tie.Need-returns-5
 unfolding planOf
-returns-5 c = rw (c .reported-plan .ensures, c .before .before .before .before .before .before .names-of .ensures, c .before .before .decision5 .given .1)
+returns-5 c = rw (c .reported-plan .ensures, c .before .before .before .before .before .names-of .ensures, c .before .before .decision5 .given .1)
 
 pub plan-of-spec : {M : Type 1} → statement M
 plan-of-spec =

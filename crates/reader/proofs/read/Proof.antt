@@ -2,7 +2,6 @@
 use mathlib.Core.Path.{sym, _∙_, ap}
 use Rattle.message.specs.Answers.{numberTold}
 use Rattle.message.specs.Wire.{messageAt}
-use Rattle.message.proofs.NumberLaws.{field-read}
 use borrow.Author.Needs.{needs}
 use Rattle.reader.proofs.read.Statement.{statement}
 use Rattle.reader.proofs.read.Tie as tie
@@ -35,7 +34,7 @@ carrier-of-requires : tie.Need-carrier-of-requires
 carrier-of-requires c κs = search needs
 
 behind-head-requires : tie.Need-behind-head-requires
-behind-head-requires c κs = field-read _ _ _ _ _ _ (sym (c .before .before .before .before .read-field2 .ensures) ∙ ap numberTold (c .before .before .n .given .1)) .ends
+behind-head-requires c κs = search needs
 
 returns : tie.Need-returns
 unfolding messageAt

@@ -16,6 +16,9 @@ number-a-at-requires c κs = search needs
 number-b-at-requires : tie.Need-number-b-at-requires
 number-b-at-requires c κs = search needs
 
+service-at-requires : tie.Need-service-at-requires
+service-at-requires c κs = search needs
+
 kind-at-requires : tie.Need-kind-at-requires
 kind-at-requires c κs = search needs
 
@@ -31,15 +34,12 @@ shared-slice-read-connection-of c = search needs
 connection-of-requires : tie.Need-connection-of-requires
 connection-of-requires c κs = search needs
 
-shared-slice-read-t11 : tie.Need-shared-slice-read-t11
-shared-slice-read-t11 c = search needs
-
 returns : tie.Need-returns
 unfolding termsOf
 returns c =
-    let asked = c .before .before .before .before .before in
-    let row = now (asked .before .before .before .before .before .before .args .row) in
-    rw (asked .before .before .before .identifier-at .ensures, asked .before .before .number-a-at .ensures, asked .before .number-b-at .ensures, asked .kind-at .ensures, c .before .before .before .keep-of .ensures, c .before .connection-of .ensures, terms-at row (asked .before .before .before .before .if1 .taken))
+    let asked = c .before .before .before .before in
+    let row = now (asked .before .before .before .before .before .before .before .args .row) in
+    rw (asked .before .before .before .before .identifier-at .ensures, asked .before .before .before .number-a-at .ensures, asked .before .before .number-b-at .ensures, asked .before .service-at .ensures, asked .kind-at .ensures, c .before .before .keep-of .ensures, c .connection-of .ensures, terms-at row (asked .before .before .before .before .before .if1 .taken))
 
 no-terms-requires : tie.Need-no-terms-requires
 no-terms-requires c κs = search needs
@@ -55,12 +55,12 @@ terms-of-spec =
     identifier-at-requires
     number-a-at-requires
     number-b-at-requires
+    service-at-requires
     kind-at-requires
     shared-slice-read-keep-of
     keep-of-requires
     shared-slice-read-connection-of
     connection-of-requires
-    shared-slice-read-t11
     returns
     no-terms-requires
     returns-2)

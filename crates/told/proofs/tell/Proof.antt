@@ -15,11 +15,19 @@ notice-number-requires c κs = search needs
 flag-code-requires : tie.Need-flag-code-requires
 flag-code-requires c κs = search needs
 
-cast-t12 : tie.Need-cast-t12
-cast-t12 c = search needs
+is-place-requires : tie.Need-is-place-requires
+is-place-requires c κs = search needs
+
+place-number-requires : tie.Need-place-number-requires
+place-number-requires c κs = search needs
+
+cast-t15 : tie.Need-cast-t15
+cast-t15 c = search needs
 
 returns : tie.Need-returns
-returns c = rw (c .before .before .before .before .before .timers-number .ensures, c .before .before .before .before .timers-number2 .ensures, c .before .before .before .notice-number .ensures, c .before .before .flag-code .ensures)
+returns c =
+    let numbers = c .before .before in
+    rw (numbers .before .before .before .before .before .timers-number .ensures, numbers .before .before .before .before .timers-number2 .ensures, numbers .before .before .before .notice-number .ensures, numbers .before .before .flag-code .ensures, numbers .before .is-place .ensures, numbers .place-number .ensures)
 
 pub tell-spec : {M : Type 1} → statement M
 tell-spec =
@@ -29,5 +37,7 @@ tell-spec =
     timers-number-requires-2
     notice-number-requires
     flag-code-requires
-    cast-t12
+    is-place-requires
+    place-number-requires
+    cast-t15
     returns)

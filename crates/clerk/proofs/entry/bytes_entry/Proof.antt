@@ -4,6 +4,7 @@ use native.Mathlib.Omega.{arith}
 use denote.Ref.{now}
 use Rattle.message.specs.Reading.{took}
 use Rattle.message.specs.Wire.{messageAt}
+use Rattle.message.proofs.RangeLaws.{writable-parts}
 use Rattle.reader.proofs.AnswerLaws.{answer-taken, answer-refused}
 use Rattle.writer.proofs.Claims.{read-is-written}
 use Rattle.desk.proofs.LetterLaws.{letter-read}
@@ -37,7 +38,7 @@ returns-2 c =
     let m = c .before .before .before .before .before .read .result .message in
     let e : messageAt s ≡ took m _ = answer-taken (c .before .before .before .before .before .read .result) (messageAt s) _ (c .before .before .before .before .before .read .ensures) (c .before .before .before .verdict2 .given .1) in
     let its = read-is-written s m _ (λ i. omega (arith, c .before .before .before .before .before .before .shared-slice-known .given i)) e in
-    rw (e, its .ranged, letter-read m (its .normalised), c .read-letter .ensures)
+    rw (e, writable-parts m (its .ranged) .0, letter-read m (its .normalised), c .read-letter .ensures)
 
 pub bytes-entry-spec : {M : Type 1} → statement M
 bytes-entry-spec =

@@ -11,8 +11,8 @@ enum-told c = search needs
 enum-known-change : tie.Need-enum-known-change
 enum-known-change c = search needs
 
-put-in-requires : tie.Need-put-in-requires
-put-in-requires c κs = search needs
+put-requires : tie.Need-put-requires
+put-requires c κs = search needs
 
 enum-known-change-2 : tie.Need-enum-known-change-2
 enum-known-change-2 c = search needs
@@ -31,24 +31,19 @@ unfolding applied
 returns c = rw (c .enum-told .given .1)
 
 returns-2 : tie.Need-returns-2
-unfolding applied
-returns-2 c = rw (c .before .before .before .before .change .given .1, lt-ltb _ _ (c .before .before .if1 .taken)) (c .put-in .ensures)
+returns-2 c = rw (c .before .before .before .change .given .1) (c .put .ensures)
 
 returns-3 : tie.Need-returns-3
 unfolding applied
-returns-3 c = rw (c .before .before .change .given .1, le-ltb _ _ (c .if1 .left))
+returns-3 c = rw (c .before .before .before .before .change2 .given .1, lt-ltb _ _ (c .before .before .if1 .taken)) (c .turn-in .ensures)
 
 returns-4 : tie.Need-returns-4
 unfolding applied
-returns-4 c = rw (c .before .before .before .before .change2 .given .1, lt-ltb _ _ (c .before .before .if2 .taken)) (c .turn-in .ensures)
+returns-4 c = rw (c .before .before .change2 .given .1, le-ltb _ _ (c .if1 .left))
 
 returns-5 : tie.Need-returns-5
 unfolding applied
-returns-5 c = rw (c .before .before .change2 .given .1, le-ltb _ _ (c .if2 .left))
-
-returns-6 : tie.Need-returns-6
-unfolding applied
-returns-6 c = rw (c .before .before .before .change3 .given .1) (c .remove .ensures)
+returns-5 c = rw (c .before .before .before .change3 .given .1) (c .remove .ensures)
 
 pub apply-spec : {M : Type 1} → statement M
 apply-spec =
@@ -56,7 +51,7 @@ apply-spec =
     (tie.spec
     enum-told
     enum-known-change
-    put-in-requires
+    put-requires
     enum-known-change-2
     turn-in-requires
     enum-known-change-3
@@ -65,5 +60,4 @@ apply-spec =
     returns-2
     returns-3
     returns-4
-    returns-5
-    returns-6)
+    returns-5)

@@ -25,7 +25,7 @@ only-identifier-requires-2 : tie.Need-only-identifier-requires-2
 only-identifier-requires-2 c κs = search needs
 
 returns : tie.Need-returns
-returns c = search needs
+returns c = rw (c .before .input .given .1)
 
 returns-2 : tie.Need-returns-2
 returns-2 c = rw (c .before .before .input2 .given .1, c .letter-names .ensures)

@@ -7,6 +7,9 @@ use Rattle.clerk_table.proofs.step.take_row.Tie as tie
 effect-of-requires : tie.Need-effect-of-requires
 effect-of-requires c κs = search needs
 
+elements-of-requires : tie.Need-elements-of-requires
+elements-of-requires c κs = search needs
+
 sends-as-requires : tie.Need-sends-as-requires
 sends-as-requires c κs = search needs
 
@@ -27,13 +30,14 @@ call-cleared-requires c κs = search needs
 
 returns : tie.Need-returns
 unfolding rowTaken
-returns c = rw (c .before .before .before .before .changed-to .ensures, c .before .before .before .sent-for .ensures, c .before .before .timers-started .ensures, c .before .timers-stopped .ensures, c .call-cleared .ensures, c .before .before .before .before .before .sends-as .ensures, c .before .before .before .before .before .before .before .before .effect-of .ensures)
+returns c = rw (c .before .before .before .before .changed-to .ensures, c .before .before .before .sent-for .ensures, c .before .before .timers-started .ensures, c .before .timers-stopped .ensures, c .call-cleared .ensures, c .before .before .before .before .before .sends-as .ensures, c .before .before .before .before .before .before .elements-of .ensures, c .before .before .before .before .before .before .before .before .effect-of .ensures)
 
 pub take-row-spec : {M : Type 1} → statement M
 take-row-spec =
     tie.close
     (tie.spec
     effect-of-requires
+    elements-of-requires
     sends-as-requires
     changed-to-requires
     sent-for-requires

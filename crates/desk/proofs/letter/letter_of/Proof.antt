@@ -4,8 +4,8 @@ use borrow.Author.Needs.{needs}
 use Rattle.desk.proofs.letter.letter_of.Statement.{statement}
 use Rattle.desk.proofs.letter.letter_of.Tie as tie
 
-words-of-requires : tie.Need-words-of-requires
-words-of-requires c κs = search needs
+identifier-of-requires : tie.Need-identifier-of-requires
+identifier-of-requires c κs = search needs
 
 number-words-requires : tie.Need-number-words-requires
 number-words-requires c κs = search needs
@@ -15,8 +15,8 @@ number-words-requires-2 c κs = search needs
 
 returns : tie.Need-returns
 unfolding letterOf
-returns c = rw (c .before .before .words-of .ensures, c .before .number-words .ensures, c .number-words2 .ensures)
+returns c = rw (c .before .before .identifier-of .ensures, c .before .number-words .ensures, c .number-words2 .ensures)
 
 pub letter-of-spec : {M : Type 1} → statement M
 letter-of-spec =
-    tie.close (tie.spec words-of-requires number-words-requires number-words-requires-2 returns)
+    tie.close (tie.spec identifier-of-requires number-words-requires number-words-requires-2 returns)

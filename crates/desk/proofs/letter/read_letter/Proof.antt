@@ -4,19 +4,19 @@ use borrow.Author.Needs.{needs}
 use Rattle.desk.proofs.letter.read_letter.Statement.{statement}
 use Rattle.desk.proofs.letter.read_letter.Tie as tie
 
+identifier-of-requires : tie.Need-identifier-of-requires
+identifier-of-requires c κs = search needs
+
 words-of-requires : tie.Need-words-of-requires
 words-of-requires c κs = search needs
 
 words-of-requires-2 : tie.Need-words-of-requires-2
 words-of-requires-2 c κs = search needs
 
-words-of-requires-3 : tie.Need-words-of-requires-3
-words-of-requires-3 c κs = search needs
-
 returns : tie.Need-returns
 unfolding readLetter
-returns c = rw (c .before .before .words-of .ensures, c .before .words-of2 .ensures, c .words-of3 .ensures)
+returns c = rw (c .before .before .identifier-of .ensures, c .before .words-of .ensures, c .words-of2 .ensures)
 
 pub read-letter-spec : {M : Type 1} → statement M
 read-letter-spec =
-    tie.close (tie.spec words-of-requires words-of-requires-2 words-of-requires-3 returns)
+    tie.close (tie.spec identifier-of-requires words-of-requires words-of-requires-2 returns)

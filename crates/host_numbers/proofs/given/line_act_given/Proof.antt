@@ -1,5 +1,5 @@
--- By the numbers.
-use borrow.Author.Tests.{ne-eqb}
+-- 2 for a length that no identifier has, then the request by its name.
+use mathlib.Core.Path.{sym, _∙_}
 use Rattle.host_numbers.specs.Given.{lineActGiven}
 use borrow.Author.Needs.{needs}
 use Rattle.host_numbers.proofs.given.line_act_given.Statement.{statement}
@@ -7,23 +7,11 @@ use Rattle.host_numbers.proofs.given.line_act_given.Tie as tie
 
 returns : tie.Need-returns
 unfolding lineActGiven
-returns c = rw (c .before .match .keys1) (c .act-entry .ensures)
+returns c = rw (sym (c .before .before .before .is-identifier .ensures) ∙ c .before .before .if1 .taken, ← c .before .name-given .ensures) (c .line-act-named .ensures)
 
-returns-4 : tie.Need-returns-4
+returns-2 : tie.Need-returns-2
 unfolding lineActGiven
-returns-4 c = rw (c .before .match .keys4) (c .act-entry4 .ensures)
+returns-2 c = rw (sym (c .before .is-identifier .ensures) ∙ c .if1 .left)
 
 pub line-act-given-spec : {M : Type 1} → statement M
-unfolding lineActGiven
-line-act-given-spec =
-    tie.close
-    (tie.spec
-    (λ c κs. search needs)
-    (λ c κs. search needs)
-    (λ c κs. search needs)
-    (λ c κs. search needs)
-    returns
-    (λ c. rw (c .before .match .keys2) (c .act-entry2 .ensures))
-    (λ c. rw (c .before .match .keys3) (c .act-entry3 .ensures))
-    returns-4
-    (λ c. let r = c .match .rest in simp (ne-eqb _ _ (r .0 .0 .0 .1), ne-eqb _ _ (r .0 .0 .1), ne-eqb _ _ (r .0 .1), ne-eqb _ _ (r .1))))
+line-act-given-spec = tie.close (tie.spec (λ c κs. search needs) (λ c κs. search needs) (λ c κs. search needs) returns returns-2)

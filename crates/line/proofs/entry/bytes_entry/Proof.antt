@@ -30,7 +30,7 @@ unfolding bytesEntry
 returns-2 c =
     let s = now (c .before .before .before .before .before .before .before .args .s) in
     let read = answer-taken (c .before .before .before .before .before .read .result) (messageAt s) _ (c .before .before .before .before .before .read .ensures) (c .before .before .before .verdict2 .given .1) in
-    rw (read, read-entry s _ _ (λ i. omega (arith, c .before .before .before .before .before .before .shared-slice-known .given i)) read, c .read-letter .ensures)
+    rw (read, read-entry s _ _ _ (λ i. omega (arith, c .before .before .before .before .before .before .shared-slice-known .given i)) read, c .read-letter .ensures)
 
 pub bytes-entry-spec : {M : Type 1} → statement M
 bytes-entry-spec =

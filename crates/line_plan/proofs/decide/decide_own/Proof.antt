@@ -5,42 +5,42 @@ use borrow.Author.Needs.{needs}
 use Rattle.line_plan.proofs.decide.decide_own.Statement.{statement}
 use Rattle.line_plan.proofs.decide.decide_own.Tie as tie
 
-find-meant-requires : tie.Need-find-meant-requires
-find-meant-requires c κs = search needs
-
-enum-known-place : tie.Need-enum-known-place
-enum-known-place c = search needs
+find-named-requires : tie.Need-find-named-requires
+find-named-requires c κs = search needs
 
 enum-told : tie.Need-enum-told
 enum-told c = search needs
 
+enum-told-2 : tie.Need-enum-told-2
+enum-told-2 c = search needs
+
+enum-known-place : tie.Need-enum-known-place
+enum-known-place c = search needs
+
+decide-held-requires : tie.Need-decide-held-requires
+decide-held-requires c κs = search needs
+
 returns : tie.Need-returns
 unfolding ownDecision
-returns c = rw (sym (c .before .before .find-meant .ensures) ∙ c .enum-told .given .1)
-
-load-requires : tie.Need-load-requires
-load-requires c κs = search needs
-
-holds-for-requires : tie.Need-holds-for-requires
-holds-for-requires c κs = search needs
+returns c = rw (sym (c .before .before .find-named .ensures) ∙ c .enum-told .given .1)
 
 returns-2 : tie.Need-returns-2
 unfolding ownDecision
-returns-2 c = rw (sym (c .before .before .before .before .before .before .find-meant .ensures) ∙ c .before .before .before .before .place .given .1, ← c .before .before .load .ensures, ← c .before .holds-for .ensures, c .if1 .taken)
+returns-2 c = rw (sym (c .before .before .find-named .ensures) ∙ c .enum-told2 .given .1)
 
 returns-3 : tie.Need-returns-3
 unfolding ownDecision
-returns-3 c = rw (sym (c .before .before .before .before .before .before .find-meant .ensures) ∙ c .before .before .before .before .place .given .1, ← c .before .before .load .ensures, ← c .before .holds-for .ensures, c .if1 .left)
+returns-3 c = rw (c .decide-held .ensures, sym (c .before .before .before .before .find-named .ensures) ∙ c .before .before .place .given .1)
 
 pub decide-own-spec : {M : Type 1} → statement M
 decide-own-spec =
     tie.close
     (tie.spec
-    find-meant-requires
-    enum-known-place
+    find-named-requires
     enum-told
+    enum-told-2
+    enum-known-place
+    decide-held-requires
     returns
-    load-requires
-    holds-for-requires
     returns-2
     returns-3)

@@ -8,7 +8,7 @@ use Rattle.lists.specs.declared.words.Words.{Words}
 use Rattle.lists.proofs.Lists.{both-true, both-false}
 use Rattle.terms.specs.declared.Terms.{Terms}
 use Rattle.terms.proofs.TermsLaws.{terms-at}
-use Rattle.line_table.specs.Search.{given}
+use Rattle.terms.specs.Means.{given}
 use Rattle.line_records.proofs.SearchLaws.{second-holds, second-fails}
 use Rattle.line_records.specs.Records.{recordOf}
 use borrow.Author.Needs.{needs}

@@ -1,14 +1,14 @@
--- The invariant: the step stays within a hundred. The loop ends because the step goes up.
+-- The invariant: the step stays within the scene's steps. The loop ends because the step goes up.
 use Prim.Native.Nat.{_≤_, _-_}
 use borrow.Author.Needs.{needs}
 use Rattle.story.proofs.play.play_scene.Statement.{statement}
 use Rattle.story.proofs.play.play_scene.Tie as tie
 
 abbrev Inv-loop : tie.InvT-loop
-Inv-loop scene w₀ step₀ w step = step ≤ 120
+Inv-loop scene w₀ step₀ w step = step ≤ 140
 
 abbrev μ-loop : tie.MeasureT-loop
-μ-loop scene w₀ step₀ w step = 120 - step
+μ-loop scene w₀ step₀ w step = 140 - step
 
 open-scene-requires : tie.Need-open-scene-requires Inv-loop μ-loop
 open-scene-requires c κs = search needs

@@ -4,8 +4,8 @@ use borrow.Author.Needs.{needs}
 use Rattle.tollherring.proofs.line_face.tollherring_line_guard.Statement.{statement}
 use Rattle.tollherring.proofs.line_face.tollherring_line_guard.Tie as tie
 
-guard-entry-requires : tie.Need-guard-entry-requires
-guard-entry-requires c κs = search needs
+guard-given-requires : tie.Need-guard-given-requires
+guard-given-requires c κs = search needs
 
 enum-known-entry : tie.Need-enum-known-entry
 enum-known-entry c = search needs
@@ -21,20 +21,20 @@ step-in-requires c κs = search needs
 
 returns : tie.Need-returns
 unfolding lineGuarded lineEntered
-returns c = rw (← c .before .before .before .before .before .guard-entry .ensures, c .before .before .before .entry .given .1, c .refuse .ensures .0, c .refuse .ensures .1)
+returns c = rw (← c .before .before .before .before .before .guard-given .ensures, c .before .before .before .entry .given .1, c .refuse .ensures .0, c .refuse .ensures .1)
 
 same-length : tie.Need-same-length
 same-length c = search needs
 
 returns-2 : tie.Need-returns-2
 unfolding lineGuarded lineEntered
-returns-2 c = rw (← c .before .before .before .before .before .before .before .before .before .guard-entry .ensures, c .before .before .before .before .before .before .before .entry2 .given .1) (c .before .before .step-in .ensures)
+returns-2 c = rw (← c .before .before .before .before .before .before .before .before .before .guard-given .ensures, c .before .before .before .before .before .before .before .entry2 .given .1) (c .before .before .step-in .ensures)
 
 pub tollherring-line-guard-spec : {M : Type 1} → statement M
 tollherring-line-guard-spec =
     tie.close
     (tie.spec
-    guard-entry-requires
+    guard-given-requires
     enum-known-entry
     refuse-requires
     enum-known-entry-2

@@ -7,37 +7,23 @@ use borrow.Author.Needs.{needs}
 use Rattle.tollherring.proofs.message_face.tollherring_message_read.Statement.{statement}
 use Rattle.tollherring.proofs.message_face.tollherring_message_read.Tie as tie
 
-read-requires : tie.Need-read-requires
-read-requires c κs = search needs
-
-enum-known-verdict : tie.Need-enum-known-verdict
-enum-known-verdict c = search needs
-
-cast-result : tie.Need-cast-result
-cast-result c = search needs
-
-enum-known-verdict-2 : tie.Need-enum-known-verdict-2
-enum-known-verdict-2 c = search needs
-
-message-numbers-requires : tie.Need-message-numbers-requires
-message-numbers-requires c κs = search needs
-
 returns : tie.Need-returns
 unfolding messageRead
 returns c = let a = c .before .before .before .before .before .before .args in rw (answer-refused (c .before .before .before .before .read .result) (messageAt (now (a .bytes))) _ (c .before .before .before .before .read .ensures) (c .before .before .verdict .given .1))
 
 returns-2 : tie.Need-returns-2
 unfolding messageRead
-returns-2 c = let a = c .before .before .before .before .before .before .before .before .before .before .args in rw (answer-taken (c .before .before .before .before .before .before .before .before .read .result) (messageAt (now (a .bytes))) _ (c .before .before .before .before .before .before .before .before .read .ensures) (c .before .before .before .before .before .before .verdict2 .given .1), c .message-numbers .ensures)
+returns-2 c = let a = c .before .before .before .before .before .before .before .before .before .before .before .args in rw (answer-taken (c .before .before .before .before .before .before .before .before .before .read .result) (messageAt (now (a .bytes))) _ (c .before .before .before .before .before .before .before .before .before .read .ensures) (c .before .before .before .before .before .before .before .verdict2 .given .1), c .message-numbers .ensures, c .before .identifier-told .ensures)
 
 pub tollherring-message-read-spec : {M : Type 1} → statement M
 tollherring-message-read-spec =
     tie.close
     (tie.spec
-    read-requires
-    enum-known-verdict
-    cast-result
-    enum-known-verdict-2
-    message-numbers-requires
+    (λ c κs. search needs)
+    (λ c. search needs)
+    (λ c. search needs)
+    (λ c. search needs)
+    (λ c κs. search needs)
+    (λ c κs. search needs)
     returns
     returns-2)
