@@ -1,5 +1,5 @@
 // What the clerk's desk decides about an input, on words that are lent for reading: the refusals in document 01's order, then the row of the table. The change and the
-// outcome are made of the decision in one place. An inner room of the clerk's desk: its functions are no public operations.
+// outcome are made of the decision, by a function for each kind of it. An inner room of the clerk's desk: its functions are no public operations.
 use clerk_records::WORDS;
 use clerk_records::meaning::find_meant;
 use clerk_records::places::find_place;
@@ -196,7 +196,7 @@ pub fn plan_stored(place: usize, names: Names, q: Request) -> Plan
     }
 }
 
-// What a decision about an input means: the one place that makes a change or an outcome.
+// What a decision about an input means, whichever it is.
 fn plan_of(words: &[u64; WORDS], input: Input, decision: Decision) -> Plan
     ensures { λ r. ⌜ r ≡ planOf (records (now (words .entry))) input decision ⌝ }
 {

@@ -1,5 +1,5 @@
-// What each input plans at the line desk, on words that are lent for reading: it is decided, and of the decision the change and the outcome are made, here and nowhere
-// else. For the faces of this desk; no public operations.
+// What each input plans at the line desk, on words that are lent for reading: it is decided, and of the decision the change and the outcome are made, by a
+// function for each kind of it. For the faces of this desk; no public operations.
 use crate::decide::decide;
 use desk::letter::Identifier;
 use desk::outcome::Sending;
