@@ -1,3 +1,3 @@
 pub mod AnswerLaws
 pub mod Within
-pub mod ShapeLaws
+pub mod PartsLaws

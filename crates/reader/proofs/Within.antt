@@ -1,14 +1,17 @@
--- What is read stands within the bytes: each field ends behind where it starts, a number of digits takes at most sixteen bytes.
+-- What is read stands within the bytes: an identifier of sixteen bytes where there is one, each field ends behind where it starts, a number of digits takes at most sixteen bytes.
 use Prim.Native.Nat.{ℕ, _+_, _≤_}
-use mathlib.Core.Path.{_≡_}
+use mathlib.Core.Path.{_≡_, refl}
+use mathlib.Core.Bool.{Bool, true, false}
 use mathlib.Core.List.{List}
 use lib.ListN.{length}
-use lib.Dec.{eqb}
+use lib.Dec.{eqb, ltb}
 use native.Mathlib.Omega.{arith}
+use borrow.Author.Tests.{ltb-false}
+use Rattle.lists.specs.Choice.{pick}
 use Rattle.lists.proofs.Choice.{pick-elim}
 use Rattle.message.specs.Reading.{Read, took, refused, andThen}
 use Rattle.message.specs.Number.{fieldAt, digitsAt}
-use Rattle.message.specs.Wire.{Fields, requestTail, requestAt, elementsTail, elementsAt, fieldsAt, plainAt, bareAt}
+use Rattle.message.specs.Wire.{identifiedAt, identifierAt, Fields, requestTail, requestAt, elementsTail, elementsAt, fieldsAt, plainAt, bareAt}
 use Rattle.message.specs.Format.{hasElements}
 use Rattle.message.specs.declared.Fault.{Fault}
 use Rattle.message.specs.declared.Carrier.{Carrier}
@@ -17,9 +20,46 @@ use Rattle.message.specs.declared.Kind.the-variants.{Ccbs, Ccnr}
 use Rattle.message.specs.declared.Body.{Body}
 use Rattle.message.specs.declared.Body.the-variants.{RequestResult, RequestError, CcExecPossible, CcRingout, RingoutError, CcSuspend, CcResume, CcCancel, CallAlerts, CallFailed}
 use Rattle.message.proofs.Reading.{never-took, then-elim}
-use Rattle.message.proofs.NumberLaws.{field-read, digits-read}
+use Rattle.message.proofs.NumberLaws.{number-ends, field-read, digits-read}
+use Rattle.message.proofs.IdentifierLaws.{identified-read}
+use Rattle.reader.specs.Parts.{carrierAt, headBehind, headAt}
+use Rattle.reader.specs.declared.Head.{Head}
 
--- the places of the fields that stand from a place on
+-- ---- the head
+abbrev HeadPlaces : List ℕ → Read Head → Type 0
+HeadPlaces s r = (h : Head) (from : ℕ) → r ≡ took h from → (h .at + pick (h .identified) 16 0 ≤ length s) × (from ≤ length s)
+
+no-head : (s : List ℕ) (x : Fault) → HeadPlaces s (refused x)
+no-head s x h from e = absurd (never-took e)
+
+one-head : (s : List ℕ) (h : Head) (from : ℕ) → h .at + pick (h .identified) 16 0 ≤ length s → from ≤ length s → HeadPlaces s (took h from)
+one-head s h from room ends h′ from′ e =
+    let q : h ≡ h′ = cc in
+    let f : from ≡ from′ = cc in
+    (rw (← q) room, rw (← f) ends)
+
+identifier-places :
+    (type : ℕ) (carrier : Carrier) (identified : Bool) (s : List ℕ) (at : ℕ) → at ≤ length s →
+    HeadPlaces s (andThen (identifierAt identified s at) (λ identifier from. took (record { typeNumber = type; carrier = carrier; identified = identified; at = at }) from))
+unfolding identifierAt
+identifier-places type carrier false s at ends = one-head s _ at (omega arith) ends
+identifier-places type carrier true s at ends = go (ltb (length s) (at + 16)) refl
+  where
+    go :
+        (b : Bool) → ltb (length s) (at + 16) ≡ b →
+        HeadPlaces s (andThen (identifierAt true s at) (λ identifier from. took (record { typeNumber = type; carrier = carrier; identified = true; at = at }) from))
+    go true t = rw (t) (no-head s _)
+    go false t = rw (t) (let room = ltb-false (length s) (at + 16) t in one-head s _ (at + 16) room room)
+
+pub head-places : (s : List ℕ) → HeadPlaces s (headAt s)
+unfolding headAt headBehind
+head-places s =
+    then-elim (HeadPlaces s) (fieldAt s 0 1 12) _ (no-head s) (λ type next t.
+    then-elim (HeadPlaces s) (carrierAt s next) _ (no-head s) (λ carrier behind c.
+    then-elim (HeadPlaces s) (identifiedAt s behind) _ (no-head s) (λ identified at i.
+    identifier-places type carrier identified s at (number-ends _ _ _ _ (identified-read _ _ _ _ i) .1))))
+
+-- ---- the places of the fields that stand from a place on
 pub record Placed (s : List ℕ) (at : ℕ) (f : Fields) (n : ℕ) : Type 0 where
   pub startA : at ≤ f .behindA
   pub sixteenA : f .behindA ≤ at + 16

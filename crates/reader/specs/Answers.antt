@@ -7,22 +7,36 @@ use Rattle.lists.specs.Choice.{pick}
 use Rattle.message.specs.Copied.{copied}
 use Rattle.message.specs.Reading.{Read, took, refused}
 use Rattle.message.specs.Wire.{Fields, plainAt}
+use Rattle.message.specs.declared.Carrier.{Carrier}
 use Rattle.message.specs.declared.Carrier.the-variants.{Setup}
 use Rattle.message.specs.declared.Body.the-variants.{CallFailed}
 use Rattle.message.specs.declared.Service.the-variants.{Absent}
 use Rattle.message.specs.declared.Message.{Message}
 use Rattle.message.specs.declared.digits.PlaceRead.{PlaceRead}
 use Rattle.message.specs.declared.digits.PlaceRead.the-variants.{Taken, Refused}
+use Rattle.reader.specs.declared.CarrierRead.{CarrierRead}
+use Rattle.reader.specs.declared.CarrierRead.the-variants as C
 use Rattle.reader.specs.declared.IdentifiedRead.{IdentifiedRead}
 use Rattle.reader.specs.declared.IdentifiedRead.the-variants as I
+use Rattle.reader.specs.declared.Head.{Head}
+use Rattle.reader.specs.declared.HeadRead.{HeadRead}
+use Rattle.reader.specs.declared.HeadRead.the-variants as H
 use Rattle.reader.specs.declared.Numbered.{Numbered}
 use Rattle.reader.specs.declared.FieldsRead.{FieldsRead}
 use Rattle.reader.specs.declared.FieldsRead.the-variants as F
 use Rattle.reader.specs.declared.Answer.{Answer}
 
+abbrev pub carrierTold : CarrierRead → Read Carrier
+carrierTold (C.Told carrier next) = took carrier next
+carrierTold (C.Refused fault) = refused fault
+
 abbrev pub identifiedTold : IdentifiedRead → Read Bool
 identifiedTold (I.Told identified next) = took identified next
 identifiedTold (I.Refused fault) = refused fault
+
+abbrev pub headTold : HeadRead → Read Head
+headTold (H.Told head from) = took head from
+headTold (H.Refused fault) = refused fault
 
 abbrev pub numberedFields : Numbered → Fields
 numberedFields read = record { behindA = read .behindA; behindB = read .behindB; service = read .service; body = read .body }

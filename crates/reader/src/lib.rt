@@ -18,13 +18,33 @@ ghost use Prim.Native.Nat.{_≤_, _+_};
 ghost use lib.ListN.{length};
 ghost use Rattle.lists.specs.Choice.{pick};
 ghost use Rattle.message.specs.Reading.{took, refused as refusedWith};
-ghost use Rattle.message.specs.Wire.{carrierOf, identifiedAt, requestTail, elementsTail, messageWith, behindIdentified, behindHead, messageAt};
-ghost use Rattle.reader.specs.Shape.{tailAt, numbersAt, bareShape, shapeOf, shapeAt};
-ghost use Rattle.reader.specs.Answers.{identifiedTold, numberedFields, fieldsTold, wholeRead, identifierCopied, readAnswer};
+ghost use Rattle.message.specs.Wire.{identifiedAt, requestTail, elementsTail, fieldsAt, messageWith, messageAt};
+ghost use Rattle.reader.specs.Parts.{carrierAt, tailAt, numbersAt, bareBody, hasNumbers, tailOf, ownAt, headBehind, headAt};
+ghost use Rattle.reader.specs.Answers.{carrierTold, identifiedTold, headTold, numberedFields, fieldsTold, wholeRead, identifierCopied, readAnswer};
+
+// A carrier and the place of the first unread byte; or what is wrong.
+enum CarrierRead {
+    Told(Carrier, usize),
+    Refused(Fault),
+}
 
 // Whether there is an identifier, and the place of the first unread byte; or what is wrong.
 enum IdentifiedRead {
     Told(bool, usize),
+    Refused(Fault),
+}
+
+// What every message begins with; its identifier, where it has one, stands at the place.
+struct Head {
+    typeNumber: u16,
+    carrier: Carrier,
+    identified: bool,
+    at: usize,
+}
+
+// A head and the place of the first unread byte, behind the identifier; or what is wrong.
+enum HeadRead {
+    Told(Head, usize),
     Refused(Fault),
 }
 
@@ -49,30 +69,26 @@ enum Tail {
     Elements(Body),
 }
 
-// What a message has behind its identifier, by type and carrier.
-enum Shape {
-    Numbers(Tail),
-    Keep,
-    RequestError,
-    RingoutError,
-    Plain(Body),
-}
-
 // What was read: a message and the place of the first unread byte; or what is wrong, beside a blank message.
 pub struct Answer {
     pub verdict: PlaceRead,
     pub message: Message,
 }
 
-fn carrier_of(n: u16) -> Carrier
-    ensures { λ r. ⌜ r ≡ carrierOf n ⌝ }
+// The carrier. At first its number is only held to one byte, 0 to 127: one test then both holds it to its range and tells the carrier.
+fn carrier_at(s: &[u8], place: usize) -> CarrierRead
+    ensures { λ r. ⌜ carrierTold r ≡ carrierAt (now (s .entry)) place ⌝ }
 {
-    match n {
-        1 => Carrier::Setup,
-        2 => Carrier::Connect,
-        3 => Carrier::Facility,
-        4 => Carrier::ReleaseComplete,
-        _ => Carrier::Alerting,
+    match read_field(s, place, 0, 127) {
+        NumberRead::Refused(fault) => CarrierRead::Refused(fault),
+        NumberRead::Value(n, next) => match n {
+            1 => CarrierRead::Told(Carrier::Setup, next),
+            2 => CarrierRead::Told(Carrier::Connect, next),
+            3 => CarrierRead::Told(Carrier::Facility, next),
+            4 => CarrierRead::Told(Carrier::ReleaseComplete, next),
+            5 => CarrierRead::Told(Carrier::Alerting, next),
+            _ => CarrierRead::Refused(Fault { number: 2, place }),
+        },
     }
 }
 
@@ -139,63 +155,91 @@ fn numbers(has: Tail, s: &[u8], at: usize) -> FieldsRead
     }
 }
 
-// A type without fields of its own: elements where it has them, or nothing.
-fn bare(body: Body, carrier: Carrier) -> Shape
-    ensures { λ r. ⌜ r ≡ bareShape body carrier ⌝ }
-{
-    if has_elements(body, carrier) {
-        return Shape::Numbers(Tail::Elements(body));
-    }
-    Shape::Plain(body)
-}
-
-fn shape_of(typeNumber: u16, carrier: Carrier) -> Shape
-    ensures { λ r. ⌜ r ≡ shapeOf typeNumber carrier ⌝ }
+// The body of a type that has no field of its own.
+fn bare_body(typeNumber: u16) -> Body
+    ensures { λ r. ⌜ r ≡ bareBody typeNumber ⌝ }
 {
     match typeNumber {
-        1 => Shape::Numbers(Tail::Request(Kind::Ccbs)),
-        2 => Shape::Numbers(Tail::Request(Kind::Ccnr)),
-        3 => Shape::Keep,
-        4 => Shape::RequestError,
-        5 => bare(Body::CcExecPossible, carrier),
-        6 => bare(Body::CcRingout, carrier),
-        7 => Shape::RingoutError,
-        8 => Shape::Plain(Body::CcSuspend),
-        9 => bare(Body::CcResume, carrier),
-        10 => bare(Body::CcCancel, carrier),
-        11 => Shape::Plain(Body::CallAlerts),
-        _ => Shape::Plain(Body::CallFailed),
+        5 => Body::CcExecPossible,
+        6 => Body::CcRingout,
+        8 => Body::CcSuspend,
+        9 => Body::CcResume,
+        10 => Body::CcCancel,
+        11 => Body::CallAlerts,
+        _ => Body::CallFailed,
     }
 }
 
-fn fields(shape: Shape, s: &[u8], at: usize) -> FieldsRead
-    ensures { λ r. ⌜ fieldsTold at r ≡ shapeAt shape (now (s .entry)) at ⌝ }
+// Whether two numbers of digits stand behind the identifier: in a request, and where there are elements.
+fn has_numbers(typeNumber: u16, carrier: Carrier) -> bool
+    ensures { λ r. ⌜ r ≡ hasNumbers typeNumber carrier ⌝ }
 {
-    match shape {
-        Shape::Numbers(has) => numbers(has, s, at),
-        Shape::Keep => match read_field(s, at, 0, 1) {
+    match typeNumber {
+        1 => true,
+        2 => true,
+        _ => {
+            let body = bare_body(typeNumber);
+            has_elements(body, carrier)
+        }
+    }
+}
+
+// What follows the two numbers, in a type that has them.
+fn tail_of(typeNumber: u16) -> Tail
+    ensures { λ r. ⌜ r ≡ tailOf typeNumber ⌝ }
+{
+    match typeNumber {
+        1 => Tail::Request(Kind::Ccbs),
+        2 => Tail::Request(Kind::Ccnr),
+        _ => {
+            let body = bare_body(typeNumber);
+            Tail::Elements(body)
+        }
+    }
+}
+
+// The one field of a message without numbers, or nothing.
+fn own_field(typeNumber: u16, s: &[u8], at: usize) -> FieldsRead
+    ensures { λ r. ⌜ fieldsTold at r ≡ ownAt typeNumber (now (s .entry)) at ⌝ }
+{
+    match typeNumber {
+        3 => match read_field(s, at, 0, 1) {
             NumberRead::Refused(fault) => FieldsRead::Refused(fault),
             NumberRead::Value(v, next) => FieldsRead::Bare(
                 Body::RequestResult { keep: v as u8 },
                 next,
             ),
         },
-        Shape::RequestError => match read_field(s, at, 1, 2) {
+        4 => match read_field(s, at, 1, 2) {
             NumberRead::Refused(fault) => FieldsRead::Refused(fault),
             NumberRead::Value(v, next) => FieldsRead::Bare(
                 Body::RequestError { error: v as u8 },
                 next,
             ),
         },
-        Shape::RingoutError => match read_field(s, at, 1, 2) {
+        7 => match read_field(s, at, 1, 2) {
             NumberRead::Refused(fault) => FieldsRead::Refused(fault),
             NumberRead::Value(v, next) => FieldsRead::Bare(
                 Body::RingoutError { error: v as u8 },
                 next,
             ),
         },
-        Shape::Plain(body) => FieldsRead::Bare(body, at),
+        _ => {
+            let body = bare_body(typeNumber);
+            FieldsRead::Bare(body, at)
+        }
     }
+}
+
+// What stands behind the identifier. It is asked first whether there are numbers, so that they are read in one place.
+fn fields(typeNumber: u16, carrier: Carrier, s: &[u8], at: usize) -> FieldsRead
+    ensures { λ r. ⌜ fieldsTold at r ≡ fieldsAt typeNumber carrier (now (s .entry)) at ⌝ }
+{
+    if has_numbers(typeNumber, carrier) {
+        let has = tail_of(typeNumber);
+        return numbers(has, s, at);
+    }
+    own_field(typeNumber, s, at)
 }
 
 fn refused(fault: Fault) -> Answer
@@ -217,11 +261,11 @@ fn refused(fault: Fault) -> Answer
     }
 }
 
-// The length of an identifier: 16, or 0 where there is none.
+// The length of an identifier: 16, or 0 where there is none. At first it is only held to one byte, as a carrier.
 fn identified_at(s: &[u8], place: usize) -> IdentifiedRead
     ensures { λ r. ⌜ identifiedTold r ≡ identifiedAt (now (s .entry)) place ⌝ }
 {
-    match read_field(s, place, 0, 16) {
+    match read_field(s, place, 0, 127) {
         NumberRead::Refused(fault) => IdentifiedRead::Refused(fault),
         NumberRead::Value(length, next) => {
             if length == 16 {
@@ -233,15 +277,6 @@ fn identified_at(s: &[u8], place: usize) -> IdentifiedRead
             IdentifiedRead::Refused(Fault { number: 2, place })
         }
     }
-}
-
-fn identifier_size(identified: bool) -> usize
-    ensures { λ r. ⌜ r ≡ pick identified 16 0 ⌝ }
-{
-    if identified {
-        return 16;
-    }
-    0
 }
 
 fn copy_identifier(s: &[u8], identified: bool, at: usize) -> [u8; 16]
@@ -290,75 +325,81 @@ fn with_numbers(
     }
 }
 
-// Identifier and fields, behind the identifier's length. A message without numbers is made here: in a function of its own it makes those with numbers dearer.
-fn behind_identified(
-    typeNumber: u16,
-    carrier: Carrier,
-    identified: bool,
-    s: &[u8],
-    at: usize,
-) -> Answer
-    requires { ⌜ at ≤ length (now s) ⌝ }
-    ensures { λ r. ⌜ r ≡ readAnswer (behindIdentified typeNumber carrier identified (now (s .entry)) at) ⌝ }
+// The head of a message, from the identifier's length on.
+fn head_behind(typeNumber: u16, carrier: Carrier, s: &[u8], place: usize) -> HeadRead
+    ensures { λ r. ⌜ headTold r ≡ headBehind typeNumber carrier (now (s .entry)) place ⌝ }
 {
-    let size = identifier_size(identified);
-    if s.len() - at < size {
-        let place = s.len();
-        return refused(Fault { number: 1, place });
-    }
-    let from = at + size;
-    let shape = shape_of(typeNumber, carrier);
-    match fields(shape, s, from) {
-        FieldsRead::Refused(fault) => refused(fault),
-        FieldsRead::Bare(body, next) => {
-            let identifier = copy_identifier(s, identified, at);
-            let blank = [0u8; 16];
-            let message = Message {
+    match identified_at(s, place) {
+        IdentifiedRead::Refused(fault) => HeadRead::Refused(fault),
+        IdentifiedRead::Told(identified, at) => {
+            let read = Head {
+                typeNumber,
                 carrier,
                 identified,
-                identifier,
-                numberA: blank,
-                numberB: blank,
-                service: Service::Absent,
-                body,
+                at,
             };
-            Answer {
-                verdict: PlaceRead::Taken(next),
-                message,
+            if identified {
+                if s.len() - at < 16 {
+                    let end = s.len();
+                    return HeadRead::Refused(Fault {
+                        number: 1,
+                        place: end,
+                    });
+                }
+                return HeadRead::Told(read, at + 16);
             }
+            HeadRead::Told(read, at)
         }
-        FieldsRead::Whole(read, next) => with_numbers(carrier, identified, s, at, from, read, next),
     }
 }
 
-// Identifier and fields, behind type and carrier.
-fn behind_head(typeNumber: u16, carrier: Carrier, s: &[u8], at: usize) -> Answer
-    ensures { λ r. ⌜ r ≡ readAnswer (behindHead typeNumber carrier (now (s .entry)) at) ⌝ }
+// Type, carrier and identifier.
+fn read_head(s: &[u8]) -> HeadRead
+    ensures { λ r. ⌜ headTold r ≡ headAt (now (s .entry)) ⌝ }
 {
-    match identified_at(s, at) {
-        IdentifiedRead::Refused(fault) => refused(fault),
-        IdentifiedRead::Told(identified, next) => behind_identified(
-            typeNumber,
-            carrier,
-            identified,
-            s,
-            next,
-        ),
+    match read_field(s, 0, 1, 12) {
+        NumberRead::Refused(fault) => HeadRead::Refused(fault),
+        NumberRead::Value(typeNumber, next) => match carrier_at(s, next) {
+            CarrierRead::Refused(fault) => HeadRead::Refused(fault),
+            CarrierRead::Told(carrier, behind) => head_behind(typeNumber, carrier, s, behind),
+        },
     }
 }
 
-// One message from the front: total on every slice.
+// One message from the front: total on every slice. Each answer is made and returned here, in a place of its own: where two come together before they are returned,
+// both are copied.
 pub fn read(s: &[u8]) -> Answer
     ensures { λ r. ⌜ r ≡ readAnswer (messageAt (now (s .entry))) ⌝ }
 {
-    match read_field(s, 0, 1, 12) {
-        NumberRead::Refused(fault) => refused(fault),
-        NumberRead::Value(typeNumber, next) => match read_field(s, next, 1, 5) {
-            NumberRead::Refused(fault) => refused(fault),
-            NumberRead::Value(n, behind) => {
-                let carrier = carrier_of(n);
-                behind_head(typeNumber, carrier, s, behind)
+    match read_head(s) {
+        HeadRead::Refused(fault) => return refused(fault),
+        HeadRead::Told(h, from) => {
+            let carrier = h.carrier;
+            let identified = h.identified;
+            let at = h.at;
+            match fields(h.typeNumber, carrier, s, from) {
+                FieldsRead::Refused(fault) => return refused(fault),
+                FieldsRead::Bare(body, next) => {
+                    let identifier = copy_identifier(s, identified, at);
+                    let blank = [0u8; 16];
+                    let message = Message {
+                        carrier,
+                        identified,
+                        identifier,
+                        numberA: blank,
+                        numberB: blank,
+                        service: Service::Absent,
+                        body,
+                    };
+                    return Answer {
+                        verdict: PlaceRead::Taken(next),
+                        message,
+                    };
+                }
+                FieldsRead::Whole(read, next) => {
+                    return with_numbers(carrier, identified, s, at, from, read, next);
+                }
             }
-        },
+        }
     }
 }

@@ -2,7 +2,7 @@
 use mathlib.Core.Path.{sym, _∙_, ap}
 use borrow.Author.Tests.{eq-eqb, ne-eqb}
 use Rattle.message.specs.Answers.{numberTold}
-use Rattle.reader.proofs.ShapeLaws.{identified-field}
+use Rattle.reader.proofs.PartsLaws.{identified-field}
 use borrow.Author.Needs.{needs}
 use Rattle.reader.proofs.identified_at.Statement.{statement}
 use Rattle.reader.proofs.identified_at.Tie as tie

@@ -1,7 +1,7 @@
 -- What each number's answer tells of its reading; then the tail.
 use mathlib.Core.Path.{sym, _∙_, ap}
 use Rattle.message.specs.Answers.{placeTold}
-use Rattle.reader.specs.Shape.{numbersAt}
+use Rattle.reader.specs.Parts.{numbersAt}
 use borrow.Author.Needs.{needs}
 use Rattle.reader.proofs.numbers.Statement.{statement}
 use Rattle.reader.proofs.numbers.Tie as tie
