@@ -2,8 +2,8 @@
 
 use crate::side::{Ask, ClerkInput, CodecInput, Desk, Given, LineInput, Number, Told};
 
-const CLERK_WORDS: usize = 224;
-const LINE_WORDS: usize = 562;
+const CLERK_WORDS: usize = 260;
+const LINE_WORDS: usize = 594;
 type ClerkWords = [u64; CLERK_WORDS];
 type LineWords = [u64; LINE_WORDS];
 

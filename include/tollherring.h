@@ -62,8 +62,8 @@ typedef struct tollherring_number {
 /* ---- the desks: allocated by the host, and not looked into. Words of 64 bits, so that a desk may be copied, or kept in memory, as it is. A call has an answer on
  * any words; what it means for requests is known of a desk that was started. */
 
-#define TOLLHERRING_CLERK_WORDS 224
-#define TOLLHERRING_LINE_WORDS 562
+#define TOLLHERRING_CLERK_WORDS 260
+#define TOLLHERRING_LINE_WORDS 594
 
 typedef struct tollherring_clerk {
     uint64_t words[TOLLHERRING_CLERK_WORDS];

@@ -28,8 +28,8 @@ pub const MESSAGE_LEAST: usize = 3;
 pub const MESSAGE_MOST: usize = 54;
 
 /// How many words of 64 bits each desk takes.
-pub const CLERK_WORDS: usize = 224;
-pub const LINE_WORDS: usize = 562;
+pub const CLERK_WORDS: usize = 260;
+pub const LINE_WORDS: usize = 594;
 
 /// The CallIdentifier of the failed call: any 16 bytes. A request, or a message, may have none.
 #[derive(Clone, Copy, PartialEq, Eq, Debug)]
@@ -845,8 +845,8 @@ extern "C" {
 // The layout that the archive was made for. A struct made of numbered fields has to lie in memory as these numbers in their order.
 const _: () = {
     use core::mem::{align_of, size_of, transmute};
-    assert!(size_of::<ClerkDesk>() == 1792 && align_of::<ClerkDesk>() == 8);
-    assert!(size_of::<LineDesk>() == 4496 && align_of::<LineDesk>() == 8);
+    assert!(size_of::<ClerkDesk>() == 2080 && align_of::<ClerkDesk>() == 8);
+    assert!(size_of::<LineDesk>() == 4752 && align_of::<LineDesk>() == 8);
     assert!(size_of::<RawIdentifier>() == 17 && align_of::<RawIdentifier>() == 1);
     assert!(size_of::<LineGiven>() == 17 && align_of::<LineGiven>() == 1);
     assert!(size_of::<Number>() == 16 && size_of::<usize>() == 8 && align_of::<u64>() == 8);

@@ -5,8 +5,8 @@
 #define HOLDS(name, condition) typedef char holds_##name[(condition) ? 1 : -1]
 #define WORD(type, field, k) HOLDS(type##_##field, offsetof(tollherring_##type, field) == 8 * (k) && sizeof ((tollherring_##type *)0)->field == 8)
 
-HOLDS(clerk_size, sizeof(tollherring_clerk) == 1792 && offsetof(tollherring_clerk, words) == 0);
-HOLDS(line_size, sizeof(tollherring_line) == 4496 && offsetof(tollherring_line, words) == 0);
+HOLDS(clerk_size, sizeof(tollherring_clerk) == 2080 && offsetof(tollherring_clerk, words) == 0);
+HOLDS(line_size, sizeof(tollherring_line) == 4752 && offsetof(tollherring_line, words) == 0);
 HOLDS(identifier_size, sizeof(tollherring_identifier) == 17 && offsetof(tollherring_identifier, length) == 0 && offsetof(tollherring_identifier, bytes) == 1);
 HOLDS(number_size, sizeof(tollherring_number) == 16 && offsetof(tollherring_number, length) == 0 && offsetof(tollherring_number, digits) == 1);
 HOLDS(no_place, TOLLHERRING_NO_PLACE == UINT64_MAX);

@@ -4,7 +4,9 @@ use clerk_records::WORDS;
 
 pub mod entry;
 pub mod on_words;
+pub mod start;
 pub mod steps;
+pub mod tick;
 
 // The records' words. Every value of it is a desk: a place whose state word is no state has no record.
 pub struct Desk {

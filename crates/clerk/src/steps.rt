@@ -3,11 +3,10 @@
 use crate::Desk;
 use crate::entry::Entry;
 use crate::on_words;
-use clerk_records::WORDS;
 use desk::outcome::Outcome;
 use lists::Found;
 ghost use mathlib.Core.Path.{_≡_};
-ghost use Rattle.clerk.specs.Steps.{startedDesk, entered, receivedBytes};
+ghost use Rattle.clerk.specs.Steps.{entered, receivedBytes};
 
 // The desk afterwards and the outcome.
 pub struct Stepped {
@@ -23,30 +22,21 @@ pub struct SteppedBytes {
     pub fault: Found,
 }
 
-// A desk with no record.
-pub fn start() -> Desk
-    ensures { λ r. ⌜ r ≡ startedDesk ⌝ }
-{
-    Desk {
-        words: [0u64; WORDS],
-    }
-}
-
 // What came in at the entry: an ask, a message, User A's act, a timer's report, or a refusal of it.
-pub fn step(d: Desk, entry: Entry) -> Stepped
-    ensures { λ r. ⌜ r ≡ entered d entry ⌝ }
+pub fn step(d: Desk, count: u32, entry: Entry) -> Stepped
+    ensures { λ r. ⌜ r ≡ entered d count entry ⌝ }
 {
     let mut e = d;
-    let outcome = on_words::step(&mut e.words, entry);
+    let outcome = on_words::step(&mut e.words, count, entry);
     Stepped { desk: e, outcome }
 }
 
 // Raw bytes received: the reader's 1 and 2, which change nothing, with the place of the fault; else the message's step, and the first unread place.
-pub fn step_bytes(d: Desk, s: &[u8], busy: bool, place: usize) -> SteppedBytes
-    ensures { λ r. ⌜ r ≡ receivedBytes d (now (s .entry)) busy place ⌝ }
+pub fn step_bytes(d: Desk, count: u32, s: &[u8], busy: bool, place: usize) -> SteppedBytes
+    ensures { λ r. ⌜ r ≡ receivedBytes d count (now (s .entry)) busy place ⌝ }
 {
     let mut e = d;
-    let answer = on_words::step_bytes(&mut e.words, s, busy, place);
+    let answer = on_words::step_bytes(&mut e.words, count, s, busy, place);
     let outcome = answer.outcome;
     let fault = answer.fault;
     SteppedBytes {

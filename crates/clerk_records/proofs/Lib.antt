@@ -1,2 +1,4 @@
 pub mod RecordsLaws
 pub mod MeaningLaws
+pub mod DeadlinesLaws
+pub mod TimersLaws

@@ -1,5 +1,5 @@
 -- The words of a desk and its list of records are one thing: each search and each change of words is the same of records, by the laws of decoded rows.
-use Prim.Native.Nat.{ℕ, zero, suc, _*_, _≤_, _<_}
+use Prim.Native.Nat.{ℕ, zero, suc, _+_, _*_, _≤_, _<_}
 use mathlib.Core.Path.{_≡_, refl, sym, _∙_, ap}
 use mathlib.Core.Bool.{Bool, true, false, not}
 use mathlib.Core.List.{List, _++_, map}
@@ -21,8 +21,8 @@ use Rattle.store.specs.Rows as Rows
 use Rattle.store.specs.Rows.{stateWord, live, free, hasIdentifier, fitsRow, rows, blankRow, rowsFit, found, foundFitting, liveAt, removedRow}
 use Rattle.store.specs.declared.For.{For}
 use Rattle.store.specs.declared.For.the-variants.{Every, State as InState}
-use Rattle.store.proofs.RowsLaws.{fit-from, put-length, turn-length, drop-length}
-use Rattle.store.proofs.Decoded.{identified-live, fits-live, free-live, decoded-length, decoded-past, decoded-found, decoded-oldest, decoded-live, decoded-at, decoded-put, decoded-turn, decoded-drop}
+use Rattle.store.proofs.RowsLaws.{fit-from, put-turn, turn-length, drop-length}
+use Rattle.store.proofs.Decoded.{identified-live, fits-live, free-live, decoded-length, decoded-past, decoded-found, decoded-oldest, decoded-live, decoded-at, decoded-over, decoded-turn, decoded-drop}
 use Rattle.terms.specs.Terms as Terms
 use Rattle.terms.specs.Terms.{choicesAt, termsOf}
 use Rattle.terms.specs.Request.{letterNames}
@@ -37,7 +37,7 @@ use Rattle.clerk_table.specs.declared.record.Turned.{Turned}
 use Rattle.clerk_table.specs.declared.record.Change.{Change}
 use Rattle.clerk_table.specs.declared.record.Change.the-variants.{Stay, Put, Turn, Remove}
 use Rattle.clerk_records.specs.Codes.{stateOf, stateCode}
-use Rattle.clerk_records.specs.Layout.{width, downAt, canKeepAt, places, words, lastState}
+use Rattle.clerk_records.specs.Layout.{width, downAt, canKeepAt, deadlinesAt, places, words, lastState}
 use Rattle.clerk_records.specs.Records.{recordOf, recordWords, turnedWords, blank, records, used, unused, identified, meant, place, turned, recordsAfter, applied}
 use Rattle.clerk_records.specs.Meaning.{statesFor, inStates, fitting, isFor, elementsMean}
 
@@ -51,9 +51,10 @@ state-back WaitAnswer = refl
 state-back Ringout = refl
 state-back Suspended = refl
 
-pub record-back : (r : Record) → recordOf (recordWords r) ≡ r
+-- with a record's words over its front a row reads as the record, whatever stands behind them
+pub record-back : (r : Record) (row : List ℕ) → recordOf (over (recordWords r) row) ≡ r
 unfolding recordOf
-record-back r = rw (terms-back (r .terms) _, state-back (r .state), flag-back (r .canKeep), flag-back (r .down))
+record-back r row = rw (terms-back (r .terms) _, state-back (r .state), flag-back (r .canKeep), flag-back (r .down))
 
 -- a row that is turned: can-keep, behind what is put anew, is read as it was
 record-turned :
@@ -137,14 +138,17 @@ unfolding records
 records-length ws = decoded-length width places recordOf ws
 
 -- a desk's words have room for its rows
-rows-room : (ws : List ℕ) → words ≤ length ws → rowsFit width places (length ws) ≡ true
-rows-room ws l = fit-from width places (length ws) (omega arith) (omega arith) (omega arith) l
+pub rows-room : (ws : List ℕ) → words ≤ length ws → rowsFit width places (length ws) ≡ true
+rows-room ws l = fit-from width places (length ws) (omega arith) (omega arith) (omega arith) (omega arith)
 
--- a record reads its own words alone
-record-front : (row : List ℕ) → recordOf (take width row) ≡ recordOf row
+-- a record reads no word from the deadlines on
+pub record-before : (n : ℕ) (row : List ℕ) → deadlinesAt ≤ n → recordOf (take n row) ≡ recordOf row
 unfolding recordOf
-record-front row =
-    rw (terms-front width row (omega arith), getD-take width row Terms.width 0 (omega arith), getD-take width row canKeepAt 0 (omega arith), getD-take width row downAt 0 (omega arith))
+record-before n row h =
+    rw (terms-front n row (omega arith), getD-take n row Terms.width 0 (omega arith), getD-take n row canKeepAt 0 (omega arith), getD-take n row downAt 0 (omega arith))
+
+pub record-front : (row : List ℕ) → recordOf (take width row) ≡ recordOf row
+record-front row = record-before width row (omega arith)
 
 pub record-at : (ws : List ℕ) (i : ℕ) → i < places → getD (records ws) i blank ≡ recordOf (drop (i * width) ws)
 unfolding records
@@ -153,6 +157,10 @@ record-at ws i h = decoded-at width places recordOf record-front ws i h
 pub record-past : (ws : List ℕ) (i : ℕ) → places ≤ i → getD (records ws) i blank ≡ blank
 unfolding records
 record-past ws i h = decoded-past width places recordOf ws i h
+
+pub state-at : (ws : List ℕ) (i : ℕ) → i < places → getD (records ws) i blank .state ≡ stateOf (getD ws (i * width + Terms.width) 0)
+unfolding recordOf
+state-at ws i h = ap (λ (r : Record). r .state) (record-at ws i h) ∙ ap stateOf (getD-drop (i * width) ws Terms.width 0)
 
 -- ---- searches
 pub meant-found : (identifier : Words) (ws : List ℕ) → words ≤ length ws → found (hasIdentifier lastState identifier) width places ws ≡ meant identifier (records ws)
@@ -180,7 +188,9 @@ unfolding applied removedRow
 applied-length ws l Stay = l
 applied-length ws l (Put i r) =
     pick-elim (λ (x : List ℕ). length x ≡ words) (ltb i places)
-    (λ t. put-length width places ws i (recordWords r) refl (ltb-true i places t) (omega arith) ∙ l)
+    (λ t.
+    ap length (put-turn width ws i (recordWords r))
+    ∙ turn-length width places ws i 0 (recordWords r) (omega arith) (ltb-true i places t) (omega arith) ∙ l)
     (λ f. l)
 applied-length ws l (Turn i turn) =
     pick-elim (λ (x : List ℕ). length x ≡ words) (ltb i places)
@@ -202,7 +212,7 @@ put-records : (ws : List ℕ) (i : ℕ) (r : Record) → length ws ≡ words →
 unfolding applied records
 put-records ws i r l =
     pick-elim (λ (x : List ℕ). map recordOf (rows width places x) ≡ set (map recordOf (rows width places ws)) i r) (ltb i places)
-    (λ t. decoded-put width places recordOf ws (recordWords r) i r (record-back r) refl (ltb-true i places t) (omega arith))
+    (λ t. decoded-over width places recordOf (recordWords r) r (λ row long. record-back r row) record-front ws i (omega arith) (ltb-true i places t) (omega arith))
     (λ f. sym (set-out (map recordOf (rows width places ws)) i r (omega (arith, ltb-false i places f, decoded-length width places recordOf ws))))
 
 turn-records :

@@ -22,10 +22,13 @@ use Rattle.clerk_table.specs.declared.inputs.Input.the-variants as Input
 use Rattle.clerk_records.specs.Layout.{places}
 use Rattle.clerk_records.specs.Records.{blank, records, used, place}
 use Rattle.clerk_records.specs.Meaning.{identifierMeans}
-use Rattle.clerk_records.proofs.RecordsLaws.{records-length, records-applied}
+use Rattle.clerk_records.proofs.RecordsLaws.{records-length}
 use Rattle.clerk_plan.specs.Plan.{decided, planOf, planFor}
 use Rattle.clerk.specs.Entry.{askRequest, askNames, askEntry}
-use Rattle.clerk.specs.Steps.{startedDesk, step, made, entered, asked}
+use Rattle.clerk.specs.Start.{startedDesk}
+use Rattle.clerk.specs.Steps.{step, made, entered, asked}
+use Rattle.clerk.specs.declared.start.Lengths.{Lengths}
+use Rattle.clerk.proofs.StepsLaws.{records-made}
 use Rattle.clerk.specs.declared.Desk.{Desk}
 use Rattle.clerk.specs.declared.entry.Asking.{Asking}
 use Rattle.clerk.specs.declared.entry.Entry.{Entry}
@@ -83,12 +86,14 @@ asked-entry : (d : Desk) (a : Asking) → Proper d a → askEntry a ≡ Given (a
 unfolding askEntry
 asked-entry d a proper = rw (lt-ltb (a .preference) 3 (proper .preference), proper .ranged)
 
-asked-decision : (d : Desk) (a : Asking) → Proper d a → (decision : Decision) → decided (records (d .words)) (askInput a) ≡ decision → asked d a ≡ made d (planOf (records (d .words)) (askInput a) decision)
+asked-decision :
+    (d : Desk) (count : ℕ) (a : Asking) → Proper d a → (decision : Decision) → decided (records (d .words)) (askInput a) ≡ decision →
+    asked d count a ≡ made d count (planOf (records (d .words)) (askInput a) decision)
 unfolding entered step planFor
-asked-decision d a proper decision e =
-    ap (entered d) (asked-entry d a proper) ∙ ap (λ (x : Decision). made d (planOf (records (d .words)) (askInput a) x)) e
+asked-decision d count a proper decision e =
+    ap (entered d count) (asked-entry d a proper) ∙ ap (λ (x : Decision). made d count (planOf (records (d .words)) (askInput a) x)) e
 
-module _ (d : Desk) (reached : Reached d) (a : Asking) (proper : Proper d a) where
+module _ (d : Desk) (reached : Reached d) (count : ℕ) (a : Asking) (proper : Proper d a) where
   abbrev rs : List Record
   rs = records (d .words)
 
@@ -96,62 +101,62 @@ module _ (d : Desk) (reached : Reached d) (a : Asking) (proper : Proper d a) whe
   unfolding letterOf
   new = proper .new
 
-  asked-taken : stored clerkView rs < places → asked d a ≡ made d (planOf rs (askInput a) (Store (stored clerkView rs) (askRequest a)))
+  asked-taken : stored clerkView rs < places → asked d count a ≡ made d count (planOf rs (askInput a) (Store (stored clerkView rs) (askRequest a)))
   asked-taken h =
-      asked-decision d a proper _ (ask-taken rs (askNames a) (askRequest a) (reached-sound d reached) (records-length (d .words)) new h)
+      asked-decision d count a proper _ (ask-taken rs (askNames a) (askRequest a) (reached-sound d reached) (records-length (d .words)) new h)
 
-  asked-full : stored clerkView rs ≡ places → asked d a .outcome .refusal ≡ 5
+  asked-full : stored clerkView rs ≡ places → asked d count a .outcome .refusal ≡ 5
   unfolding planOf
   asked-full h =
       ap (λ (x : Stepped). x .outcome .refusal)
-      (asked-decision d a proper _ (ask-refused rs (askNames a) (askRequest a) (reached-sound d reached) (records-length (d .words)) new h))
+      (asked-decision d count a proper _ (ask-refused rs (askNames a) (askRequest a) (reached-sound d reached) (records-length (d .words)) new h))
 
-  asked-records : stored clerkView rs < places → records (asked d a .desk .words) ≡ set rs (stored clerkView rs) (askedRecord a)
+  asked-records : stored clerkView rs < places → records (asked d count a .desk .words) ≡ set rs (stored clerkView rs) (askedRecord a)
   unfolding planOf
-  asked-records h = ap (λ (x : Stepped). records (x .desk .words)) (asked-taken h) ∙ records-applied (d .words) (reached-full d reached) _
+  asked-records h = ap (λ (x : Stepped). records (x .desk .words)) (asked-taken h) ∙ records-made d (reached-full d reached) count (planOf rs (askInput a) (Store (stored clerkView rs) (askRequest a)))
 
-  asked-accepted : stored clerkView rs < places → asked d a .outcome .refusal ≡ 0
+  asked-accepted : stored clerkView rs < places → asked d count a .outcome .refusal ≡ 0
   unfolding planOf
   asked-accepted h = ap (λ (x : Stepped). x .outcome .refusal) (asked-taken h)
 
-  asked-told : stored clerkView rs < places → asked d a .outcome .at ≡ At (stored clerkView rs)
+  asked-told : stored clerkView rs < places → asked d count a .outcome .at ≡ At (stored clerkView rs)
   unfolding planOf
   asked-told h = ap (λ (x : Stepped). x .outcome .at) (asked-taken h)
 
 pub asked-behind : AskedBehind
 asked-behind =
     record {
-      taken = λ d reached a proper h. (asked-accepted d reached a proper h, asked-records d reached a proper h);
-      told = λ d reached a proper h. asked-told d reached a proper h;
-      refused = λ d reached a proper h. asked-full d reached a proper h;
-      again = λ d after i u e reached a proper.
+      taken = λ d reached count a proper h. (asked-accepted d reached count a proper h, asked-records d reached count a proper h);
+      told = λ d reached count a proper h. asked-told d reached count a proper h;
+      refused = λ d reached count a proper h. asked-full d reached count a proper h;
+      again = λ d after i u e reached count a proper.
           let n : suc (stored clerkView (without blank (records (d .words)) i)) ≡ stored clerkView (records (d .words)) = stored-fewer clerkView (records (d .words)) i blank-unused u in
-          asked-accepted after reached a proper (omega (arith, n, ap (stored clerkView) e, stored-most clerkView (records (d .words)) places (records-length (d .words))));
+          asked-accepted after reached count a proper (omega (arith, n, ap (stored clerkView) e, stored-most clerkView (records (d .words)) places (records-length (d .words))));
     }
 
 -- ---- as many asks as there are places, from the start
 asks-reached : {d : Desk} {n : ℕ} → Asks d n → Reached d
 unfolding entered
-asks-reached S.none = S.starts
-asks-reached (S.more {d} a proper before) =
-    subst (λ (entry : Entry). Reached (entered d entry .desk)) (sym (asked-entry d a proper))
-    (S.steps (S.asks a (proper .typed) (asked-entry d a proper)) (asks-reached before))
+asks-reached (S.none lengths) = S.starts lengths
+asks-reached (S.more {d} count a proper before) =
+    subst (λ (entry : Entry). Reached (entered d count entry .desk)) (sym (asked-entry d a proper))
+    (S.steps count (S.asks a (proper .typed) (asked-entry d a proper)) (asks-reached before))
 
-start-count : stored clerkView (records (startedDesk .words)) ≡ 0
-start-count = stored-none clerkView (records (startedDesk .words)) (λ j. ap used (start-blank j) ∙ blank-unused)
+start-count : (lengths : Lengths) → stored clerkView (records (startedDesk lengths .words)) ≡ 0
+start-count lengths = stored-none clerkView (records (startedDesk lengths .words)) (λ j. ap used (start-blank lengths j) ∙ blank-unused)
 
 asks-count : {d : Desk} {n : ℕ} → Asks d n → n ≤ places → stored clerkView (records (d .words)) ≡ n
-asks-count S.none h = start-count
-asks-count (S.more {d} {n} a proper before) h =
+asks-count (S.none lengths) h = start-count lengths
+asks-count (S.more {d} {n} count a proper before) h =
     let c : stored clerkView (records (d .words)) ≡ n = asks-count before (omega arith) in
     let room : stored clerkView (records (d .words)) < places = omega arith in
-    ap (stored clerkView) (asked-records d (asks-reached before) a proper room)
+    ap (stored clerkView) (asked-records d (asks-reached before) count a proper room)
     ∙ place-more (records (d .words)) (askedRecord a) (reached-sound d (asks-reached before)) (records-length (d .words)) room refl
     ∙ ap suc c
 
 pub seventeenth-refused : SeventeenthRefused
 seventeenth-refused =
     record {
-      taken = λ d n before a proper h. asked-accepted d (asks-reached before) a proper (omega (arith, asks-count before (omega arith)));
-      refused = λ d before a proper. asked-full d (asks-reached before) a proper (asks-count before (omega arith));
+      taken = λ d n before count a proper h. asked-accepted d (asks-reached before) count a proper (omega (arith, asks-count before (omega arith)));
+      refused = λ d before count a proper. asked-full d (asks-reached before) count a proper (asks-count before (omega arith));
     }

@@ -4,3 +4,4 @@ pub mod Ranges
 pub mod Refusals
 pub mod Reaching
 pub mod Filling
+pub mod Ticking

@@ -3,7 +3,7 @@ use Prim.Native.Nat.{ℕ}
 use mathlib.Core.Path.{_≡_, refl, sym, subst}
 use mathlib.Core.Bool.{Bool}
 use mathlib.Core.List.{List}
-use lib.ListN.{length, length-replicate}
+use lib.ListN.{length}
 use Rattle.lists.proofs.Choice.{pick-then}
 use Rattle.message.specs.Reading.{Read, took, refused}
 use Rattle.message.specs.Format.{inRange}
@@ -16,7 +16,7 @@ use Rattle.clerk_table.specs.declared.inputs.Input.{Input}
 use Rattle.clerk_table.specs.declared.inputs.Input.the-variants as Input
 use Rattle.clerk_records.specs.Layout as Layout
 use Rattle.clerk_records.specs.Records.{records}
-use Rattle.clerk_records.proofs.RecordsLaws.{applied-length, records-applied}
+use Rattle.clerk.proofs.StepsLaws.{made-length, records-made}
 use Rattle.clerk_plan.specs.Plan.{planFor}
 use Rattle.clerk.specs.Entry.{messageEntry, readEntry, bytesEntry}
 use Rattle.clerk.specs.Steps.{step, entered, received, receivedBytes}
@@ -39,19 +39,19 @@ record Good (d : Desk) : Type 0 where
 abbrev Steps : Desk → Stepped → Type 0
 Steps d step = Moved clerkView Turned Whole (step .outcome .at) (records (d .words)) (records (step .desk .words))
 
-good-moved : (d : Desk) → Good d → (input : Input) → Fair input → Steps d (step d input)
+good-moved : (d : Desk) → Good d → (count : ℕ) (input : Input) → Fair input → Steps d (step d count input)
 unfolding step
-good-moved d good input fair =
+good-moved d good count input fair =
     let rs = records (d .words) in
-    subst (Moved clerkView Turned Whole (planFor rs input .outcome .at) rs) (sym (records-applied (d .words) (good .full) (planFor rs input .change)))
+    subst (Moved clerkView Turned Whole (planFor rs input .outcome .at) rs) (sym (records-made d (good .full) count (planFor rs input)))
     (fair-goes rs (good .sound) input fair)
 
-good-step : (d : Desk) → Good d → (input : Input) → Fair input → Good (step d input .desk)
+good-step : (d : Desk) → Good d → (count : ℕ) (input : Input) → Fair input → Good (step d count input .desk)
 unfolding step
-good-step d good input fair =
-    let moved = good-moved d good input fair in
+good-step d good count input fair =
+    let moved = good-moved d good count input fair in
     record {
-      full = applied-length (d .words) (good .full) (planFor (records (d .words)) input .change);
+      full = made-length d (good .full) count (planFor (records (d .words)) input);
       sound = record {
         placed = moved-placed clerkView (good .sound .placed) moved;
         each = moved-each clerkView Whole (λ a b whole. whole) (λ b whole. whole) (good .sound .placed) (good .sound .each) moved;
@@ -78,17 +78,17 @@ bytes-fair : (bytes : List ℕ) (busy : Bool) (place : ℕ) → FairEntry (bytes
 unfolding bytesEntry
 bytes-fair bytes busy place = read-fair busy place (messageAt bytes)
 
-good-entered : (d : Desk) → Good d → (entry : Entry) → FairEntry entry → Good (entered d entry .desk)
+good-entered : (d : Desk) → Good d → (count : ℕ) (entry : Entry) → FairEntry entry → Good (entered d count entry .desk)
 unfolding entered
-good-entered d good (Refused number) fair = good
-good-entered d good (Given input) fair = good-step d good input (fair input refl)
+good-entered d good count (Refused number) fair = good
+good-entered d good count (Given input) fair = good-step d good count input (fair input refl)
 
 -- ---- every reached desk
 reached-good : {d : Desk} → Reached d → Good d
 unfolding receivedBytes
-reached-good S.starts = record { full = length-replicate {A = ℕ} Layout.words 0; sound = start-sound }
-reached-good (S.steps {d} {input} fair r) = good-step d (reached-good r) input fair
-reached-good (S.reads {d} bytes busy place r) = good-entered d (reached-good r) (bytesEntry bytes busy place .entry) (bytes-fair bytes busy place)
+reached-good (S.starts lengths) = record { full = refl; sound = start-sound lengths }
+reached-good (S.steps {d} {input} count fair r) = good-step d (reached-good r) count input fair
+reached-good (S.reads {d} count bytes busy place r) = good-entered d (reached-good r) count (bytesEntry bytes busy place .entry) (bytes-fair bytes busy place)
 
 pub reached-sound : ReachedSound
 reached-sound d r = reached-good r .sound
@@ -97,30 +97,30 @@ pub reached-full : ReachedFull
 reached-full d r = reached-good r .full
 
 -- a desk that is reached, after what comes in at the entry
-pub reached-entered : (d : Desk) → Reached d → (entry : Entry) → FairEntry entry → Reached (entered d entry .desk)
+pub reached-entered : (d : Desk) → Reached d → (count : ℕ) (entry : Entry) → FairEntry entry → Reached (entered d count entry .desk)
 unfolding entered
-reached-entered d reached (Refused number) fair = reached
-reached-entered d reached (Given input) fair = S.steps (fair input refl) reached
+reached-entered d reached count (Refused number) fair = reached
+reached-entered d reached count (Given input) fair = S.steps count (fair input refl) reached
 
-pub reached-received : (d : Desk) → Reached d → (m : Message) (busy : Bool) (place : ℕ) → Reached (received d m busy place .desk)
-reached-received d reached m busy place = reached-entered d reached (messageEntry m busy place) (message-fair m busy place)
+pub reached-received : (d : Desk) → Reached d → (count : ℕ) (m : Message) (busy : Bool) (place : ℕ) → Reached (received d count m busy place .desk)
+reached-received d reached count m busy place = reached-entered d reached count (messageEntry m busy place) (message-fair m busy place)
 
 -- ---- what a step leaves as it was
-pub step-moved : (d : Desk) → Reached d → (input : Input) → Fair input → Steps d (step d input)
-step-moved d reached input fair = good-moved d (reached-good reached) input fair
+pub step-moved : (d : Desk) → Reached d → (count : ℕ) (input : Input) → Fair input → Steps d (step d count input)
+step-moved d reached count input fair = good-moved d (reached-good reached) count input fair
 
-entered-order : (d : Desk) → Reached d → (entry : Entry) → FairEntry entry → InOrder d (entered d entry .desk)
+entered-order : (d : Desk) → Reached d → (count : ℕ) (entry : Entry) → FairEntry entry → InOrder d (entered d count entry .desk)
 unfolding entered
-entered-order d reached (Refused number) fair = same
-entered-order d reached (Given input) fair = moved-order clerkView (reached-sound d reached .placed) (step-moved d reached input (fair input refl))
+entered-order d reached count (Refused number) fair = same
+entered-order d reached count (Given input) fair = moved-order clerkView (reached-sound d reached .placed) (step-moved d reached count input (fair input refl))
 
 pub order-of-storing : OrderOfStoring
 unfolding receivedBytes
 order-of-storing =
     record {
-      steps = λ d reached input fair. moved-order clerkView (reached-sound d reached .placed) (step-moved d reached input fair);
-      bytes = λ d reached bytes busy place. entered-order d reached (bytesEntry bytes busy place .entry) (bytes-fair bytes busy place);
+      steps = λ d reached count input fair. moved-order clerkView (reached-sound d reached .placed) (step-moved d reached count input fair);
+      bytes = λ d reached count bytes busy place. entered-order d reached count (bytesEntry bytes busy place .entry) (bytes-fair bytes busy place);
     }
 
 pub others-held : OthersHeld
-others-held d reached input fair = moved-others clerkView (step-moved d reached input fair)
+others-held d reached count input fair = moved-others clerkView (step-moved d reached count input fair)

@@ -12,7 +12,8 @@ use Rattle.clerk_table.specs.declared.record.Record.{Record}
 use Rattle.clerk_records.specs.Codes.{stateOf}
 use Rattle.clerk_records.specs.Layout.{places}
 use Rattle.clerk_records.specs.Records.{recordOf, blank, records, used}
-use Rattle.clerk.specs.Steps.{startedDesk}
+use Rattle.clerk.specs.Start.{startedDesk}
+use Rattle.clerk.specs.declared.start.Lengths.{Lengths}
 use Rattle.clerk_sound.specs.Sound.{clerkView, StartSound, StartEmpty}
 
 -- a blank record is not used
@@ -25,22 +26,22 @@ replicate-at zero x i = refl
 replicate-at (suc n) x zero = refl
 replicate-at (suc n) x (suc i) = replicate-at n x i
 
-start-records : records (startedDesk .words) ≡ replicate places blank
+start-records : (lengths : Lengths) → records (startedDesk lengths .words) ≡ replicate places blank
 unfolding records rows recordOf termsOf
-start-records = refl
+start-records lengths = refl
 
-pub start-blank : (i : ℕ) → getD (records (startedDesk .words)) i blank ≡ blank
-start-blank i = ap (λ (rs : List Record). getD rs i blank) start-records ∙ replicate-at places blank i
+pub start-blank : (lengths : Lengths) (i : ℕ) → getD (records (startedDesk lengths .words)) i blank ≡ blank
+start-blank lengths i = ap (λ (rs : List Record). getD rs i blank) (start-records lengths) ∙ replicate-at places blank i
 
-start-unused : (i : ℕ) → used (getD (records (startedDesk .words)) i blank) ≡ false
-start-unused i = ap used (start-blank i) ∙ blank-unused
+start-unused : (lengths : Lengths) (i : ℕ) → used (getD (records (startedDesk lengths .words)) i blank) ≡ false
+start-unused lengths i = ap used (start-blank lengths i) ∙ blank-unused
 
 pub start-empty : StartEmpty
 start-empty = start-unused
 
 pub start-sound : StartSound
-start-sound =
+start-sound lengths =
     record {
-      placed = start-placed clerkView (records (startedDesk .words)) start-blank blank-unused;
-      each = λ i u. absurd (no-true (sym (start-unused i) ∙ u));
+      placed = start-placed clerkView (records (startedDesk lengths .words)) (start-blank lengths) blank-unused;
+      each = λ i u. absurd (no-true (sym (start-unused lengths i) ∙ u));
     }

@@ -32,7 +32,9 @@ use Rattle.clerk_records.specs.Records.{blank, records, used, place}
 use Rattle.clerk_records.specs.Meaning.{identifierMeans}
 use Rattle.clerk_plan.specs.Plan.{decided, newRecord}
 use Rattle.clerk.specs.Entry.{askRequest, askMessage, askNames, askEntry}
-use Rattle.clerk.specs.Steps.{startedDesk, step, entered, asked, receivedBytes}
+use Rattle.clerk.specs.Start.{startedDesk}
+use Rattle.clerk.specs.Steps.{step, entered, asked, receivedBytes}
+use Rattle.clerk.specs.declared.start.Lengths.{Lengths}
 use Rattle.clerk.specs.declared.Desk.{Desk}
 use Rattle.clerk.specs.declared.entry.Asking.{Asking}
 use Rattle.clerk.specs.declared.entry.Entry.{Entry}
@@ -48,8 +50,10 @@ Same before after outcome = (outcome .refusal ≡ 0 → ⊥) → (after ≡ befo
 
 pub record RefusedSame : Type 0 where
   -- whatever comes in at the entry: an ask, a message, an act, a timer's report
-  pub steps : (d : Desk) (entry : Entry) → Same d (entered d entry .desk) (entered d entry .outcome)
-  pub bytes : (d : Desk) (bytes : List ℕ) (busy : Bool) (place : ℕ) → Same d (receivedBytes d bytes busy place .desk) (receivedBytes d bytes busy place .outcome)
+  pub steps : (d : Desk) (count : ℕ) (entry : Entry) → Same d (entered d count entry .desk) (entered d count entry .outcome)
+  pub bytes :
+      (d : Desk) (count : ℕ) (bytes : List ℕ) (busy : Bool) (place : ℕ) →
+      Same d (receivedBytes d count bytes busy place .desk) (receivedBytes d count bytes busy place .outcome)
 
 -- ---- a sound list of records
 -- a used record: its choices and its fields
@@ -69,7 +73,7 @@ pub record Sound (rs : List Record) : Type 0 where
   pub placed : Placed clerkView rs
   pub each : (i : ℕ) → used (getD rs i blank) ≡ true → Whole (getD rs i blank)
 
--- ---- a desk reached from the start, by any inputs
+-- ---- a desk reached from the start with any lengths, by any inputs at any counts
 -- what the code's type says of an ask: sixteen bytes for the identifier and for each number
 pub record Typed (a : Asking) : Type 0 where
   pub lengthIdentifier : length (a .identifier) ≡ 16
@@ -87,16 +91,16 @@ pub data Fair : Input → Type 0 where
   times : (name : Name) (timer : Timer) → Fair (Input.Timer name timer)
 
 pub data Reached : Desk → Type 0 where
-  starts : Reached startedDesk
-  steps : {d : Desk} {input : Input} → Fair input → Reached d → Reached (step d input .desk)
-  reads : {d : Desk} (bytes : List ℕ) (busy : Bool) (place : ℕ) → Reached d → Reached (receivedBytes d bytes busy place .desk)
+  starts : (lengths : Lengths) → Reached (startedDesk lengths)
+  steps : {d : Desk} {input : Input} (count : ℕ) → Fair input → Reached d → Reached (step d count input .desk)
+  reads : {d : Desk} (count : ℕ) (bytes : List ℕ) (busy : Bool) (place : ℕ) → Reached d → Reached (receivedBytes d count bytes busy place .desk)
 
 abbrev pub StartSound : Type 0
-StartSound = Sound (records (startedDesk .words))
+StartSound = (lengths : Lengths) → Sound (records (startedDesk lengths .words))
 
 -- a started desk holds no request
 abbrev pub StartEmpty : Type 0
-StartEmpty = (i : ℕ) → used (getD (records (startedDesk .words)) i blank) ≡ false
+StartEmpty = (lengths : Lengths) (i : ℕ) → used (getD (records (startedDesk lengths .words)) i blank) ≡ false
 
 abbrev pub ReachedSound : Type 0
 ReachedSound = (d : Desk) → Reached d → Sound (records (d .words))
@@ -140,37 +144,37 @@ askedRecord a = newRecord (askNames a) (askRequest a)
 -- the same on a reached desk: its record is stored behind all used ones; or the desk is full
 pub record AskedBehind : Type 0 where
   pub taken :
-      (d : Desk) → Reached d → (a : Asking) → Proper d a → stored clerkView (records (d .words)) < Layout.places →
-      (asked d a .outcome .refusal ≡ 0) × (records (asked d a .desk .words) ≡ set (records (d .words)) (stored clerkView (records (d .words))) (askedRecord a))
+      (d : Desk) → Reached d → (count : ℕ) (a : Asking) → Proper d a → stored clerkView (records (d .words)) < Layout.places →
+      (asked d count a .outcome .refusal ≡ 0) × (records (asked d count a .desk .words) ≡ set (records (d .words)) (stored clerkView (records (d .words))) (askedRecord a))
   -- and the outcome tells its place
   pub told :
-      (d : Desk) → Reached d → (a : Asking) → Proper d a → stored clerkView (records (d .words)) < Layout.places →
-      asked d a .outcome .at ≡ At (stored clerkView (records (d .words)))
-  pub refused : (d : Desk) → Reached d → (a : Asking) → Proper d a → stored clerkView (records (d .words)) ≡ Layout.places → asked d a .outcome .refusal ≡ 5
+      (d : Desk) → Reached d → (count : ℕ) (a : Asking) → Proper d a → stored clerkView (records (d .words)) < Layout.places →
+      asked d count a .outcome .at ≡ At (stored clerkView (records (d .words)))
+  pub refused : (d : Desk) → Reached d → (count : ℕ) (a : Asking) → Proper d a → stored clerkView (records (d .words)) ≡ Layout.places → asked d count a .outcome .refusal ≡ 5
   -- a freed place is used again: after a record was removed the next ask is taken, also where the desk was full
   pub again :
       (d after : Desk) (i : ℕ) → used (getD (records (d .words)) i blank) ≡ true → records (after .words) ≡ without blank (records (d .words)) i →
-      Reached after → (a : Asking) → Proper after a → asked after a .outcome .refusal ≡ 0
+      Reached after → (count : ℕ) (a : Asking) → Proper after a → asked after count a .outcome .refusal ≡ 0
 
 -- 16 asks are taken and the 17th is 5: so many proper asks, one after the other from the start
 pub data Asks : Desk → ℕ → Type 0 where
-  none : Asks startedDesk 0
-  more : {d : Desk} {n : ℕ} (a : Asking) → Proper d a → Asks d n → Asks (asked d a .desk) (suc n)
+  none : (lengths : Lengths) → Asks (startedDesk lengths) 0
+  more : {d : Desk} {n : ℕ} (count : ℕ) (a : Asking) → Proper d a → Asks d n → Asks (asked d count a .desk) (suc n)
 
 pub record SeventeenthRefused : Type 0 where
-  pub taken : (d : Desk) (n : ℕ) → Asks d n → (a : Asking) → Proper d a → n < Layout.places → asked d a .outcome .refusal ≡ 0
-  pub refused : (d : Desk) → Asks d Layout.places → (a : Asking) → Proper d a → asked d a .outcome .refusal ≡ 5
+  pub taken : (d : Desk) (n : ℕ) → Asks d n → (count : ℕ) (a : Asking) → Proper d a → n < Layout.places → asked d count a .outcome .refusal ≡ 0
+  pub refused : (d : Desk) → Asks d Layout.places → (count : ℕ) (a : Asking) → Proper d a → asked d count a .outcome .refusal ≡ 5
 
 -- ---- used records stand in the order of storing
 abbrev pub InOrder : Desk → Desk → Type 0
 InOrder before after = Queued (names clerkView (records (before .words))) (names clerkView (records (after .words)))
 
 pub record OrderOfStoring : Type 0 where
-  pub steps : (d : Desk) → Reached d → (input : Input) → Fair input → InOrder d (step d input .desk)
-  pub bytes : (d : Desk) → Reached d → (bytes : List ℕ) (busy : Bool) (place : ℕ) → InOrder d (receivedBytes d bytes busy place .desk)
+  pub steps : (d : Desk) → Reached d → (count : ℕ) (input : Input) → Fair input → InOrder d (step d count input .desk)
+  pub bytes : (d : Desk) → Reached d → (count : ℕ) (bytes : List ℕ) (busy : Bool) (place : ℕ) → InOrder d (receivedBytes d count bytes busy place .desk)
 
 -- ---- a step is about the record at the place that its outcome tells: every other stays, behind a removed one a place further to the front
 abbrev pub OthersHeld : Type 0
 OthersHeld =
-    (d : Desk) → Reached d → (input : Input) → Fair input →
-    OthersStay clerkView (step d input .outcome .at) (records (d .words)) (records (step d input .desk .words))
+    (d : Desk) → Reached d → (count : ℕ) (input : Input) → Fair input →
+    OthersStay clerkView (step d count input .outcome .at) (records (d .words)) (records (step d count input .desk .words))

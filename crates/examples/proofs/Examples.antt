@@ -17,7 +17,9 @@ use Rattle.clerk_table.specs.Step as ClerkStep
 use Rattle.clerk_records.specs.Codes as ClerkCodes
 use Rattle.clerk_records.specs.Records as ClerkRecords
 use Rattle.clerk_records.specs.Meaning as ClerkMeaning
+use Rattle.clerk_records.specs.Deadlines as ClerkDeadlines
 use Rattle.clerk_plan.specs.Plan as ClerkPlan
+use Rattle.clerk.specs.Start as ClerkStart
 use Rattle.clerk.specs.Entry as ClerkEntry
 use Rattle.clerk.specs.Steps as Clerk
 use Rattle.line_table.specs.Step as LineStep
@@ -25,9 +27,10 @@ use Rattle.line_records.specs.Codes as LineCodes
 use Rattle.line_records.specs.Records as LineRecords
 use Rattle.line_records.specs.Lines as Lines
 use Rattle.line_records.specs.Change as Change
+use Rattle.line_records.specs.Deadlines as LineDeadlines
 use Rattle.line_plan.specs.Decide as Decide
 use Rattle.line_plan.specs.Plan as LinePlan
-use Rattle.line.specs.Start as Start
+use Rattle.line.specs.Start as LineStart
 use Rattle.line.specs.Entry as LineEntry
 use Rattle.line.specs.Steps as Line
 use Rattle.examples.specs.Tells.{joined, outcomeTells, clerkTells, lineTells, held, status}
@@ -61,7 +64,7 @@ desks :
     (4 ∷ 1 ∷ 1 ∷ 0 ∷ 0 ∷ 0 ∷ []) ∷
     (5 ∷ 2 ∷ 1 ∷ 9 ∷ 0 ∷ 5 ∷ 2 ∷ 1 ∷ []) ∷
     []
-unfolding joined outcomeTells clerkTells lineTells held status firstFrom count word wordsOf sameWords numberAt fieldAt scanAt digitsAt digitsInRange inRange rows putRow turnRow dropRow rowsFit removedRow carrierFits kindOf keepOf connectionOf termsOf numberWords identifierOf letterOf ClerkStep.rowTaken ClerkCodes.stateOf ClerkRecords.recordOf ClerkRecords.records ClerkRecords.meant ClerkRecords.place ClerkRecords.applied ClerkMeaning.meaning ClerkMeaning.named ClerkPlan.decided ClerkPlan.planOf ClerkPlan.planFor ClerkEntry.askEntry ClerkEntry.messageEntry Clerk.step Clerk.entered LineStep.rowTaken LineCodes.stateOf LineRecords.recordOf LineRecords.records LineRecords.meant LineRecords.place LineRecords.putRecord LineRecords.turnRecord LineRecords.removed Lines.lineOf Lines.lines Lines.lineAt Lines.overLine Lines.putLine Lines.keeps Lines.retains Lines.withSettings Change.markPlace Change.marked Change.statusStored Change.withReport Change.applied Decide.countedDecision Decide.admittedDecision Decide.requestDecision Decide.messageDecision Decide.offerAt Decide.lookDecision Decide.reportDecision Decide.decided LinePlan.planOf LinePlan.planFor Start.goodLine Start.lineTaken Start.takeLines Start.started LineEntry.messageEntry LineEntry.reportEntry LineEntry.lookEntry Line.step Line.entered
+unfolding joined outcomeTells clerkTells lineTells held status firstFrom count word wordsOf sameWords numberAt fieldAt scanAt digitsAt digitsInRange inRange rows putRow turnRow dropRow rowsFit removedRow carrierFits kindOf keepOf connectionOf termsOf numberWords identifierOf letterOf ClerkStep.rowTaken ClerkCodes.stateOf ClerkRecords.recordOf ClerkRecords.records ClerkRecords.meant ClerkRecords.place ClerkRecords.applied ClerkMeaning.meaning ClerkMeaning.named ClerkDeadlines.startedAt ClerkDeadlines.timed ClerkPlan.decided ClerkPlan.planOf ClerkPlan.planFor ClerkStart.goodLengths ClerkStart.started ClerkEntry.askEntry ClerkEntry.messageEntry Clerk.step Clerk.entered LineStep.rowTaken LineCodes.stateOf LineRecords.recordOf LineRecords.records LineRecords.meant LineRecords.place LineRecords.putRecord LineRecords.turnRecord LineRecords.removed Lines.lineOf Lines.lines Lines.lineAt Lines.overLine Lines.putLine Lines.keeps Lines.retains Lines.withSettings Change.markPlace Change.marked Change.statusStored Change.withReport Change.applied LineDeadlines.startedAt LineDeadlines.timed Decide.countedDecision Decide.admittedDecision Decide.requestDecision Decide.messageDecision Decide.offerAt Decide.lookDecision Decide.reportDecision Decide.decided LinePlan.planOf LinePlan.planFor LineStart.goodLine LineStart.lineTaken LineStart.takeLines LineStart.started LineEntry.messageEntry LineEntry.reportEntry LineEntry.lookEntry Line.step Line.entered
 desks = refl
 
 -- examples 1 to 5, in six rows, before those of the desks

@@ -58,15 +58,15 @@ use Rattle.line.specs.declared.steps.Stepped as LineStepped
 use Rattle.line.specs.declared.steps.SteppedBytes as LineSteppedBytes
 use Rattle.host_numbers.specs.Identifiers.{isIdentifier, nameGiven}
 use Rattle.host_numbers.specs.Given.{clerkActNamed, clerkActGiven, timerNamed, timerGiven, lineActNamed, lineActGiven, guardGiven, isWord, yes, reportGiven, askWords, askingOf, askGiven, clerkBytesGiven}
-use Rattle.tollherring.specs.Face.{refusedFace, faced}
+use Rattle.tollherring.specs.Face.{noCount, refusedFace, faced}
 use Rattle.tollherring.specs.Clerk.{clerkEntered, clerkBytes, clerkAsked, clerkReceived, clerkActed, clerkReported}
 use Rattle.tollherring.specs.Line.{startWords, lineStartedWords, lineStartedAnswer, lineEntered, lineBytes, lineReceived, lineStatusReported, lineLooked, lineActed, lineGuarded}
 use Rattle.tollherring.proofs.Claims.{no-room-nothing}
 use Rattle.line_table.specs.Inputs.{namesOf}
 use Rattle.pair_request.specs.Signal.{Signal, callDied, rejected}
-use Rattle.pair.specs.World.{Of, from, Note, takenUp, World, Event, clerkDoes, lineDoes, clerkIsTold, clerkHears, lineHears, nameOf, newLabel, labelOf, clerkTouched, lineTouched, clerkNotes, lineNotes, sentBy, clerkStepped, lineStepped, clerkHeard, lineHeard, signalLetter, signalEntry, next, Allowed, Once}
+use Rattle.pair.specs.World.{Of, from, Note, takenUp, World, Event, clerkDoes, lineDoes, clerkIsTold, clerkHears, lineHears, nameOf, newLabel, labelOf, clerkTouched, lineTouched, clerkNotes, lineNotes, sentBy, clerkStepped, lineStepped, clerkHeard, lineHeard, signalLetter, signalEntry, counts, next, Allowed, then, Reached, reached, Any, Once}
 use Rattle.exported.specs.Calls.{End, carried, clerkEnd, lineEnd, IsStep, done, refused}
-use Rattle.exported.specs.Claims.{ClerkHearsBytes, LineHearsBytes, ClerkCall, LineCall, askEvent, FaceIsStep, StartsAsRun}
+use Rattle.exported.specs.Claims.{ClerkHearsBytes, LineHearsBytes, ClerkCall, LineCall, uncounted, askEvent, FaceIsStep, StartsAsRun}
 use Rattle.exported.proofs.Heard.{heard-as-bytes}
 
 -- ---- a step's face: done, or refused for want of room
@@ -91,31 +91,31 @@ module _ (w : World) (out : List ℕ) where
   -- the end after a step of its desk
   clerk-after :
       (down : List (Of Message)) (given : Of Identifier) (entry : ClerkEntries.Entry) (notes : List (Of Identifier) → List Note) →
-      _≡_ {A = End} (record { words = Clerk.entered (w .clerk) entry .desk .words; wire = carried (w .up) ++ sentBy (Clerk.entered (w .clerk) entry .outcome .sending) })
+      _≡_ {A = End} (record { words = Clerk.entered (w .clerk) (w .count) entry .desk .words; wire = carried (w .up) ++ sentBy (Clerk.entered (w .clerk) (w .count) entry .outcome .sending) })
       (clerkEnd (clerkStepped w down given entry notes))
   clerk-after down given entry notes =
-      ap (λ (ms : List Message). record { words = Clerk.entered (w .clerk) entry .desk .words; wire = ms })
-      (wire-sent (w .up) (getD (clerkTouched w given entry) 0 given .origin) (sentBy (Clerk.entered (w .clerk) entry .outcome .sending)))
+      ap (λ (ms : List Message). record { words = Clerk.entered (w .clerk) (w .count) entry .desk .words; wire = ms })
+      (wire-sent (w .up) (getD (clerkTouched w given entry) 0 given .origin) (sentBy (Clerk.entered (w .clerk) (w .count) entry .outcome .sending)))
 
   line-after :
       (up : List (Of Message)) (given : Of Identifier) (entry : LineEntries.Entry) (notes : List (Of Identifier) → List Note) →
-      _≡_ {A = End} (record { words = Line.entered (w .line) entry .desk .words; wire = carried (w .down) ++ sentBy (Line.entered (w .line) entry .outcome .sending) })
+      _≡_ {A = End} (record { words = Line.entered (w .line) (w .count) entry .desk .words; wire = carried (w .down) ++ sentBy (Line.entered (w .line) (w .count) entry .outcome .sending) })
       (lineEnd (lineStepped w up given entry notes))
   line-after up given entry notes =
-      ap (λ (ms : List Message). record { words = Line.entered (w .line) entry .desk .words; wire = ms })
-      (wire-sent (w .down) (getD (lineTouched w given entry) 0 given .origin) (sentBy (Line.entered (w .line) entry .outcome .sending)))
+      ap (λ (ms : List Message). record { words = Line.entered (w .line) (w .count) entry .desk .words; wire = ms })
+      (wire-sent (w .down) (getD (lineTouched w given entry) 0 given .origin) (sentBy (Line.entered (w .line) (w .count) entry .outcome .sending)))
 
   -- ---- what comes in at the entry of a desk, for an event that leaves the end as the entry's step does
   abbrev clerkLeft : ClerkStepped.Stepped → End
   clerkLeft step = record { words = step .desk .words; wire = carried (w .up) ++ sentBy (step .outcome .sending) }
 
   clerk-entry :
-      (e : Event) (entry : ClerkEntries.Entry) (unread : ℕ) (fault : Found) → clerkLeft (Clerk.entered (w .clerk) entry) ≡ clerkEnd (next w e) →
-      ClerkCall w e out unread (clerkEntered (w .clerk .words) out entry unread fault)
+      (e : Event) (entry : ClerkEntries.Entry) (unread : ℕ) (fault : Found) → clerkLeft (Clerk.entered (w .clerk) (w .count) entry) ≡ clerkEnd (next w e) →
+      ClerkCall w e out unread (clerkEntered (w .clerk .words) (w .count) out entry unread fault)
   unfolding clerkEntered Clerk.entered
   clerk-entry e (ClerkEntered.Refused number) unread fault left = refused number fault
   clerk-entry e (ClerkEntered.Given input) unread fault left =
-      let step = Clerk.step (w .clerk) input in
+      let step = Clerk.step (w .clerk) (w .count) input in
       subst (λ (after : End). IsStep (clerkEnd w) after out unread (faced (w .clerk .words) (step .desk .words) out (step .outcome) unread)) left
       (faced-step (clerkEnd w) (clerkLeft step) out (step .outcome) unread refl)
 
@@ -123,24 +123,23 @@ module _ (w : World) (out : List ℕ) where
   lineLeft step = record { words = step .desk .words; wire = carried (w .down) ++ sentBy (step .outcome .sending) }
 
   line-entry :
-      (e : Event) (entry : LineEntries.Entry) (unread : ℕ) (fault : Found) → lineLeft (Line.entered (w .line) entry) ≡ lineEnd (next w e) →
-      LineCall w e out unread (lineEntered (w .line .words) out entry unread fault)
+      (e : Event) (entry : LineEntries.Entry) (unread : ℕ) (fault : Found) → lineLeft (Line.entered (w .line) (w .count) entry) ≡ lineEnd (next w e) →
+      LineCall w e out unread (lineEntered (w .line .words) (w .count) out entry unread fault)
   unfolding lineEntered Line.entered
   line-entry e (LineEntered.Refused number) unread fault left = refused number fault
   line-entry e (LineEntered.Given input) unread fault left =
-      let step = Line.step (w .line) input in
+      let step = Line.step (w .line) (w .count) input in
       subst (λ (after : End). IsStep (lineEnd w) after out unread (faced (w .line .words) (step .desk .words) out (step .outcome) unread)) left
       (faced-step (lineEnd w) (lineLeft step) out (step .outcome) unread refl)
 
   -- ---- what a host gives: a number that stands for nothing is refused
   abbrev ClerkIn : Event → ClerkEntries.Entry → Type 0
-  ClerkIn e entry = ClerkCall w e out 0 (clerkEntered (w .clerk .words) out entry 0 Nothing)
+  ClerkIn e entry = ClerkCall w e out 0 (clerkEntered (w .clerk .words) (w .count) out entry 0 Nothing)
 
   asking :
       (identifier : List ℕ) (kind : ℕ) (numberA numberB : List ℕ) (service canKeep preference : ℕ) →
-      ClerkCall w (askEvent (askingOf identifier kind numberA numberB service canKeep preference)) out 0
-      (clerkAsked (w .clerk .words) out identifier kind numberA numberB service canKeep preference)
-  unfolding clerkAsked askGiven ClerkEntry.askEntry clerkEntered Clerk.entered next
+      ClerkIn (askEvent (askingOf identifier kind numberA numberB service canKeep preference)) (askGiven identifier kind numberA numberB service canKeep preference)
+  unfolding askGiven ClerkEntry.askEntry clerkEntered Clerk.entered next
   asking identifier kind numberA numberB service canKeep preference =
       let a = askingOf identifier kind numberA numberB service canKeep preference in
       let input = AtClerk.Ask (ClerkEntry.askNames a) (ClerkEntry.askRequest a) in
@@ -201,7 +200,7 @@ module _ (w : World) (out : List ℕ) where
       pick-elim (TimerIn name) (isIdentifier identifier) (λ t. timer-named name number) (λ f. (T3, refused 2 Nothing))
 
   abbrev LineIn : Event → LineEntries.Entry → Type 0
-  LineIn e entry = LineCall w e out 0 (lineEntered (w .line .words) out entry 0 Nothing)
+  LineIn e entry = LineCall w e out 0 (lineEntered (w .line .words) (w .count) out entry 0 Nothing)
 
   line-reporting : (digits : List ℕ) (busy : ℕ) → LineIn (lineDoes (AtLine.Report (numberWords digits) (yes busy))) (reportGiven digits busy)
   unfolding reportGiven LineEntry.reportEntry lineEntered Line.entered next
@@ -255,13 +254,13 @@ module _ (w : World) (out : List ℕ) where
   clerk-hearing :
       (x : Of Message) (rest : List (Of Message)) → w .down ≡ x ∷ rest → (place : ℕ) (behind : List ℕ) (busy : Bool) →
       let m = x .it in
-      Clerk.receivedBytes (w .clerk) (messageBytes m ++ behind) busy place ≡ Clerk.withNext (Clerk.received (w .clerk) m busy place) (length (messageBytes m)) Nothing →
-      ClerkCall w (clerkHears busy place) out (length (messageBytes m)) (clerkBytes (w .clerk .words) out (ClerkEntry.bytesEntry (messageBytes m ++ behind) busy place))
+      Clerk.receivedBytes (w .clerk) (w .count) (messageBytes m ++ behind) busy place ≡ Clerk.withNext (Clerk.received (w .clerk) (w .count) m busy place) (length (messageBytes m)) Nothing →
+      ClerkCall w (clerkHears busy place) out (length (messageBytes m)) (clerkBytes (w .clerk .words) (w .count) out (ClerkEntry.bytesEntry (messageBytes m ++ behind) busy place))
   unfolding Clerk.receivedBytes next clerkHeard
   clerk-hearing x rest head place behind busy e =
       let m = x .it in
       let read = ClerkEntry.bytesEntry (messageBytes m ++ behind) busy place in
-      subst (λ (unread : ℕ). ClerkCall w (clerkHears busy place) out unread (clerkBytes (w .clerk .words) out read)) (ap (λ (s : ClerkSteppedBytes.SteppedBytes). s .next) e)
+      subst (λ (unread : ℕ). ClerkCall w (clerkHears busy place) out unread (clerkBytes (w .clerk .words) (w .count) out read)) (ap (λ (s : ClerkSteppedBytes.SteppedBytes). s .next) e)
       (clerk-entry (clerkHears busy place) (read .entry) (read .next) (read .fault)
       (ap (λ (s : ClerkSteppedBytes.SteppedBytes). clerkLeft (record { desk = s .desk; outcome = s .outcome })) e
       ∙ clerk-after rest (labelOf x) (ClerkEntry.messageEntry m busy place) (λ whom. [])
@@ -270,13 +269,13 @@ module _ (w : World) (out : List ℕ) where
   line-hearing :
       (x : Of Message) (rest : List (Of Message)) → w .up ≡ x ∷ rest → (place : ℕ) (behind : List ℕ) →
       let m = x .it in
-      Line.receivedBytes (w .line) (messageBytes m ++ behind) place ≡ Line.withNext (Line.received (w .line) m place) (length (messageBytes m)) Nothing →
-      LineCall w (lineHears place) out (length (messageBytes m)) (lineBytes (w .line .words) out (LineEntry.bytesEntry (messageBytes m ++ behind) place))
+      Line.receivedBytes (w .line) (w .count) (messageBytes m ++ behind) place ≡ Line.withNext (Line.received (w .line) (w .count) m place) (length (messageBytes m)) Nothing →
+      LineCall w (lineHears place) out (length (messageBytes m)) (lineBytes (w .line .words) (w .count) out (LineEntry.bytesEntry (messageBytes m ++ behind) place))
   unfolding Line.receivedBytes next lineHeard
   line-hearing x rest head place behind e =
       let m = x .it in
       let read = LineEntry.bytesEntry (messageBytes m ++ behind) place in
-      subst (λ (unread : ℕ). LineCall w (lineHears place) out unread (lineBytes (w .line .words) out read)) (ap (λ (s : LineSteppedBytes.SteppedBytes). s .next) e)
+      subst (λ (unread : ℕ). LineCall w (lineHears place) out unread (lineBytes (w .line .words) (w .count) out read)) (ap (λ (s : LineSteppedBytes.SteppedBytes). s .next) e)
       (line-entry (lineHears place) (read .entry) (read .next) (read .fault)
       (ap (λ (s : LineSteppedBytes.SteppedBytes). lineLeft (record { desk = s .desk; outcome = s .outcome })) e
       ∙ line-after rest (labelOf x) (LineEntry.messageEntry m place) (λ whom. [])
@@ -334,24 +333,24 @@ signal-entry signal identifier busy place behind =
 clerk-telling :
     (w : World) (out : List ℕ) (signal : Signal) (identifier : Identifier) (place : ℕ) (behind : List ℕ) (busy : Bool) →
     let m = signalMessage signal identifier in
-    ClerkCall w (clerkIsTold signal (toldName signal identifier place) busy) out (length (messageBytes m)) (clerkBytes (w .clerk .words) out (ClerkEntry.bytesEntry (messageBytes m ++ behind) busy place))
+    ClerkCall w (clerkIsTold signal (toldName signal identifier place) busy) out (length (messageBytes m)) (clerkBytes (w .clerk .words) (w .count) out (ClerkEntry.bytesEntry (messageBytes m ++ behind) busy place))
 unfolding Clerk.entered next
 clerk-telling w out signal identifier place behind busy =
     let m = signalMessage signal identifier in
     let name = toldName signal identifier place in
     let e = clerkIsTold signal name busy in
-    subst (λ (read : ClerkBytes.BytesEntry). ClerkCall w e out (length (messageBytes m)) (clerkBytes (w .clerk .words) out read)) (sym (signal-entry signal identifier busy place behind))
+    subst (λ (read : ClerkBytes.BytesEntry). ClerkCall w e out (length (messageBytes m)) (clerkBytes (w .clerk .words) (w .count) out read)) (sym (signal-entry signal identifier busy place behind))
     (clerk-entry w out e (ClerkEntered.Given (AtClerk.Message (signalLetter signal (nameOf m)) busy place)) (length (messageBytes m)) Nothing
     (clerk-after w out (w .down) (newLabel w (nameOf m)) (signalEntry signal name busy) (λ whom. [])))
 
 -- ---- bytes at the clerk's end, with a number for the host's word on User A: one that is no word is refused
 clerk-worded :
     (w : World) (e : Event) (out : List ℕ) (unread place : ℕ) (bytes : List ℕ) (busy : ℕ) →
-    ClerkCall w e out unread (clerkBytes (w .clerk .words) out (ClerkEntry.bytesEntry bytes (yes busy) place)) →
-    ClerkCall w e out unread (clerkReceived (w .clerk .words) out place bytes busy)
-unfolding clerkReceived clerkBytesGiven clerkEntered
+    ClerkCall w e out unread (clerkBytes (w .clerk .words) (w .count) out (ClerkEntry.bytesEntry bytes (yes busy) place)) →
+    ClerkCall w e out unread (clerkBytes (w .clerk .words) (w .count) out (clerkBytesGiven bytes busy place))
+unfolding clerkBytesGiven clerkEntered
 clerk-worded w e out unread place bytes busy call =
-    pick-elim (λ (read : ClerkBytes.BytesEntry). ClerkCall w e out unread (clerkBytes (w .clerk .words) out read)) (isWord busy) (λ t. call) (λ f. refused 2 Nothing)
+    pick-elim (λ (read : ClerkBytes.BytesEntry). ClerkCall w e out unread (clerkBytes (w .clerk .words) (w .count) out read)) (isWord busy) (λ t. call) (λ f. refused 2 Nothing)
 
 -- ---- bytes that the reader refuses
 clerk-unread :
@@ -362,7 +361,7 @@ clerk-unread words out place bytes fault busy e = by (isWord busy)
   where
     by :
         (worded : Bool) →
-        clerkBytes words out (pick worded (ClerkEntry.bytesEntry bytes (yes busy) place) (record { entry = ClerkEntered.Refused 2; next = 0; fault = Nothing }))
+        clerkBytes words noCount out (pick worded (ClerkEntry.bytesEntry bytes (yes busy) place) (record { entry = ClerkEntered.Refused 2; next = 0; fault = Nothing }))
         ≡ pick worded (refusedFace words out (fault .number) (At (fault .place))) (refusedFace words out 2 Nothing)
     by true = rw e
     by false = refl
@@ -399,9 +398,23 @@ ask-once w a given fresh names q is taken =
       λ o noted. fresh o (subst (λ (n : Names). Noted (takenUp (from o (n .identifier))) (w .history)) (sym name) noted),
     )
 
+-- ---- the world at the count of a call is reached too
+uncounted-reached : (w : World) → Reached Any w → Reached Any (uncounted w)
+unfolding next
+uncounted-reached w (reached lengths given keep retain b run) =
+    let allowed : Allowed w (counts noCount) =
+    record {
+      asked = λ names q is. let z : _≡_ {A = ℕ} 0 1 = cc in absurd (omega (arith, z));
+      toClerk = λ l busy place is. let z : _≡_ {A = ℕ} 0 1 = cc in absurd (omega (arith, z));
+      toLine = λ l place is. let z : _≡_ {A = ℕ} 0 1 = cc in absurd (omega (arith, z));
+    } in
+    reached lengths given keep retain b (then run (counts noCount) allowed tt)
+
 pub face-is-step : FaceIsStep
-unfolding clerkActed clerkReported lineReceived lineStatusReported lineLooked lineActed lineGuarded letterOf
-face-is-step w reach out =
+unfolding clerkAsked clerkReceived clerkActed clerkReported lineReceived lineStatusReported lineLooked lineActed lineGuarded letterOf
+face-is-step before reach out =
+    let w = uncounted before in
+    let heard = heard-as-bytes w (uncounted-reached before reach) in
     record {
       clerkAsk = asking w out;
       askAllowed = ask-allowed w;
@@ -416,9 +429,9 @@ face-is-step w reach out =
           let m = x .it in
           clerk-worded w (clerkHears (yes busy) place) out (length (messageBytes m)) place (messageBytes m ++ behind) busy
           (clerk-hearing w out x rest head place behind (yes busy)
-          (subst (λ (xs : List (Of Message)). ClerkHearsBytes w (yes busy) place behind (carried xs)) head (heard-as-bytes w reach (yes busy) place behind .0)));
+          (subst (λ (xs : List (Of Message)). ClerkHearsBytes w (yes busy) place behind (carried xs)) head (heard (yes busy) place behind .0)));
       lineReceive = λ x rest head place behind.
-          line-hearing w out x rest head place behind (subst (λ (xs : List (Of Message)). LineHearsBytes w place behind (carried xs)) head (heard-as-bytes w reach true place behind .1));
+          line-hearing w out x rest head place behind (subst (λ (xs : List (Of Message)). LineHearsBytes w place behind (carried xs)) head (heard true place behind .1));
       clerkTold = λ signal identifier place behind busy.
           let m = signalMessage signal identifier in
           clerk-worded w (clerkIsTold signal (toldName signal identifier place) (yes busy)) out (length (messageBytes m)) place (messageBytes m ++ behind) busy
@@ -430,7 +443,7 @@ face-is-step w reach out =
 -- ---- the start
 pub starts-as-run : StartsAsRun
 unfolding lineStartedWords lineStartedAnswer
-starts-as-run words given keep retain ok = by (both (isWord keep) (isWord retain)) ok
+starts-as-run lengths words given keep retain ok = by (both (isWord keep) (isWord retain)) ok
   where
     by :
         (b : Bool) → pick b (started given (yes keep) (yes retain) .outcome .refusal) 2 ≡ 0 →

@@ -20,6 +20,7 @@ use Rattle.told.specs.Told.{toldOf}
 use Rattle.clerk_table.specs.declared.inputs.Act as ClerkAct
 use Rattle.clerk_table.specs.declared.inputs.Input.the-variants as AtClerk
 use Rattle.clerk_table.specs.declared.table.Timer.{Timer}
+use Rattle.clerk.specs.declared.start.Lengths.{Lengths}
 use Rattle.clerk.specs.Steps as Clerk
 use Rattle.clerk.specs.Entry.{askNames, askRequest, askEntry}
 use Rattle.clerk.specs.declared.entry.Asking.{Asking}
@@ -30,11 +31,11 @@ use Rattle.line_table.specs.declared.inputs.Input.the-variants as AtLine
 use Rattle.line.specs.Steps as Line
 use Rattle.host_numbers.specs.Identifiers.{nameGiven}
 use Rattle.host_numbers.specs.Given.{askingOf, isWord, yes}
-use Rattle.tollherring.specs.Face.{Face, face, refusedFace, faced}
+use Rattle.tollherring.specs.Face.{Face, noCount, face, refusedFace, faced}
 use Rattle.tollherring.specs.Clerk.{clerkAsked, clerkReceived, clerkActed, clerkReported}
 use Rattle.tollherring.specs.Line.{lineStartedWords, lineStartedAnswer, lineReceived, lineStatusReported, lineLooked, lineActed, lineGuarded}
 use Rattle.pair_request.specs.Signal.{Signal}
-use Rattle.pair.specs.World.{Of, from, takenUp, World, Event, clerkDoes, lineDoes, clerkIsTold, clerkHears, lineHears, nameOf, sentBy, signalLetter, next, Allowed, startWorld, Reached, Any, Once}
+use Rattle.pair.specs.World.{Of, from, takenUp, World, Event, clerkDoes, lineDoes, clerkIsTold, clerkHears, lineHears, nameOf, sentBy, signalLetter, lossy, next, Allowed, startWorld, Reached, Any, Once}
 use Rattle.exported.specs.Calls.{carried, clerkEnd, lineEnd, Puts, IsStep}
 
 -- ---- what a step puts on a wire, the call writes as its bytes
@@ -56,12 +57,12 @@ SentAsBytes =
 abbrev pub ClerkHearsBytes : World → Bool → ℕ → List ℕ → List Message → Type 0
 ClerkHearsBytes w busy place rest [] = Unit
 ClerkHearsBytes w busy place rest (m ∷ ms) =
-    Clerk.receivedBytes (w .clerk) (messageBytes m ++ rest) busy place ≡ Clerk.withNext (Clerk.received (w .clerk) m busy place) (length (messageBytes m)) Nothing
+    Clerk.receivedBytes (w .clerk) (w .count) (messageBytes m ++ rest) busy place ≡ Clerk.withNext (Clerk.received (w .clerk) (w .count) m busy place) (length (messageBytes m)) Nothing
 
 abbrev pub LineHearsBytes : World → ℕ → List ℕ → List Message → Type 0
 LineHearsBytes w place rest [] = Unit
 LineHearsBytes w place rest (m ∷ ms) =
-    Line.receivedBytes (w .line) (messageBytes m ++ rest) place ≡ Line.withNext (Line.received (w .line) m place) (length (messageBytes m)) Nothing
+    Line.receivedBytes (w .line) (w .count) (messageBytes m ++ rest) place ≡ Line.withNext (Line.received (w .line) (w .count) m place) (length (messageBytes m)) Nothing
 
 abbrev pub HeardAsBytes : Type 0
 HeardAsBytes =
@@ -74,6 +75,10 @@ ClerkCall w e = IsStep (clerkEnd w) (clerkEnd (next w e))
 
 abbrev pub LineCall : World → Event → List ℕ → ℕ → Face → Type 0
 LineCall w e = IsStep (lineEnd w) (lineEnd (next w e))
+
+-- a call gives no count: it is a step of the world at that count
+abbrev pub uncounted : World → World
+uncounted w = lossy w (w .up) (w .down) [] noCount
 
 abbrev pub askEvent : Asking → Event
 askEvent a = clerkDoes (AtClerk.Ask (askNames a) (askRequest a))
@@ -129,10 +134,10 @@ pub record Calls (w : World) (out : List ℕ) : Type 0 where
       lineReceived (w .line .words) out place bytes ≡ refusedFace (w .line .words) out (fault .number) (At (fault .place))
 
 abbrev pub FaceIsStep : Type 0
-FaceIsStep = (w : World) → Reached Any w → (out : List ℕ) → Calls w out
+FaceIsStep = (w : World) → Reached Any w → (out : List ℕ) → Calls (uncounted w) out
 
 -- ---- a desk that a host starts is the one that a run starts from
 abbrev pub StartsAsRun : Type 0
 StartsAsRun =
-    (words given : List ℕ) (keep retain : ℕ) → lineStartedAnswer given keep retain ≡ 0 →
-    lineStartedWords words given keep retain ≡ startWorld given (yes keep) (yes retain) .line .words
+    (lengths : Lengths) (words given : List ℕ) (keep retain : ℕ) → lineStartedAnswer given keep retain ≡ 0 →
+    lineStartedWords words given keep retain ≡ startWorld lengths given (yes keep) (yes retain) .line .words

@@ -1,4 +1,4 @@
--- The walk of a thin function's code, where one value is passed, where two are and where three are: the locals are made, the address of the desk's words is taken, the words are lent for a lifetime
+-- The walk of a thin function's code, where two values are passed, where three are and where four are: the locals are made, the address of the desk's words is taken, the words are lent for a lifetime
 -- that is made for the call, and once it is over they are back in the desk.
 use mathlib.Core.Path.{refl}
 use Prim.Native.Nat.{ℕ}
@@ -22,30 +22,6 @@ use denote.Triple.Clauses.{ensured}
 use Rattle.lent.proofs.Lending.{Held, Out, lends-on, comes-home}
 use Rattle.lent.proofs.Passing.{Passed, slots}
 use Rattle.lent.proofs.Thin.{Shape, Walk, function, Core, below, belows, others, words, to-core, bound, goes-core, told, exits}
-
-pub one : {m : ℕ} {P : Passed m} (S : Shape m (P ∷ [])) → Walk S
-one {m} {P} S M 𝓤 H A W κ κs q qs b o γ h a C Λ fm known are =
-    qed W ((‵ (flft κ q) ⊛ others S 𝓤 H A W κ κs q qs b o γ h) ∷ ‵ (owns (MutRef (named 0) κ (S .lent .desk) ∷ typesAt (slots (P ∷ [])) (κ, κs)) (bound S 𝓤 H A W κ κs q qs b o γ h a .0 .3) (bound S 𝓤 H A W κ κs q qs b o γ h a .0 .4)) ∷ []) ∵
-    split ! $ move ! (2 ∷ []) $ fsplit ! $ move ! (0 ∷ 2 ∷ 3 ∷ []) $
-    -- [the desk's reference; its token; the other tokens; what is passed]
-    enter ! C Λ (function S) (vptr b o ∷ P .val κs (a .0) ∷ []) _ $ alloc1 ! (λ l₀. alloc1 ! (λ l₁. alloc1 ! (λ l₂. alloc1 ! (λ l₃. alloc0 ! $ params1 ! $
-    pass1 ! (init ! 4 refl (tt, tt)) $ pass1 ! (init ! 2 refl (P .typed 𝓤 H A W κs (a .0) _ (are .0))) $ pass0 ! $ move ! (8 ∷ 9 ∷ []) $
-    -- [the desk's reference; its token; room _3; …; _2; …; _1; …; room _0; …; the other tokens; what is passed]
-    assigns ! (addr ! (from ! (hop ! (look ! 6 refl) (fld ! (S .lent .field-at) (stop !))))) (from ! (stop !)) (init ! 2 refl (tt, tt)) $ lft-new ! tt (λ α. move ! (1 ∷ 2 ∷ []) $
-    use2 W (later (some (λ (δ : GName). words S 𝓤 H A W κ κs q qs b o γ h α δ ⊛ Out 𝓤 H A W (S .lent) κ (α ∷ []) q γ b o h δ))) (lends-on 𝓤 H A W (S .lent) κ (α ∷ []) q γ b o h) $ await ! tt $ pick ! (λ δ. split ! $
-    move ! (2 ∷ 11 ∷ 0 ∷ 12 ∷ []) $ group ! 4 $ use1 W (raw (Core S 𝓤 H A .pre (to-core S 𝓤 H A W κ κs q qs b o γ h α δ a))) (goes-core S 𝓤 H A W κ κs q qs b o γ h α δ a) $
-    calls-at ! fm (Core S 𝓤 H A) known (to-core S 𝓤 H A W κ κs q qs b o γ h α δ a) (and-then ! (load ! (from ! (stop !)) (look ! 2 refl)) (and-then ! (load ! (from ! (stop !)) (look ! 4 refl)) (no-more !))) (λ v.
-    use1 W (later (some (λ (r : S .result .row κs .Denot). ((‵ (flft (α ∷ []) fullShare) ⊛ others S 𝓤 H A W κ κs q qs b o γ h) ⊛ ‵ (S .result .row κs .own r (v ∷ [])))
-    ⊛ raw (ensured 𝓤 H A (below S) (belows S 𝓤) (α ∷ [], κs) (to-core S 𝓤 H A W κ κs q qs b o γ h α δ a .0 .3) tt r)))) (id⊢ 𝓤 _) $ await ! tt $ pick ! (λ r. split ! $ move ! (1 ∷ []) $
-    use1 W (some (λ (ws : S .lent .words .Denot). ‵ (fres δ (S .lent .words .coded .code ws)) ⊛ raw (fact 𝓤 (S .Said κs (S .lent .get h) a r ws)))) (told S 𝓤 H A W κ κs q qs b o γ h α δ a r) $
-    pick ! (λ ws. split ! $ move ! (1 ∷ []) $ heard ! (S .Said κs (S .lent .get h) a r ws) (λ e. move ! (1 ∷ []) $ split ! $ move ! (1 ∷ []) $
-    peeks ! (S .result .row κs) (Is (S .result .row κs)) (shows 𝓤 H A (S .result .row κs)) r (v ∷ []) (λ is.
-    -- [what the result owns; the tokens; the words' last value; what is kept of the desk; _3; …; _2; …; _1; …; room _0; …]
-    land ! (from ! (stop !)) (init ! 10 refl (S .result .typed 𝓤 H A W κs r v is)) $ move ! (1 ∷ []) $ split ! $ lft-end ! tt $ move ! (0 ∷ 4 ∷ 3 ∷ []) $
-    use3 W (later (Held 𝓤 H A W (S .lent) κ κ q γ b o (S .lent .make ws) ⊛ ‵ (flft κ q))) (comes-home 𝓤 H A W (S .lent) κ (α ∷ []) q γ b o h δ ws) $ await ! tt $ split ! $
-    -- [the desk's reference; its token; the other tokens; what the result owns; _3; …; _2; …; _1; …; _0; …]
-    returns ! (look ! 10 refl) $ forget ! 4 refl $ forget ! 6 refl $ forget ! 8 refl $ forget ! 10 refl $
-    move ! (10 ∷ 11 ∷ []) $ free1 ! $ move ! (8 ∷ 9 ∷ []) $ free1 ! $ move ! (6 ∷ 7 ∷ []) $ free1 ! $ move ! (4 ∷ 5 ∷ []) $ free1 ! $ free0 ! $ by ! (exits S 𝓤 H A W κ κs q qs b o γ h a r ws v e))))))))))))
 
 pub two : {m : ℕ} {P Q : Passed m} (S : Shape m (P ∷ Q ∷ [])) → Walk S
 two {m} {P} {Q} S M 𝓤 H A W κ κs q qs b o γ h a C Λ fm known are =
@@ -94,3 +70,27 @@ three {m} {P} {Q} {R} S M 𝓤 H A W κ κs q qs b o γ h a C Λ fm known are =
     -- [the desk's reference; its token; the other tokens; what the result owns; _5; …; _4; …; _3; …; _2; …; _1; …; _0; …]
     returns ! (look ! 14 refl) $ forget ! 4 refl $ forget ! 6 refl $ forget ! 8 refl $ forget ! 10 refl $ forget ! 12 refl $ forget ! 14 refl $
     move ! (14 ∷ 15 ∷ []) $ free1 ! $ move ! (12 ∷ 13 ∷ []) $ free1 ! $ move ! (10 ∷ 11 ∷ []) $ free1 ! $ move ! (8 ∷ 9 ∷ []) $ free1 ! $ move ! (6 ∷ 7 ∷ []) $ free1 ! $ move ! (4 ∷ 5 ∷ []) $ free1 ! $ free0 ! $ by ! (exits S 𝓤 H A W κ κs q qs b o γ h a r ws v e))))))))))))))
+
+pub four : {m : ℕ} {P Q R U : Passed m} (S : Shape m (P ∷ Q ∷ R ∷ U ∷ [])) → Walk S
+four {m} {P} {Q} {R} {U} S M 𝓤 H A W κ κs q qs b o γ h a C Λ fm known are =
+    qed W ((‵ (flft κ q) ⊛ others S 𝓤 H A W κ κs q qs b o γ h) ∷ ‵ (owns (MutRef (named 0) κ (S .lent .desk) ∷ typesAt (slots (P ∷ Q ∷ R ∷ U ∷ [])) (κ, κs)) (bound S 𝓤 H A W κ κs q qs b o γ h a .0 .3) (bound S 𝓤 H A W κ κs q qs b o γ h a .0 .4)) ∷ []) ∵
+    split ! $ move ! (2 ∷ []) $ fsplit ! $ move ! (0 ∷ 2 ∷ 3 ∷ []) $
+    -- [the desk's reference; its token; the other tokens; what is passed]
+    enter ! C Λ (function S) (vptr b o ∷ P .val κs (a .0) ∷ Q .val κs (a .1 .0) ∷ R .val κs (a .1 .1 .0) ∷ U .val κs (a .1 .1 .1 .0) ∷ []) _ $ alloc1 ! (λ l₀. alloc1 ! (λ l₁. alloc1 ! (λ l₂. alloc1 ! (λ l₃. alloc1 ! (λ l₄. alloc1 ! (λ l₅. alloc1 ! (λ l₆. alloc0 ! $ params1 ! $
+    pass1 ! (init ! 10 refl (tt, tt)) $ pass1 ! (init ! 8 refl (P .typed 𝓤 H A W κs (a .0) _ (are .0))) $ pass1 ! (init ! 6 refl (Q .typed 𝓤 H A W κs (a .1 .0) _ (are .1 .0))) $ pass1 ! (init ! 4 refl (R .typed 𝓤 H A W κs (a .1 .1 .0) _ (are .1 .1 .0))) $ pass1 ! (init ! 2 refl (U .typed 𝓤 H A W κs (a .1 .1 .1 .0) _ (are .1 .1 .1 .0))) $ pass0 ! $ move ! (14 ∷ 15 ∷ []) $
+    -- [the desk's reference; its token; room _6; …; _5; …; _4; …; _3; …; _2; …; _1; …; room _0; …; the other tokens; what is passed]
+    assigns ! (addr ! (from ! (hop ! (look ! 12 refl) (fld ! (S .lent .field-at) (stop !))))) (from ! (stop !)) (init ! 2 refl (tt, tt)) $ lft-new ! tt (λ α. move ! (1 ∷ 2 ∷ []) $
+    use2 W (later (some (λ (δ : GName). words S 𝓤 H A W κ κs q qs b o γ h α δ ⊛ Out 𝓤 H A W (S .lent) κ (α ∷ []) q γ b o h δ))) (lends-on 𝓤 H A W (S .lent) κ (α ∷ []) q γ b o h) $ await ! tt $ pick ! (λ δ. split ! $
+    move ! (2 ∷ 17 ∷ 0 ∷ 18 ∷ []) $ group ! 4 $ use1 W (raw (Core S 𝓤 H A .pre (to-core S 𝓤 H A W κ κs q qs b o γ h α δ a))) (goes-core S 𝓤 H A W κ κs q qs b o γ h α δ a) $
+    calls-at ! fm (Core S 𝓤 H A) known (to-core S 𝓤 H A W κ κs q qs b o γ h α δ a) (and-then ! (load ! (from ! (stop !)) (look ! 2 refl)) (and-then ! (load ! (from ! (stop !)) (look ! 10 refl)) (and-then ! (load ! (from ! (stop !)) (look ! 8 refl)) (and-then ! (load ! (from ! (stop !)) (look ! 6 refl)) (and-then ! (load ! (from ! (stop !)) (look ! 4 refl)) (no-more !)))))) (λ v.
+    use1 W (later (some (λ (r : S .result .row κs .Denot). ((‵ (flft (α ∷ []) fullShare) ⊛ others S 𝓤 H A W κ κs q qs b o γ h) ⊛ ‵ (S .result .row κs .own r (v ∷ [])))
+    ⊛ raw (ensured 𝓤 H A (below S) (belows S 𝓤) (α ∷ [], κs) (to-core S 𝓤 H A W κ κs q qs b o γ h α δ a .0 .3) tt r)))) (id⊢ 𝓤 _) $ await ! tt $ pick ! (λ r. split ! $ move ! (1 ∷ []) $
+    use1 W (some (λ (ws : S .lent .words .Denot). ‵ (fres δ (S .lent .words .coded .code ws)) ⊛ raw (fact 𝓤 (S .Said κs (S .lent .get h) a r ws)))) (told S 𝓤 H A W κ κs q qs b o γ h α δ a r) $
+    pick ! (λ ws. split ! $ move ! (1 ∷ []) $ heard ! (S .Said κs (S .lent .get h) a r ws) (λ e. move ! (1 ∷ []) $ split ! $ move ! (1 ∷ []) $
+    peeks ! (S .result .row κs) (Is (S .result .row κs)) (shows 𝓤 H A (S .result .row κs)) r (v ∷ []) (λ is.
+    -- [what the result owns; the tokens; the words' last value; what is kept of the desk; _6; …; _5; …; _4; …; _3; …; _2; …; _1; …; room _0; …]
+    land ! (from ! (stop !)) (init ! 16 refl (S .result .typed 𝓤 H A W κs r v is)) $ move ! (1 ∷ []) $ split ! $ lft-end ! tt $ move ! (0 ∷ 4 ∷ 3 ∷ []) $
+    use3 W (later (Held 𝓤 H A W (S .lent) κ κ q γ b o (S .lent .make ws) ⊛ ‵ (flft κ q))) (comes-home 𝓤 H A W (S .lent) κ (α ∷ []) q γ b o h δ ws) $ await ! tt $ split ! $
+    -- [the desk's reference; its token; the other tokens; what the result owns; _6; …; _5; …; _4; …; _3; …; _2; …; _1; …; _0; …]
+    returns ! (look ! 16 refl) $ forget ! 4 refl $ forget ! 6 refl $ forget ! 8 refl $ forget ! 10 refl $ forget ! 12 refl $ forget ! 14 refl $ forget ! 16 refl $
+    move ! (16 ∷ 17 ∷ []) $ free1 ! $ move ! (14 ∷ 15 ∷ []) $ free1 ! $ move ! (12 ∷ 13 ∷ []) $ free1 ! $ move ! (10 ∷ 11 ∷ []) $ free1 ! $ move ! (8 ∷ 9 ∷ []) $ free1 ! $ move ! (6 ∷ 7 ∷ []) $ free1 ! $ move ! (4 ∷ 5 ∷ []) $ free1 ! $ free0 ! $ by ! (exits S 𝓤 H A W κ κs q qs b o γ h a r ws v e)))))))))))))))

@@ -5,6 +5,7 @@ mod line_end;
 
 use clerk::entry::Asking;
 use clerk::entry::ask_entry;
+use clerk::start::Lengths;
 use desk::outcome::Outcome;
 use libc::STDOUT_FILENO;
 use message::Kind;
@@ -31,19 +32,29 @@ fn asking() -> Asking {
     }
 }
 
+// No time passes here: every step is at this count of seconds.
+const COUNT: u32 = 0;
+
 fn main() {
-    let asked = clerk_end::played(clerk::steps::start(), ask_entry(asking()));
+    let begun = clerk::start::start(Lengths {
+        t1: 20,
+        t2Ccbs: 900,
+        t2Ccnr: 3600,
+        t3: 20,
+    });
+    let emptyDesk = begun.desk;
+    let asked = clerk_end::played(emptyDesk, COUNT, ask_entry(asking()));
     let clerkDesk = asked.desk;
     let request = asked.outcome;
     let sent = request.sending;
     tell(request);
     let started = line::start::start(b"\x01\x02\0\0\0\0\0\0\0\0\0\0\0\0\0\0\x03", true, false);
     let lineDesk = started.desk;
-    let kept = line_end::played(lineDesk, line_end::entry_of(sent));
+    let kept = line_end::played(lineDesk, COUNT, line_end::entry_of(sent));
     let result = kept.outcome;
     let answer = result.sending;
     tell(result);
-    let acknowledged = clerk_end::played(clerkDesk, clerk_end::entry_of(answer));
+    let acknowledged = clerk_end::played(clerkDesk, COUNT, clerk_end::entry_of(answer));
     let last = acknowledged.outcome;
     tell(last);
 }

@@ -1,3 +1,4 @@
 pub mod Entry
 pub mod Steps
 pub mod Start
+pub mod Ticks

@@ -6,6 +6,7 @@ pub mod entry;
 pub mod on_words;
 pub mod start;
 pub mod steps;
+pub mod tick;
 
 // Records, lines and settings, as `line_records` keeps them. Every value of it is a desk: a place whose state word is no state has no record.
 pub struct Desk {

@@ -23,20 +23,20 @@ pub struct SteppedBytes {
 }
 
 // A step: a message 2, 3, 6, 7, 8, a request 2, 8; a line report 10; a Look 10, 11; an act 6, 7; the guard 6.
-pub fn step(d: Desk, entry: Entry) -> Stepped
-    ensures { λ r. ⌜ r ≡ entered d entry ⌝ }
+pub fn step(d: Desk, count: u32, entry: Entry) -> Stepped
+    ensures { λ r. ⌜ r ≡ entered d count entry ⌝ }
 {
     let mut e = d;
-    let outcome = on_words::step(&mut e.words, entry);
+    let outcome = on_words::step(&mut e.words, count, entry);
     Stepped { desk: e, outcome }
 }
 
 // Raw bytes received, with the place that the host names for the message: the reader's 1 and 2, which change nothing, with the place of the fault; else the message's step, and the first unread place.
-pub fn step_bytes(d: Desk, s: &[u8], place: usize) -> SteppedBytes
-    ensures { λ r. ⌜ r ≡ receivedBytes d (now (s .entry)) place ⌝ }
+pub fn step_bytes(d: Desk, count: u32, s: &[u8], place: usize) -> SteppedBytes
+    ensures { λ r. ⌜ r ≡ receivedBytes d count (now (s .entry)) place ⌝ }
 {
     let mut e = d;
-    let answer = on_words::step_bytes(&mut e.words, s, place);
+    let answer = on_words::step_bytes(&mut e.words, count, s, place);
     let outcome = answer.outcome;
     let fault = answer.fault;
     SteppedBytes {

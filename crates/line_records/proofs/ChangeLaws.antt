@@ -147,7 +147,7 @@ records-marked number words l =
     ∙ map-done (marking number) (records (marked number Layout.places words)) Layout.places (omega (arith, records-length (marked number Layout.places words))))
 
 -- ---- the status of a report, at any place
-status-length : (words : List ℕ) (k : ℕ) (busy : Bool) → length words ≡ Layout.words → length (statusStored words k busy) ≡ length words
+pub status-length : (words : List ℕ) (k : ℕ) (busy : Bool) → length words ≡ Layout.words → length (statusStored words k busy) ≡ length words
 unfolding statusStored putLine
 status-length words k busy l =
     let line = withStatus (getD (lines words) k noLine) busy in

@@ -3,3 +3,5 @@ pub mod LinesLaws
 pub mod ChangeLaws
 pub mod SearchLaws
 pub mod MeaningLaws
+pub mod DeadlinesLaws
+pub mod GuardsLaws

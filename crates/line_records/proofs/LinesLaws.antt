@@ -10,7 +10,7 @@ use native.Mathlib.Nat.{zero-add, suc-add}
 use native.Mathlib.Omega.{arith}
 use Rattle.lists.specs.Parts.{over}
 use Rattle.store.specs.Rows.{rows, putRow, turnRow, dropRow, blankRow}
-use Rattle.store.proofs.RowsLaws.{place-rest, over-behind, put-length, turn-length, drop-length}
+use Rattle.store.proofs.RowsLaws.{place-rest, over-behind, put-length, put-turn, turn-length, drop-length}
 use Rattle.store.proofs.Decoded.{decoded-length, decoded-at, decoded-past, decoded-put}
 use Rattle.terms.specs.Terms.{kindAt}
 use Rattle.terms.proofs.CodesLaws.{flag-back}
@@ -71,9 +71,12 @@ rows-front width (suc n) v w h =
     sym (drop-take width (n * width) v) ∙ ap (drop width) q ∙ drop-take width (n * width) w in
     rw (a, rows-front width n (drop width v) (drop width w) b)
 
+pub rows-same : (v w : List ℕ) → take Layout.linesAt v ≡ take Layout.linesAt w → rows Layout.width Layout.places v ≡ rows Layout.width Layout.places w
+rows-same v w h = rows-front Layout.width Layout.places v w h
+
 pub records-same : (v w : List ℕ) → take Layout.linesAt v ≡ take Layout.linesAt w → records v ≡ records w
 unfolding records
-records-same v w h = ap (map recordOf) (rows-front Layout.width Layout.places v w h)
+records-same v w h = ap (map recordOf) (rows-same v w h)
 
 pub lines-same : (v w : List ℕ) → drop Layout.linesAt v ≡ drop Layout.linesAt w → lines v ≡ lines w
 unfolding lines
@@ -96,7 +99,8 @@ settings-behind v w h = sym (drop-drop lineWordsAll Layout.linesAt v) ∙ ap (dr
 pub putRow-length :
     (words : List ℕ) (i : ℕ) (r : Record) → i < Layout.places → length words ≡ Layout.words →
     length (putRow Layout.width words i (recordWords r)) ≡ length words
-putRow-length words i r h l = put-length Layout.width Layout.places words i (recordWords r) refl h (omega arith)
+putRow-length words i r h l =
+    ap length (put-turn Layout.width words i (recordWords r)) ∙ turn-length Layout.width Layout.places words i 0 (recordWords r) (omega arith) h (omega arith)
 
 pub putRow-behind :
     (words : List ℕ) (i : ℕ) (r : Record) → i < Layout.places → length words ≡ Layout.words →
@@ -171,11 +175,12 @@ module _ (words : List ℕ) (k : ℕ) (line : Line) (h : k < Layout.linePlaces) 
       ∙ over-behind lineWordsAll (k * Layout.lineWidth) (lineWords line) behind (omega arith) (omega (arith, behind-length))
       ∙ drop-drop lineWordsAll Layout.linesAt words
 
-  pub records-overLine : records (overLine words k line) ≡ records words
+  pub overLine-front : take Layout.linesAt (overLine words k line) ≡ take Layout.linesAt words
   unfolding overLine
-  records-overLine =
-      records-same (overLine words k line) words
-      (take-at (take Layout.linesAt words) (putRow Layout.lineWidth behind k (lineWords line)) Layout.linesAt front-length)
+  overLine-front = take-at (take Layout.linesAt words) (putRow Layout.lineWidth behind k (lineWords line)) Layout.linesAt front-length
+
+  pub records-overLine : records (overLine words k line) ≡ records words
+  records-overLine = records-same (overLine words k line) words overLine-front
 
   pub lines-put : lines (overLine words k line) ≡ set (lines words) k line
   unfolding lines

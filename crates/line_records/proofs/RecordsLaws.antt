@@ -18,7 +18,7 @@ use Rattle.store.specs.declared.For.{For}
 use Rattle.store.specs.Rows as Rows
 use Rattle.store.specs.Rows.{stateWord, live, free, hasIdentifier, fitsRow, putRow, turnRow, dropRow, blankRow, rowsFit, found, foundFitting, liveAt}
 use Rattle.store.proofs.RowsLaws.{fit-from}
-use Rattle.store.proofs.Decoded.{identified-live, fits-live, free-live, decoded-length, decoded-at, decoded-past, decoded-found, decoded-oldest, decoded-live, decoded-put, decoded-turn, decoded-drop}
+use Rattle.store.proofs.Decoded.{identified-live, fits-live, free-live, decoded-length, decoded-at, decoded-past, decoded-found, decoded-oldest, decoded-live, decoded-over, decoded-turn, decoded-drop}
 use Rattle.message.specs.declared.Body.{Body}
 use Rattle.desk.specs.declared.letter.Letter.{Letter}
 use Rattle.terms.specs.Request.{letterNames}
@@ -47,21 +47,26 @@ state-back Invoked = refl
 state-back Await = refl
 state-back Alert = refl
 
-pub record-back : (r : Record) → recordOf (recordWords r) ≡ r
+-- with a record's words over its front a row reads as the record, whatever stands behind them
+pub record-back : (r : Record) (row : List ℕ) → recordOf (over (recordWords r) row) ≡ r
 unfolding recordOf
-record-back r = rw (terms-back (r .terms), state-back (r .state), flag-back (r .active), flag-back (r .suspended), flag-back (r .down))
+record-back r row = rw (terms-back (r .terms) _, state-back (r .state), flag-back (r .active), flag-back (r .suspended), flag-back (r .down))
 
-pub record-front : (row : List ℕ) → recordOf (take Layout.width row) ≡ recordOf row
+-- a record reads no word from the guard's deadline on
+pub record-before : (n : ℕ) (row : List ℕ) → Layout.guardAt ≤ n → recordOf (take n row) ≡ recordOf row
 unfolding recordOf
-record-front row =
-    let same : (k : ℕ) → k < Layout.width → getD (take Layout.width row) k 0 ≡ getD row k 0 = λ k h. getD-take Layout.width row k 0 h in
+record-before n row long =
+    let same : (k : ℕ) → k < n → getD (take n row) k 0 ≡ getD row k 0 = λ k h. getD-take n row k 0 h in
     rw (
-      terms-front Layout.width row (omega arith),
+      terms-front n row (omega arith),
       same Terms.width (omega arith),
       same Layout.activeAt (omega arith),
       same Layout.suspendedAt (omega arith),
       same Layout.downAt (omega arith),
     )
+
+pub record-front : (row : List ℕ) → recordOf (take Layout.width row) ≡ recordOf row
+record-front row = record-before Layout.width row (omega arith)
 
 record-turned :
     (t : Turned) (row : List ℕ) → Layout.width ≤ length row → recordOf (take kindAt row ++ over (turnedWords t) (drop kindAt row)) ≡ turned t (recordOf row)
@@ -172,7 +177,7 @@ pub records-put :
     (words : List ℕ) (i : ℕ) (r : Record) → i < Layout.places → Layout.linesAt ≤ length words →
     records (putRow Layout.width words i (recordWords r)) ≡ set (records words) i r
 unfolding records
-records-put words i r h l = decoded-put Layout.width Layout.places recordOf words (recordWords r) i r (record-back r) refl h l
+records-put words i r h l = decoded-over Layout.width Layout.places recordOf (recordWords r) r (λ row long. record-back r row) record-front words i (omega arith) h l
 
 pub records-turn :
     (words : List ℕ) (i : ℕ) (t : Turned) → i < Layout.places → Layout.linesAt ≤ length words →

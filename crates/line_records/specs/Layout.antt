@@ -2,7 +2,7 @@
 use Prim.Native.Nat.{ℕ, _+_, _*_}
 use Rattle.terms.specs.Terms as Terms
 
--- ---- a record: its terms, its state, the activity mark, the suspended mark, the mark "connection down"
+-- ---- a record: its terms, its state, the activity mark, the suspended mark, the mark "connection down", and last the guard's deadline
 abbrev pub activeAt : ℕ
 activeAt = Terms.width + 1
 
@@ -12,8 +12,11 @@ suspendedAt = Terms.width + 2
 abbrev pub downAt : ℕ
 downAt = Terms.width + 3
 
+abbrev pub guardAt : ℕ
+guardAt = Terms.width + 4
+
 abbrev pub width : ℕ
-width = Terms.width + 4
+width = Terms.width + 5
 
 abbrev pub places : ℕ
 places = 32

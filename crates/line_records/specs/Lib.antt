@@ -4,3 +4,4 @@ pub mod Records
 pub mod Lines
 pub mod Meaning
 pub mod Change
+pub mod Deadlines

@@ -2,12 +2,13 @@
 // above it speaks of the lists of records and lines. An inner room of the line desk: its functions are no public operations.
 pub mod change;
 pub mod codes;
+pub mod deadlines;
 pub mod lines;
 pub mod meaning;
 pub mod places;
 pub mod search;
 
-// A record: its terms, its state, the activity mark, the suspended mark, the mark "connection down".
+// A record: its terms, its state, the activity mark, the suspended mark, the mark "connection down", and last the guard's deadline.
 const STATE_AT: usize = terms::WIDTH;
 
 const ACTIVE_AT: usize = terms::WIDTH + 1;
@@ -16,7 +17,9 @@ const SUSPENDED_AT: usize = terms::WIDTH + 2;
 
 const DOWN_AT: usize = terms::WIDTH + 3;
 
-pub const WIDTH: usize = terms::WIDTH + 4;
+const GUARD_AT: usize = terms::WIDTH + 4;
+
+pub const WIDTH: usize = terms::WIDTH + 5;
 
 pub const PLACES: usize = 32;
 

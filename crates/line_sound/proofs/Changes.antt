@@ -19,6 +19,7 @@ use Rattle.places.proofs.Staying.{place-inside, place-unused, at-map, change-pl
 use Rattle.places.proofs.Moving.{moved-placed, moved-each, moved-order, moved-others}
 use Rattle.places.proofs.Ordering.{names-change}
 use Rattle.places.proofs.Counting.{stored-filled, stored-same, stored-without, stored-change}
+use Rattle.desk.specs.declared.outcome.Timers.{Timers}
 use Rattle.terms.specs.declared.Terms.{Terms}
 use Rattle.line_table.specs.Line.{withStatus}
 use Rattle.line_table.specs.Search.{used, ofLine, marks}
@@ -34,7 +35,8 @@ use Rattle.line_records.specs.Records.{recordOf, blank, records}
 use Rattle.line_records.specs.Lines.{noLine, lines, hasNumber, lineAt}
 use Rattle.line_records.specs.Change.{applied, marking, recordsAfter, linesAfter}
 use Rattle.line_plan.specs.Decide.{lineMost}
-use Rattle.line_records.proofs.ChangeLaws.{applied-length, records-applied, lines-applied}
+use Rattle.line_records.specs.Deadlines.{timed}
+use Rattle.line.proofs.StepsLaws.{made-length, records-made, lines-made}
 use Rattle.line_sound.specs.Sound.{lineView, Whole, Sound, NoReport}
 use Rattle.line_sound.proofs.Starting.{ofLineView, blank-of-line, Apart}
 
@@ -198,7 +200,7 @@ report-parts rs ls k number busy parts =
     status-parts (pick busy (map (marking number) rs) rs) ls k busy
     (pick-elim (λ (x : List Record). Parts x ls) busy (λ t. marked-parts number rs ls parts) (λ f. parts))
 
--- ---- what a change makes of a desk, with the place that the outcome tells
+-- ---- what a change makes of a desk, with the place that the outcome tells; the deadlines of what it starts change no record and no line
 pub data Goes (ws : List ℕ) : Input → Found → Change → Type 0 where
   -- about the record of one place, or about none
   moved :
@@ -206,24 +208,31 @@ pub data Goes (ws : List ℕ) : Input → Found → Change → Type 0 where
       Goes ws input about c
   reported : (k : ℕ) (number : Words) (busy : Bool) → Goes ws (Input.Report number busy) Nothing (Report k number busy)
 
-module _ (ws : List ℕ) (sound : Sound ws) where
-  pub goes-sound : {input : Input} {about : Found} {c : Change} → Goes ws input about c → Sound (applied ws c)
-  goes-sound {c = c} (moved same moves) =
-      sound-of (applied ws c) (applied-length ws c (sound .full)) (records-applied ws c (sound .full)) (lines-applied ws c (sound .full) ∙ same)
-      (moved-parts (parts-of ws sound) moves)
+module _ (ws : List ℕ) (sound : Sound ws) (count : ℕ) (starts : Timers) where
+  abbrev after : Found → Change → List ℕ
+  after about c = timed count about starts (applied ws c)
+
+  after-records : (about : Found) (c : Change) → records (after about c) ≡ recordsAfter (records ws) c
+  after-records about c = records-made ws c (sound .full) count about starts
+
+  after-sound : (about : Found) (c : Change) → Parts (recordsAfter (records ws) c) (linesAfter (lines ws) c) → Sound (after about c)
+  after-sound about c =
+      sound-of (after about c) (made-length ws c (sound .full) count about starts) (after-records about c) (lines-made ws c (sound .full) count about starts)
+
+  pub goes-sound : {input : Input} {about : Found} {c : Change} → Goes ws input about c → Sound (after about c)
+  goes-sound {about = about} {c = c} (moved same moves) =
+      after-sound about c (subst (Parts (recordsAfter (records ws) c)) (sym same) (moved-parts (parts-of ws sound) moves))
   goes-sound (reported k number busy) =
-      sound-of (applied ws (Report k number busy)) (applied-length ws (Report k number busy) (sound .full))
-      (records-applied ws (Report k number busy) (sound .full)) (lines-applied ws (Report k number busy) (sound .full))
-      (report-parts (records ws) (lines ws) k number busy (parts-of ws sound))
+      after-sound Nothing (Report k number busy) (report-parts (records ws) (lines ws) k number busy (parts-of ws sound))
 
   -- ---- the order of acceptance
   abbrev Ordered : List Record → Type 0
-  Ordered after = Queued (names lineView (records ws)) (names lineView after)
+  Ordered rs = Queued (names lineView (records ws)) (names lineView rs)
 
-  pub goes-order : {input : Input} {about : Found} {c : Change} → Goes ws input about c → Ordered (records (applied ws c))
-  goes-order {c = c} (moved same moves) = subst Ordered (sym (records-applied ws c (sound .full))) (moved-order lineView (sound .placed) moves)
+  pub goes-order : {input : Input} {about : Found} {c : Change} → Goes ws input about c → Ordered (records (after about c))
+  goes-order {about = about} {c = c} (moved same moves) = subst Ordered (sym (after-records about c)) (moved-order lineView (sound .placed) moves)
   goes-order (reported k number busy) =
-      subst Ordered (sym (records-applied ws (Report k number busy) (sound .full)))
+      subst Ordered (sym (after-records Nothing (Report k number busy)))
       (pick-elim Ordered busy
       (λ t.
       subst (Queued (names lineView (records ws)))
@@ -232,7 +241,7 @@ module _ (ws : List ℕ) (sound : Sound ws) where
 
   -- ---- every other record
   pub goes-others :
-      {input : Input} {about : Found} {c : Change} → Goes ws input about c → NoReport input → OthersStay lineView about (records ws) (records (applied ws c))
+      {input : Input} {about : Found} {c : Change} → Goes ws input about c → NoReport input → OthersStay lineView about (records ws) (records (after about c))
   goes-others {about = about} {c = c} (moved same moves) silent =
-      subst (OthersStay lineView about (records ws)) (sym (records-applied ws c (sound .full))) (moved-others lineView moves)
+      subst (OthersStay lineView about (records ws)) (sym (after-records about c)) (moved-others lineView moves)
   goes-others (reported k number busy) silent = absurd silent

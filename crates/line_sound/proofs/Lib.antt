@@ -7,3 +7,5 @@ pub mod Reaching
 pub mod Admitting
 pub mod Looking
 pub mod Reporting
+pub mod Ticking
+pub mod Time

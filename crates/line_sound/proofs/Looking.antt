@@ -15,6 +15,7 @@ use Rattle.lists.proofs.Choice.{no-true, pick-elim}
 use Rattle.lists.proofs.Lists.{first-holds, first-earlier, first-none}
 use Rattle.lists.proofs.WordsLaws.{words-same}
 use Rattle.message.specs.declared.Kind.the-variants.{Ccbs}
+use Rattle.desk.specs.Outcome.{noTimers}
 use Rattle.line_table.specs.Line.{canTake}
 use Rattle.line_table.specs.Step.{rowTaken}
 use Rattle.line_table.specs.Search.{blocks, fits, passes}
@@ -29,7 +30,7 @@ use Rattle.line_records.specs.Layout as Layout
 use Rattle.line_records.specs.Codes.{stateOf}
 use Rattle.line_records.specs.Records.{recordOf, blank, records}
 use Rattle.line_records.specs.Lines.{noLine, lines, lineAt}
-use Rattle.line_records.proofs.ChangeLaws.{records-applied, lines-applied}
+use Rattle.line.proofs.StepsLaws.{records-made, lines-made}
 use Rattle.line_plan.specs.Decide.{offerFound, offerAt, offerDecision, lookFound, lookDecision, decided}
 use Rattle.line_plan.specs.Plan.{planOf, planFor}
 use Rattle.line.specs.Steps.{made, step}
@@ -59,11 +60,11 @@ none-found p rs none = by (first p rs) refl
     by (At i) e = absurd (no-true (sym (none i) ∙ first-holds p rs i blank e))
 
 -- ---- a Look that is not refused
-module _ (d : Desk) (number : Words) (full : length (d .words) ≡ Layout.words) where
+module _ (d : Desk) (count : ℕ) (number : Words) (full : length (d .words) ≡ Layout.words) where
   abbrev Tells : Decision → Type 0
   Tells decision =
       planOf (d .words) (Input.Look number) decision .outcome .refusal ≡ 0 →
-      Offered d number (made d (planOf (d .words) (Input.Look number) decision) .desk) (planOf (d .words) (Input.Look number) decision .outcome .at)
+      Offered d number (made d count (planOf (d .words) (Input.Look number) decision) .desk) (planOf (d .words) (Input.Look number) decision .outcome .at)
 
   module _ (k : ℕ) (its : lineAt number (lines (d .words)) ≡ At k) (free : canTake (getD (lines (d .words)) k noLine) ≡ true) where
     tells-fitting :
@@ -82,8 +83,8 @@ module _ (d : Desk) (number : Words) (full : length (d .words) ≡ Layout.words)
           unblocked = none-passes (blocks number) (records (d .words)) (blank-passes-not number .0) unblocked;
           fitting = first-holds (fits number) (records (d .words)) i blank e;
           oldest = λ j h. first-earlier (fits number) (records (d .words)) i blank e j (omega (arith, h));
-          stored = records-applied (d .words) (Turn t i) full;
-          others = lines-applied (d .words) (Turn t i) full;
+          stored = records-made (d .words) (Turn t i) full count (At i) noTimers;
+          others = lines-made (d .words) (Turn t i) full count (At i) noTimers;
         }
 
     tells-blocking :
@@ -100,7 +101,7 @@ module _ (d : Desk) (number : Words) (full : length (d .words) ≡ Layout.words)
       (λ t. tells-blocking k e t (first (passes (Blocking number)) (records (d .words))) refl)
       (λ f zero. absurd (omega (arith, zero)))
 
-  look-offers : step d (Input.Look number) .outcome .refusal ≡ 0 → Offered d number (step d (Input.Look number) .desk) (step d (Input.Look number) .outcome .at)
+  look-offers : step d count (Input.Look number) .outcome .refusal ≡ 0 → Offered d number (step d count (Input.Look number) .desk) (step d count (Input.Look number) .outcome .at)
   unfolding step planFor decided lookDecision
   look-offers = tells-found (lineAt number (lines (d .words))) refl
 
@@ -114,11 +115,11 @@ offer-done ws number i fit Nothing e =
     absurd (no-true (sym (none-passes (fits number) (records ws) (blank-passes-not number .1) e i) ∙ fit))
 
 look-done :
-    (d : Desk) (number : Words) (k : ℕ) → lineAt number (lines (d .words)) ≡ At k → canTake (getD (lines (d .words)) k noLine) ≡ true →
+    (d : Desk) (count : ℕ) (number : Words) (k : ℕ) → lineAt number (lines (d .words)) ≡ At k → canTake (getD (lines (d .words)) k noLine) ≡ true →
     ((j : ℕ) → blocks number (recordAt d j) ≡ false) → (i : ℕ) → fits number (recordAt d i) ≡ true →
-    step d (Input.Look number) .outcome .refusal ≡ 0
+    step d count (Input.Look number) .outcome .refusal ≡ 0
 unfolding step planFor decided lookDecision offerAt
-look-done d number k its free unblocked i fit =
+look-done d count number k its free unblocked i fit =
     rw (its, free, none-found (passes (Blocking number)) (records (d .words)) unblocked)
     (offer-done (d .words) number i fit (first (passes (Fitting number)) (records (d .words))) refl)
 

@@ -44,7 +44,7 @@ good-entry ws m place typed true ranged {input} e =
     subst (λ (x : Input). Good ws x (decided ws x)) same (good-message ws (letterOf m) place (request-whole ws m typed ranged))
 good-entry ws m place typed false ranged e = absurd (let z : _≡_ {A = ℕ} 0 1 = cc in omega arith)
 
-good-input : (ws : List ℕ) {input : Input} → Fair input → Good ws input (decided ws input)
+pub good-input : (ws : List ℕ) {input : Input} → Fair input → Good ws input (decided ws input)
 unfolding decided messageEntry
 good-input ws (hears m place typed e) = good-entry ws m place typed (inRange m) refl e
 good-input ws (acts name act) = good-own ws (Input.Act name act) name (rowOfAct act)
@@ -58,9 +58,9 @@ step-goes :
 unfolding planFor
 step-goes d sound fair = goes-plan (d .words) sound (good-input (d .words) fair)
 
-sound-step : (d : Desk) → Sound (d .words) → {input : Input} → Fair input → Sound (step d input .desk .words)
+sound-step : (d : Desk) → Sound (d .words) → (count : ℕ) {input : Input} → Fair input → Sound (step d count input .desk .words)
 unfolding step
-sound-step d sound fair = goes-sound (d .words) sound (step-goes d sound fair)
+sound-step d sound count {input} fair = goes-sound (d .words) sound count (planFor (d .words) input .outcome .starts) (step-goes d sound fair)
 
 -- ---- what comes in at the entry: a fair input, or a refusal that leaves the desk
 abbrev pub FairEntry : Entry → Type 0
@@ -74,17 +74,17 @@ pub bytes-fair : (bytes : List ℕ) (place : ℕ) → Bytes bytes → FairEntry 
 unfolding bytesEntry
 bytes-fair bytes place b = read-fair (messageAt bytes) place (read-typed bytes b)
 
-sound-entered : (d : Desk) → Sound (d .words) → (entry : Entry) → FairEntry entry → Sound (entered d entry .desk .words)
+sound-entered : (d : Desk) → Sound (d .words) → (count : ℕ) (entry : Entry) → FairEntry entry → Sound (entered d count entry .desk .words)
 unfolding entered
-sound-entered d sound (Refused number) fair = sound
-sound-entered d sound (Given input) fair = sound-step d sound (fair input refl)
+sound-entered d sound count (Refused number) fair = sound
+sound-entered d sound count (Given input) fair = sound-step d sound count (fair input refl)
 
 -- ---- every reached desk
 sound-reached : {d : Desk} → Reached d → Sound (d .words)
 unfolding receivedBytes
 sound-reached (S.starts given keep retain b) = start-sound given keep retain
-sound-reached (S.steps {d} fair r) = sound-step d (sound-reached r) fair
-sound-reached (S.reads {d} bytes place b r) = sound-entered d (sound-reached r) (bytesEntry bytes place .entry) (bytes-fair bytes place b)
+sound-reached (S.steps {d} count fair r) = sound-step d (sound-reached r) count fair
+sound-reached (S.reads {d} count bytes place b r) = sound-entered d (sound-reached r) count (bytesEntry bytes place .entry) (bytes-fair bytes place b)
 
 pub reached-sound : ReachedSound
 reached-sound d r = sound-reached r
@@ -98,31 +98,33 @@ pub reached-goes :
 reached-goes d reached fair = step-goes d (reached-sound d reached) fair
 
 -- a desk that is reached, after what comes in at the entry
-pub reached-entered : (d : Desk) → Reached d → (entry : Entry) → FairEntry entry → Reached (entered d entry .desk)
+pub reached-entered : (d : Desk) → Reached d → (count : ℕ) (entry : Entry) → FairEntry entry → Reached (entered d count entry .desk)
 unfolding entered
-reached-entered d reached (Refused number) fair = reached
-reached-entered d reached (Given input) fair = S.steps (fair input refl) reached
+reached-entered d reached count (Refused number) fair = reached
+reached-entered d reached count (Given input) fair = S.steps count (fair input refl) reached
 
-pub reached-received : (d : Desk) → Reached d → (m : Message) (place : ℕ) → Typed m → Reached (received d m place .desk)
-reached-received d reached m place typed = reached-entered d reached (messageEntry m place) (λ input e. hears m place typed e)
+pub reached-received : (d : Desk) → Reached d → (count : ℕ) (m : Message) (place : ℕ) → Typed m → Reached (received d count m place .desk)
+reached-received d reached count m place typed = reached-entered d reached count (messageEntry m place) (λ input e. hears m place typed e)
 
 -- ---- the order of acceptance, and every other record
-step-order : (d : Desk) → Reached d → {input : Input} → Fair input → InOrder d (step d input .desk)
+step-order : (d : Desk) → Reached d → (count : ℕ) {input : Input} → Fair input → InOrder d (step d count input .desk)
 unfolding step
-step-order d reached fair = goes-order (d .words) (reached-sound d reached) (reached-goes d reached fair)
+step-order d reached count {input} fair =
+    goes-order (d .words) (reached-sound d reached) count (planFor (d .words) input .outcome .starts) (reached-goes d reached fair)
 
-entered-order : (d : Desk) → Reached d → (entry : Entry) → FairEntry entry → InOrder d (entered d entry .desk)
+entered-order : (d : Desk) → Reached d → (count : ℕ) (entry : Entry) → FairEntry entry → InOrder d (entered d count entry .desk)
 unfolding entered
-entered-order d reached (Refused number) fair = same
-entered-order d reached (Given input) fair = step-order d reached (fair input refl)
+entered-order d reached count (Refused number) fair = same
+entered-order d reached count (Given input) fair = step-order d reached count (fair input refl)
 
-bytes-order : (d : Desk) → Reached d → (bytes : List ℕ) (place : ℕ) → Bytes bytes → InOrder d (receivedBytes d bytes place .desk)
+bytes-order : (d : Desk) → Reached d → (count : ℕ) (bytes : List ℕ) (place : ℕ) → Bytes bytes → InOrder d (receivedBytes d count bytes place .desk)
 unfolding receivedBytes
-bytes-order d reached bytes place b = entered-order d reached (bytesEntry bytes place .entry) (bytes-fair bytes place b)
+bytes-order d reached count bytes place b = entered-order d reached count (bytesEntry bytes place .entry) (bytes-fair bytes place b)
 
 pub order-of-acceptance : OrderOfAcceptance
-order-of-acceptance = record { steps = λ d reached input fair. step-order d reached fair; bytes = bytes-order }
+order-of-acceptance = record { steps = λ d reached count input fair. step-order d reached count fair; bytes = bytes-order }
 
 pub others-held : OthersHeld
 unfolding step
-others-held d reached input fair silent = goes-others (d .words) (reached-sound d reached) (reached-goes d reached fair) silent
+others-held d reached count input fair silent =
+    goes-others (d .words) (reached-sound d reached) count (planFor (d .words) input .outcome .starts) (reached-goes d reached fair) silent

@@ -10,6 +10,7 @@ use Rattle.lists.specs.Lists.{both}
 use Rattle.lists.specs.declared.Found.{Found}
 use Rattle.lists.specs.declared.Found.the-variants.{At, Nothing}
 use Rattle.lists.specs.declared.words.Words.{Words}
+use Rattle.desk.specs.Outcome.{noTimers}
 use Rattle.line_table.specs.Line.{withStatus}
 use Rattle.line_table.specs.Search.{marks}
 use Rattle.line_table.specs.Record.{activated}
@@ -20,7 +21,7 @@ use Rattle.line_records.specs.Layout as Layout
 use Rattle.line_records.specs.Records.{records}
 use Rattle.line_records.specs.Lines.{noLine, lines, lineAt}
 use Rattle.line_records.specs.Change.{marking}
-use Rattle.line_records.proofs.ChangeLaws.{records-applied, lines-applied}
+use Rattle.line.proofs.StepsLaws.{records-made, lines-made}
 use Rattle.line_plan.specs.Decide.{reportFound, reportDecision, decided}
 use Rattle.line_plan.specs.Plan.{planOf, planFor}
 use Rattle.line.specs.Steps.{made, step}
@@ -39,25 +40,25 @@ marked-busy : (number : Words) (busy : Bool) (rs : List Record) → pick busy (m
 marked-busy number true rs = refl
 marked-busy number false rs = map-same rs
 
-module _ (d : Desk) (number : Words) (busy : Bool) (full : length (d .words) ≡ Layout.words) where
+module _ (d : Desk) (count : ℕ) (number : Words) (busy : Bool) (full : length (d .words) ≡ Layout.words) where
   marks-found :
       (f : Found) → planOf (d .words) (Input.Report number busy) (reportFound busy f) .outcome .refusal ≡ 0 →
-      records (made d (planOf (d .words) (Input.Report number busy) (reportFound busy f)) .desk .words) ≡ marked number busy (records (d .words))
+      records (made d count (planOf (d .words) (Input.Report number busy) (reportFound busy f)) .desk .words) ≡ marked number busy (records (d .words))
   unfolding planOf
   marks-found Nothing zero = absurd (omega (arith, zero))
-  marks-found (At k) zero = records-applied (d .words) (Report k number busy) full ∙ marked-busy number busy (records (d .words))
+  marks-found (At k) zero = records-made (d .words) (Report k number busy) full count Nothing noTimers ∙ marked-busy number busy (records (d .words))
 
   report-marks :
-      step d (Input.Report number busy) .outcome .refusal ≡ 0 →
-      records (step d (Input.Report number busy) .desk .words) ≡ marked number busy (records (d .words))
+      step d count (Input.Report number busy) .outcome .refusal ≡ 0 →
+      records (step d count (Input.Report number busy) .desk .words) ≡ marked number busy (records (d .words))
   unfolding step planFor decided reportDecision
   report-marks = marks-found (lineAt number (lines (d .words)))
 
 report-status :
-    (d : Desk) (number : Words) (busy : Bool) (k : ℕ) → length (d .words) ≡ Layout.words → lineAt number (lines (d .words)) ≡ At k →
-    lines (step d (Input.Report number busy) .desk .words) ≡ set (lines (d .words)) k (withStatus (getD (lines (d .words)) k noLine) busy)
+    (d : Desk) (count : ℕ) (number : Words) (busy : Bool) (k : ℕ) → length (d .words) ≡ Layout.words → lineAt number (lines (d .words)) ≡ At k →
+    lines (step d count (Input.Report number busy) .desk .words) ≡ set (lines (d .words)) k (withStatus (getD (lines (d .words)) k noLine) busy)
 unfolding step planFor planOf decided reportDecision
-report-status d number busy k full its = rw its (lines-applied (d .words) (Report k number busy) full)
+report-status d count number busy k full its = rw its (lines-made (d .words) (Report k number busy) full count Nothing noTimers)
 
 pub reports : Reports
 reports = record { marks = report-marks; status = report-status }

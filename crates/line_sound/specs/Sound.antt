@@ -61,8 +61,10 @@ abbrev pub Same : Desk → Desk → Outcome → Type 0
 Same before after outcome = (outcome .refusal ≡ 0 → ⊥) → (after ≡ before) × (outcome ≡ refusedWith (outcome .refusal) (outcome .sending))
 
 pub record RefusedSame : Type 0 where
-  pub steps : (d : Desk) (entry : Entry) → Same d (entered d entry .desk) (entered d entry .outcome)
-  pub bytes : (d : Desk) (bytes : List ℕ) (place : ℕ) → Same d (receivedBytes d bytes place .desk) (receivedBytes d bytes place .outcome)
+  pub steps : (d : Desk) (count : ℕ) (entry : Entry) → Same d (entered d count entry .desk) (entered d count entry .outcome)
+  pub bytes :
+      (d : Desk) (count : ℕ) (bytes : List ℕ) (place : ℕ) →
+      Same d (receivedBytes d count bytes place .desk) (receivedBytes d count bytes place .outcome)
   -- no desk is made: the answer has one without lines
   pub starts :
       (given : List ℕ) (keep retain : Bool) → (started given keep retain .outcome .refusal ≡ 0 → ⊥) →
@@ -96,7 +98,7 @@ pub record Sound (words : List ℕ) : Type 0 where
   pub apart :
       (k m : ℕ) → (getD (lines words) k noLine .number ≡ noNumber → ⊥) → getD (lines words) k noLine .number ≡ getD (lines words) m noLine .number → k ≡ m
 
--- ---- a desk reached from a start, by any inputs
+-- ---- a desk reached from a start, by any inputs, each at any count of seconds
 -- what the code's type says of a message's numbers: sixteen bytes each
 pub record Typed (m : Message) : Type 0 where
   pub lengthA : length (m .numberA) ≡ 16
@@ -114,8 +116,8 @@ pub data Fair : Input → Type 0 where
 
 pub data Reached : Desk → Type 0 where
   starts : (given : List ℕ) (keep retain : Bool) → Bytes given → Reached (started given keep retain .desk)
-  steps : {d : Desk} {input : Input} → Fair input → Reached d → Reached (step d input .desk)
-  reads : {d : Desk} (bytes : List ℕ) (place : ℕ) → Bytes bytes → Reached d → Reached (receivedBytes d bytes place .desk)
+  steps : {d : Desk} {input : Input} (count : ℕ) → Fair input → Reached d → Reached (step d count input .desk)
+  reads : {d : Desk} (count : ℕ) (bytes : List ℕ) (place : ℕ) → Bytes bytes → Reached d → Reached (receivedBytes d count bytes place .desk)
 
 abbrev pub ReachedSound : Type 0
 ReachedSound = (d : Desk) → Reached d → Sound (d .words)
@@ -128,8 +130,8 @@ abbrev pub InOrder : Desk → Desk → Type 0
 InOrder before after = Queued (names lineView (records (before .words))) (names lineView (records (after .words)))
 
 pub record OrderOfAcceptance : Type 0 where
-  pub steps : (d : Desk) → Reached d → (input : Input) → Fair input → InOrder d (step d input .desk)
-  pub bytes : (d : Desk) → Reached d → (bytes : List ℕ) (place : ℕ) → Bytes bytes → InOrder d (receivedBytes d bytes place .desk)
+  pub steps : (d : Desk) → Reached d → (count : ℕ) (input : Input) → Fair input → InOrder d (step d count input .desk)
+  pub bytes : (d : Desk) → Reached d → (count : ℕ) (bytes : List ℕ) (place : ℕ) → Bytes bytes → InOrder d (receivedBytes d count bytes place .desk)
 
 -- ---- a step is about the record at the place that its outcome tells: every other stays, behind a removed one a place further to the front. A line report is about none, and marks some (`Reports`)
 abbrev pub NoReport : Input → Type 0
@@ -141,8 +143,8 @@ NoReport (Input.Look number) = Unit
 
 abbrev pub OthersHeld : Type 0
 OthersHeld =
-    (d : Desk) → Reached d → (input : Input) → Fair input → NoReport input →
-    OthersStay lineView (step d input .outcome .at) (records (d .words)) (records (step d input .desk .words))
+    (d : Desk) → Reached d → (count : ℕ) (input : Input) → Fair input → NoReport input →
+    OthersStay lineView (step d count input .outcome .at) (records (d .words)) (records (step d count input .desk .words))
 
 -- ---- 5 against 6 on one line, 32 against 33 records: a request that is neither long nor a duplicate
 pub record Admitted : Type 0 where
@@ -175,13 +177,13 @@ pub record Offered (d : Desk) (number : Words) (after : Desk) (told : Found) : T
 
 pub record OldestOffered : Type 0 where
   pub offers :
-      (d : Desk) (number : Words) → length (d .words) ≡ Layout.words → step d (Input.Look number) .outcome .refusal ≡ 0 →
-      Offered d number (step d (Input.Look number) .desk) (step d (Input.Look number) .outcome .at)
+      (d : Desk) (count : ℕ) (number : Words) → length (d .words) ≡ Layout.words → step d count (Input.Look number) .outcome .refusal ≡ 0 →
+      Offered d number (step d count (Input.Look number) .desk) (step d count (Input.Look number) .outcome .at)
   -- 11 only if the line is busy, a record of the line blocks it, or none fits
   pub nothing :
-      (d : Desk) (number : Words) (k : ℕ) → lineAt number (lines (d .words)) ≡ At k → canTake (getD (lines (d .words)) k noLine) ≡ true →
+      (d : Desk) (count : ℕ) (number : Words) (k : ℕ) → lineAt number (lines (d .words)) ≡ At k → canTake (getD (lines (d .words)) k noLine) ≡ true →
       ((j : ℕ) → blocks number (recordAt d j) ≡ false) → (i : ℕ) → fits number (recordAt d i) ≡ true →
-      step d (Input.Look number) .outcome .refusal ≡ 0
+      step d count (Input.Look number) .outcome .refusal ≡ 0
 
 -- ---- what busy again with keep leaves (document 02, Ask 5): a record that fits a Look from now on, whatever its activity mark
 pub data Kept (place : ℕ) (r : Record) : Change → Type 0 where
@@ -193,9 +195,9 @@ KeptFits = (place : ℕ) (r : Record) → Kept place r (rowTaken place r BusyAga
 -- ---- what a line report changes: the line's status, and marks of activity, set and never cleared
 pub record Reports : Type 0 where
   pub marks :
-      (d : Desk) (number : Words) (busy : Bool) → length (d .words) ≡ Layout.words → step d (Input.Report number busy) .outcome .refusal ≡ 0 →
-      records (step d (Input.Report number busy) .desk .words)
+      (d : Desk) (count : ℕ) (number : Words) (busy : Bool) → length (d .words) ≡ Layout.words → step d count (Input.Report number busy) .outcome .refusal ≡ 0 →
+      records (step d count (Input.Report number busy) .desk .words)
       ≡ map (λ r. pick (both busy (marks number r)) (activated r) r) (records (d .words))
   pub status :
-      (d : Desk) (number : Words) (busy : Bool) (k : ℕ) → length (d .words) ≡ Layout.words → lineAt number (lines (d .words)) ≡ At k →
-      lines (step d (Input.Report number busy) .desk .words) ≡ set (lines (d .words)) k (withStatus (getD (lines (d .words)) k noLine) busy)
+      (d : Desk) (count : ℕ) (number : Words) (busy : Bool) (k : ℕ) → length (d .words) ≡ Layout.words → lineAt number (lines (d .words)) ≡ At k →
+      lines (step d count (Input.Report number busy) .desk .words) ≡ set (lines (d .words)) k (withStatus (getD (lines (d .words)) k noLine) busy)

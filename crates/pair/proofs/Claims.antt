@@ -18,6 +18,7 @@ use Rattle.pair_request.specs.Reading as R
 use Rattle.pair_request.specs.Listed as RL
 use Rattle.pair_request.proofs.Over as O
 use Rattle.pair_request.proofs.Claims.{acked-was-accepted, TakesUp, accepts-by-request, both-hold-live, quiet-pair, over-now, over-next}
+use Rattle.clerk.specs.declared.start.Lengths.{Lengths}
 use Rattle.pair.specs.World.{Of, Naming, World, Event, lineHears, lineHolds, messagesOf, next, Run, stop, then, startWorld, isRequest}
 use Rattle.pair.specs.Demand3.{Acknowledged, Requests, Heads, Stores, Accepted, Agree, Listed, no-record, invoked, wait-answer, suspended, ringout, Quiet, NoRequest, Over}
 use Rattle.pair.specs.Demand3.{AcknowledgedWasAccepted, DataAgree, KindAgrees, QuietListed, OverForGood, GoneForGood}
@@ -169,22 +170,22 @@ module _ {K : Type 0} {n : Naming K} (tells : Tells n) {Holds : K → World → 
           inl (stores-now g h x y (subst (TakesUp p (x .net)) same (t .2)) (subst (Hearing n k w e) (t .1) heard))
 
   run-told :
-      (given : List ℕ) (keep retain : Bool) → Bytes given → {k : K} {w : World} (run : Run (Holds k) (startWorld given keep retain) w) →
+      (lengths : Lengths) (given : List ℕ) (keep retain : Bool) → Bytes given → {k : K} {w : World} (run : Run (Holds k) (startWorld lengths given keep retain) w) →
       (x : Known n (fines .Inv) k (startPolicy given keep retain) w) × (x .net .accepted ≡ true → Accepted n k run)
   unfolding Accepted
-  run-told given keep retain b {k} stop = (known-start tells fines k given keep retain, λ e. absurd (false≢true e))
-  run-told given keep retain b {k} (then run e allowed so) =
-      let h = run-told given keep retain b run in
-      let g = run-good run (good-start given keep retain b) in
+  run-told lengths given keep retain b {k} stop = (known-start tells fines k lengths given keep retain, λ e. absurd (false≢true e))
+  run-told lengths given keep retain b {k} (then run e allowed so) =
+      let h = run-told lengths given keep retain b run in
+      let g = run-good run (good-start lengths given keep retain b) in
       let y = step-known tells fines g (h .0) e allowed so in
-      let after = run-good (then run e allowed so) (good-start given keep retain b) in
+      let after = run-good (then run e allowed so) (good-start lengths given keep retain b) in
       (y .0, λ q. accepted-step run g after (h .0) (y .0) (h .1) refl (y .1) q)
 
   pub acknowledged-was-accepted : AcknowledgedWasAccepted n Holds
-  acknowledged-was-accepted k given keep retain b w run c e a =
-      let h = run-told given keep retain b run in
+  acknowledged-was-accepted k lengths given keep retain b w run c e a =
+      let h = run-told lengths given keep retain b run in
       let x = h .0 in
-      let g = run-good run (good-start given keep retain b) in
+      let g = run-good run (good-start lengths given keep retain b) in
       h .1 (acknowledged-accepted (x .net) (x .sim .name) c (x .net .clerk) (x .reach) refl (sym e ∙ clerk-reads tells g x) a)
 
   pub data-agree : DataAgree n Holds

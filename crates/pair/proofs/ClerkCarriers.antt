@@ -169,7 +169,7 @@ module _ (j : Elements) (rs : List Record) (m : R.Msg) (busy : Bool) where
 -- ---- in a world of a run
 pub clerk-fits :
     {K : Type 0} {n : Naming K} (tells : Tells n) {Inv : World → Type 0} {k : K} {p : R.Policy} {w : World} (g : Good p w) → Known n Inv k p w → (x : Of Message) (rest : List (Of Message)) (busy : Bool) (place : ℕ) →
-    n .key (labelOf x) ≡ k → w .down ≡ x ∷ rest → Worded (Asked (w .history)) (x ∷ rest) → Fine n k w (clerkHears busy place) → received (w .clerk) (x .it) busy place .outcome .refusal ≡ 8 → ⊥
+    n .key (labelOf x) ≡ k → w .down ≡ x ∷ rest → Worded (Asked (w .history)) (x ∷ rest) → Fine n k w (clerkHears busy place) → received (w .clerk) (w .count) (x .it) busy place .outcome .refusal ≡ 8 → ⊥
 unfolding entered step
 clerk-fits {n = n} tells {k = k} {w = w} g known x rest busy place key e (word l m taken clear others) fine refused =
     let rs = records (w .clerk .words) in
@@ -177,7 +177,7 @@ clerk-fits {n = n} tells {k = k} {w = w} g known x rest busy place key e (word l
     let head = hear-head tells g busy place l m rest e taken clear others k (known .net) (known .sim) fine own in
     let h = head .0 in
     let heard : planFor rs (Input.Message (letterRead (l .it) m) busy place) .outcome .refusal ≡ 8 =
-    ap (λ (y : Entry). entered (w .clerk) y .outcome .refusal) (sym (entry-as tells g busy place l m rest e taken clear others)) ∙ refused in
+    ap (λ (y : Entry). entered (w .clerk) (w .count) y .outcome .refusal) (sym (entry-as tells g busy place l m rest e taken clear others)) ∙ refused in
     message-fits (known .sim .name) rs (h .code) busy place (known .net .clerk) (known .sim .clerkPlace) (head .1 .1) (known .sim .clerk)
     (λ t own s q. clerk-carried t own s (h .code) (h .left) (known .reach) q (h .whole))
     (subst (λ (y : Letter). planFor rs (Input.Message y busy place) .outcome .refusal ≡ 8) (head .1 .0) heard)

@@ -66,7 +66,7 @@ use Rattle.clerk_records.specs.Records.{blank, used, records, meant, place, tur
 use Rattle.clerk_records.specs.Meaning as Meaning
 use Rattle.clerk_records.specs.Meaning.{identifierMeans, fitting, isFor, elementsMean, meaning, named}
 use Rattle.clerk_records.proofs.MeaningLaws.{named-used}
-use Rattle.clerk_records.proofs.RecordsLaws.{records-applied}
+use Rattle.clerk.proofs.StepsLaws.{records-made}
 use Rattle.clerk_plan.specs.Plan.{holdsFor, askPlace, askFound, recordDecision, messageMeant, ownFound, decided, newRecord, storedPlan, planOf, planFor}
 use Rattle.clerk.specs.Entry.{askFlags}
 use Rattle.clerk.specs.Steps.{made}
@@ -687,7 +687,7 @@ all-heard rs j m busy means (away e) =
 
 -- ---- an act, a timer's report, a signal: refused without a word, or taken for the record at a place
 pub data Acted (rs : List Record) (x : R.CAct) (plan : Plan) : Type 0 where
-  refuses : plan .change ≡ Stay → plan .outcome .sending ≡ Sending.Nothing → Acted rs x plan
+  refuses : plan .change ≡ Stay → plan .outcome .at ≡ Nothing → plan .outcome .sending ≡ Sending.Nothing → Acted rs x plan
   takes-row :
       (i : ℕ) → used (getD rs i blank) ≡ true → Touches i (clerkChange (plan .change)) →
       Own clerkSight rs (At i) (clerkChange (plan .change)) (recordsAfter rs (plan .change)) (leaves (plan .change) (one (getD rs i blank))) →
@@ -710,8 +710,8 @@ module _ (rs : List Record) (input : Input) (settles : (r : Record) → settledB
       ((j : Elements) (c : R.Clerk) (i : ℕ) → holdsFor (rowRead x) (getD rs i blank) ≡ true → one (getD rs i blank) ≡ clerkRead j c → R.runsOut c x ≡ R.isT1orT2 x) →
       Acted rs x (planOf rs input (ownFound rs (rowRead x) refusal means))
   unfolding planOf
-  acted-found refusal Means.Nothing u ends = refuses refl refl
-  acted-found refusal Means.NotNow u ends = refuses refl refl
+  acted-found refusal Means.Nothing u ends = refuses refl refl refl
+  acted-found refusal Means.NotNow u ends = refuses refl refl refl
   acted-found refusal (Means.At i) u ends =
       let r = getD rs i blank in
       pick-elim (λ (d : Decision). Acted rs x (planOf rs input d)) (holdsFor (rowRead x) r)
@@ -722,7 +722,7 @@ module _ (rs : List Record) (input : Input) (settles : (r : Record) → settledB
             (subst (λ (b : Bool). Says j (pick b (rowTaken i r (rowRead x)) (refusedPlan 7 Sending.Nothing)) (one r) (R.clerkActs c x)) h (row-says j c i read)),
         ends j c i h read,
       )))
-      (λ h. refuses refl refl)
+      (λ h. refuses refl refl refl)
 
 timer-ends :
     (rs : List Record) (timer : Timer) (j : Elements) (c : R.Clerk) (i : ℕ) → holdsFor (rowOfTimer timer) (getD rs i blank) ≡ true →
@@ -760,14 +760,14 @@ clerk-fitting j m set absent r u same = both-true u ∙ ap (λ (names : Names). 
 
 -- ---- the desk
 -- an ask is refused, or stored and sent
-pub data AskStep (d : Desk) (names : Names) (q : Request) (plan : Plan) : Type 0 where
-  refused : plan .change ≡ Stay → plan .outcome .sending ≡ Sending.Nothing → AskStep d names q plan
+pub data AskStep (d : Desk) (count : ℕ) (names : Names) (q : Request) (plan : Plan) : Type 0 where
+  refused : plan .change ≡ Stay → plan .outcome .at ≡ Nothing → plan .outcome .sending ≡ Sending.Nothing → AskStep d count names q plan
   stored :
       (i : ℕ) → clerkChange (plan .change) ≡ storing i → plan .outcome .refusal ≡ 0 →
       ((given : Of Elements) → given .it ≡ askElements names q →
-      ClerkStep d given Nothing plan (askElements names q) (R.waiting (dataOf q) (q .kind), askRead q ∷ [])) → AskStep d names q plan
+      ClerkStep d count given Nothing plan (askElements names q) (R.waiting (dataOf q) (q .kind), askRead q ∷ [])) → AskStep d count names q plan
 
-module _ (d : Desk) (reached : Reached d) where
+module _ (d : Desk) (reached : Reached d) (count : ℕ) where
   abbrev rs : List Record
   rs = records (d .words)
 
@@ -776,11 +776,11 @@ module _ (d : Desk) (reached : Reached d) where
       (given : Of Elements) (f : Found) (j : Elements) (plan : Plan) (answer : R.CAnswer) →
       Own clerkSight rs f (clerkChange (plan .change)) (recordsAfter rs (plan .change)) (leaves (plan .change) (there clerkSight rs f)) →
       Its clerkSight j (there clerkSight rs f) → Says j plan (there clerkSight rs f) answer → ((i : ℕ) → clerkChange (plan .change) ≡ storing i → given .it ≡ j) →
-      ClerkStep d given f plan j answer
+      ClerkStep d count given f plan j answer
   plan-step given f j plan answer own its says came =
-      let whole : Own clerkSight rs f (clerkChange (plan .change)) (records (made d plan .desk .words)) (clerkRead j (answer .0)) =
+      let whole : Own clerkSight rs f (clerkChange (plan .change)) (records (made d count plan .desk .words)) (clerkRead j (answer .0)) =
       subst (λ (after : List Record). Own clerkSight rs f (clerkChange (plan .change)) after (clerkRead j (answer .0)))
-      (sym (records-applied (d .words) (clerk-full reached) (plan .change)))
+      (sym (records-made d (clerk-full reached) count plan))
       (subst (λ (left : Held Record). Own clerkSight rs f (clerkChange (plan .change)) (recordsAfter rs (plan .change)) left) (says .0) own) in
       record { did = own-did clerkSight rs j given whole its (clerk-its j (answer .0)) came; sends = says .1 }
 
@@ -788,11 +788,11 @@ module _ (d : Desk) (reached : Reached d) where
   pub clerk-hears :
       (given : Of Elements) (j : Elements) (m : R.Msg) (busy : Bool) (place : ℕ) (c : R.Clerk) (f : Found) → given .it ≡ j →
       Meant clerkSight rs (setOf j m) (readyFor j m) f (meaning (letterRead j m) place rs) → there clerkSight rs f ≡ clerkRead j c →
-      ClerkStep d given f (planFor rs (heard j m busy place)) j (R.clerkTakes c m busy)
+      ClerkStep d count given f (planFor rs (heard j m busy place)) j (R.clerkTakes c m busy)
   unfolding planFor decided
   clerk-hears given j m busy place c f came means h =
       let decision = messageMeant rs (letterRead j m) busy (meaning (letterRead j m) place rs) (messageFor (letterRead j m .body)) in
-      subst (λ (plan : Plan). ClerkStep d given f plan j (R.clerkTakes c m busy)) (sym (plan-place rs j m busy place decision))
+      subst (λ (plan : Plan). ClerkStep d count given f plan j (R.clerkTakes c m busy)) (sym (plan-place rs j m busy place decision))
       (plan-step given f j (takes rs j m busy (meaning (letterRead j m) place rs)) (R.clerkTakes c m busy) (own-takes rs j m busy f (meaning (letterRead j m) place rs) means)
       (subst (Its clerkSight j) (sym h) (clerk-its j c)) (found-takes rs j m busy c f (meaning (letterRead j m) place rs) means h) (λ i q. came))
 
@@ -813,20 +813,20 @@ module _ (d : Desk) (reached : Reached d) where
   clerk-reports name timer = acted-found rs (Input.Timer name timer) (λ r. refl) (R.timer timer) 9 (named name rs) (named-used name rs) (timer-ends rs timer)
 
   module _ (names : Names) (q : Request) where
-    ask-place : (f : Found) → place rs ≡ f → AskStep d names q (planOf rs (Input.Ask names q) (askPlace q f))
+    ask-place : (f : Found) → place rs ≡ f → AskStep d count names q (planOf rs (Input.Ask names q) (askPlace q f))
     unfolding planOf place
-    ask-place Nothing e = refused refl refl
+    ask-place Nothing e = refused refl refl refl
     ask-place (At i) e =
         stored i refl refl
         (λ given came.
         plan-step given Nothing (askElements names q) (planOf rs (Input.Ask names q) (Store i q)) (R.waiting (dataOf q) (q .kind), askRead q ∷ [])
         (stores i (newRecord names q) e) tt (refl, ap (λ (l : Letter). messageOf l ∷ []) (sym (ask-letter names q))) (λ x y. came))
 
-    ask-found : (f : Found) → AskStep d names q (planOf rs (Input.Ask names q) (askFound rs q f))
+    ask-found : (f : Found) → AskStep d count names q (planOf rs (Input.Ask names q) (askFound rs q f))
     unfolding planOf
-    ask-found (At i) = refused refl refl
+    ask-found (At i) = refused refl refl refl
     ask-found Nothing = ask-place (place rs) refl
 
-    pub clerk-asks : AskStep d names q (planFor rs (Input.Ask names q))
+    pub clerk-asks : AskStep d count names q (planFor rs (Input.Ask names q))
     unfolding planFor decided
     clerk-asks = ask-found (identifierMeans (names .identifier) rs)

@@ -35,6 +35,7 @@ use Rattle.clerk_table.specs.declared.record.Record.{Record}
 use Rattle.clerk_table.specs.declared.table.Timer.{Timer}
 use Rattle.clerk_table.specs.declared.table.Timer.the-variants.{T1, T2, T3}
 use Rattle.clerk_records.specs.Records.{blank, records, used, recordsAfter, applied}
+use Rattle.clerk_records.specs.Deadlines.{timed}
 use Rattle.clerk_records.specs.Meaning.{fitting, meaning}
 use Rattle.clerk_records.proofs.MeaningLaws.{meaning-used}
 use Rattle.clerk_plan.specs.Plan.{planFor}
@@ -72,10 +73,10 @@ unmoved {n = n} {p} {w} {e} g q =
     subst (Turned n p w e) (sym q) (g, λ k s r sim fine. leaves (record { clerk = refl; line = same; up = refl; down = refl }) sim)
 
 clerk-same :
-    (w : World) (given : Of Elements) (plan : Plan) (notes : List (Of Identifier) → List Note) → plan .change ≡ Stay → plan .outcome .sending ≡ Sending.Nothing → notes [] ≡ [] →
+    (w : World) (given : Of Elements) (plan : Plan) (notes : List (Of Identifier) → List Note) → plan .change ≡ Stay → plan .outcome .at ≡ Nothing → plan .outcome .sending ≡ Sending.Nothing → notes [] ≡ [] →
     clerkMade w (w .down) given plan notes ≡ w
-unfolding applied
-clerk-same w given plan notes e s none = rw (e, s, none, append-none (w .up))
+unfolding applied timed
+clerk-same w given plan notes e a s none = rw (e, a, s, none, append-none (w .up))
 
 -- ---- the history after a timer's report
 timer-grows : (b : Bool) (l : Of Identifier) (h : List Note) → Grows h (pick b (Note.runOut l ∷ []) [] ++ h)
@@ -118,7 +119,7 @@ module _ {K : Type 0} {n : Naming K} (tells : Tells n) {p : R.Policy} {w : World
   row-told given plan ans plain i u touches own says j c f at h =
       let whose = elementsAt clerkSight os rs i in
       let its = subst (Its clerkSight j) (sym h) (clerk-its j c) in
-      let s = plan-step (w .clerk) (g .clerk) given (At i) j plan (ans c) own its (says j c h) (λ m q. touches-never touches q) in
+      let s = plan-step (w .clerk) (g .clerk) (w .count) given (At i) j plan (ans c) own its (says j c h) (λ m q. touches-never touches q) in
       subst (λ (y : Found). ClerkTold w given y plan (clerkRead j (ans c .0)) whose (ans c .1)) (sym at)
       (record {
         did = s .did;
@@ -137,9 +138,9 @@ module _ {K : Type 0} {n : Naming K} (tells : Tells n) {p : R.Policy} {w : World
     abbrev acted : World
     acted = clerkMade w (w .down) given plan notes
 
-    act-reached : Clerk.Reached (made (w .clerk) plan .desk)
+    act-reached : Clerk.Reached (made (w .clerk) (w .count) plan .desk)
     unfolding step
-    act-reached = Clerk.steps fair (g .clerk)
+    act-reached = Clerk.steps (w .count) fair (g .clerk)
 
     -- taken for the record at a place
     module _ (i : ℕ) (u : used (getD rs i blank) ≡ true) (touches : Touches i (clerkChange (plan .change)))
@@ -185,7 +186,7 @@ module _ {K : Type 0} {n : Naming K} (tells : Tells n) {p : R.Policy} {w : World
           (subst (λ (h : List Note). Notes n k h (w .history) false false false false) (sym act-history) (timer-unnoted n k (R.isT1orT2 x) (label whose) (w .history) d))
 
     acting : Acted rs x plan → Turned n p w e acted
-    acting (refuses stay silent) = unmoved g (clerk-same w given plan notes stay silent none)
+    acting (refuses stay nowhere silent) = unmoved g (clerk-same w given plan notes stay nowhere silent none)
     acting (takes-row i u touches own says) =
         (act-good i u touches own says, λ k s r sim fine. act-turn i u touches own says k s sim (key? tells (n .key (label (elementsAt clerkSight os rs i))) k))
 
@@ -201,7 +202,7 @@ module _ {K : Type 0} {n : Naming K} (tells : Tells n) {p : R.Policy} {w : World
   clerk-act : (name : Name) (act : Act) → Turned n p w (clerkDoes (Input.Act name act)) (clerkMade w (w .down) (bare (name .identifier)) (planFor rs (Input.Act name act)) (clerkNotes (Input.Act name act)))
   clerk-act name act =
       acting (clerkDoes (Input.Act name act)) (bare (name .identifier)) (R.act act) (Input.Act name act) (clerkNotes (Input.Act name act)) (Clerk.acts name act) refl (λ l. refl) (λ l q. about-touched n q)
-      (clerk-acts (w .clerk) (g .clerk) name act)
+      (clerk-acts (w .clerk) (g .clerk) (w .count) name act)
 
   timer-notes : (name : Name) (timer : Timer) → (clerkNotes (Input.Timer name timer) [] ≡ []) × ((l : Of Identifier) → clerkNotes (Input.Timer name timer) (l ∷ []) ≡ pick (R.isT1orT2 (R.timer timer)) (Note.runOut l ∷ []) [])
   timer-notes name T1 = (refl, λ l. refl)
@@ -212,7 +213,7 @@ module _ {K : Type 0} {n : Naming K} (tells : Tells n) {p : R.Policy} {w : World
   clerk-timer name timer =
       let notes = timer-notes name timer in
       acting (clerkDoes (Input.Timer name timer)) (bare (name .identifier)) (R.timer timer) (Input.Timer name timer) (clerkNotes (Input.Timer name timer)) (Clerk.times name timer) (notes .0) (notes .1) (λ l q. about-touched n q)
-      (clerk-reports (w .clerk) (g .clerk) name timer)
+      (clerk-reports (w .clerk) (g .clerk) (w .count) name timer)
 
   pub clerk-tells : (x : Signal) (name : Name) (busy : Bool) → Turned n p w (clerkIsTold x name busy) (clerkStepped w (w .down) (newLabel w (name .identifier)) (signalEntry x name busy) (λ whom. []))
   clerk-tells x name busy =
@@ -245,12 +246,12 @@ module _ {K : Type 0} {n : Naming K} (tells : Tells n) {p : R.Policy} {w : World
     kept : Kept (askElements names q)
     kept = ask-kept names q fair .0
 
-    ask-reached : Clerk.Reached (made (w .clerk) (planFor rs ask) .desk)
+    ask-reached : Clerk.Reached (made (w .clerk) (w .count) (planFor rs ask) .desk)
     unfolding step
-    ask-reached = Clerk.steps fair (g .clerk)
+    ask-reached = Clerk.steps (w .count) fair (g .clerk)
 
     module _ (i : ℕ) (touch : clerkChange (planFor rs ask .change) ≡ storing i) (zero : planFor rs ask .outcome .refusal ≡ 0)
-        (steps : (given : Of Elements) → given .it ≡ askElements names q → ClerkStep (w .clerk) given Nothing (planFor rs ask) (askElements names q) answer) where
+        (steps : (given : Of Elements) → given .it ≡ askElements names q → ClerkStep (w .clerk) (w .count) given Nothing (planFor rs ask) (askElements names q) answer) where
       whom : touched clerkView os rs (label its) (clerkChange (planFor rs ask .change)) ≡ label its ∷ []
       whom = ap (touched clerkView os rs (label its)) touch
 
@@ -323,8 +324,8 @@ module _ {K : Type 0} {n : Naming K} (tells : Tells n) {p : R.Policy} {w : World
           (λ l e h. d (ap (λ (ls : List (Of Identifier)). n .key (getD ls 0 (label its))) (sym whom ∙ e) ∙ h)) d refl
           (subst (λ (h : List Note). Notes n k h (w .history) false false false false) (sym ask-history) (unnoted-other n k (Note.takenUp (label its)) (w .history) d))
 
-    clerk-ask : AskStep (w .clerk) names q (planFor rs ask) → Turned n p w (clerkDoes ask) asked
-    clerk-ask (refused stay silent) = unmoved g (clerk-same w its (planFor rs ask) (clerkNotes ask) stay silent refl)
+    clerk-ask : AskStep (w .clerk) (w .count) names q (planFor rs ask) → Turned n p w (clerkDoes ask) asked
+    clerk-ask (refused stay nowhere silent) = unmoved g (clerk-same w its (planFor rs ask) (clerkNotes ask) stay nowhere silent refl)
     clerk-ask (stored i touch zero steps) =
         (ask-good i touch zero steps, λ k s r sim fine. ask-turn i touch zero steps k s r sim fine (key? tells (n .key (label its)) k))
 
@@ -334,7 +335,7 @@ module _ {K : Type 0} {n : Naming K} (tells : Tells n) {p : R.Policy} {w : World
       Turned n p w (clerkDoes input) (clerkStepped w (w .down) (newLabel w (namesOf input .identifier)) (Given input) (clerkNotes input))
   clerk-does (Input.Ask names q) allowed =
       subst (Turned n p w (clerkDoes (Input.Ask names q))) (sym (host-made (from (length (w .history)) (askElements names q)) (Input.Ask names q) (clerkNotes (Input.Ask names q))))
-      (clerk-ask names q allowed (clerk-asks (w .clerk) (g .clerk) names q))
+      (clerk-ask names q allowed (clerk-asks (w .clerk) (g .clerk) (w .count) names q))
   clerk-does (Input.Message l busy place) never = absurd (never .toClerk l busy place refl)
   clerk-does (Input.Act name act) allowed =
       subst (Turned n p w (clerkDoes (Input.Act name act))) (sym (host-made (bare (name .identifier)) (Input.Act name act) (clerkNotes (Input.Act name act)))) (clerk-act name act)
@@ -372,9 +373,9 @@ module _ {K : Type 0} {n : Naming K} (tells : Tells n) {p : R.Policy} {w : World
     means-as : clerkMeans w (messageRead (l .it) m) place ≡ means
     means-as = ap (λ (x : Letter). meaning x place rs) (clear .back)
 
-    hear-reached : Clerk.Reached (made (w .clerk) hearPlan .desk)
+    hear-reached : Clerk.Reached (made (w .clerk) (w .count) hearPlan .desk)
     unfolding step
-    hear-reached = Clerk.steps (Clerk.hears (letterRead (l .it) m) busy place) (g .clerk)
+    hear-reached = Clerk.steps (w .count) (Clerk.hears (letterRead (l .it) m) busy place) (g .clerk)
 
     head-key : {k : K} → n .key (label l) ≡ k → n .key (labelOf (worded l m)) ≡ k
     head-key key = ap (n .key) (worded-label l m l-kept) ∙ key
@@ -389,7 +390,7 @@ module _ {K : Type 0} {n : Naming K} (tells : Tells n) {p : R.Policy} {w : World
     hear-told (replies ms stay sends plain) =
         let own = subst (λ (c : Change). Own clerkSight rs Nothing (clerkChange c) (recordsAfter rs c) (left c P.none)) (sym stay) stays in
         let says : Says (l .it) hearPlan P.none (R.absent, ms) = (ap (λ (c : Change). left c P.none) stay, sends) in
-        let s = plan-step (w .clerk) (g .clerk) l Nothing (l .it) hearPlan (R.absent, ms) own tt says (λ i q. refl) in (
+        let s = plan-step (w .clerk) (g .clerk) (w .count) l Nothing (l .it) hearPlan (R.absent, ms) own tt says (λ i q. refl) in (
           Nothing,
           (
             P.none,
@@ -427,7 +428,7 @@ module _ {K : Type 0} {n : Naming K} (tells : Tells n) {p : R.Policy} {w : World
         )
 
     told : Told
-    told = hear-told (clerk-heard (w .clerk) (g .clerk) (l .it) m busy place)
+    told = hear-told (clerk-heard (w .clerk) (g .clerk) (w .count) (l .it) m busy place)
 
     hear-good : Good p heard
     hear-good = clerk-good g rest l hearPlan (λ whom. []) (told .1 .1 .1 .1 .0) hear-reached others (grows-not (w .history)) (told .1 .1 .1 .1 .1 .0) (λ i q. taken)
@@ -469,7 +470,7 @@ module _ {K : Type 0} {n : Naming K} (tells : Tells n) {p : R.Policy} {w : World
 
     own-moves :
         (k : K) (s : R.Net) (sim : Sim n k w s) → n .key (label l) ≡ k → (h : Headed n k (sim .name) (worded l m) rest (s .down)) →
-        ClerkStep (w .clerk) (from (l .origin) (sim .name)) (sim .clerkPlace) hearPlan (sim .name) (R.clerkTakes (s .clerk) (h .code) busy) → Turn n p k w (clerkHears busy place) heard s
+        ClerkStep (w .clerk) (w .count) (from (l .origin) (sim .name)) (sim .clerkPlace) hearPlan (sim .name) (R.clerkTakes (s .clerk) (h .code) busy) → Turn n p k w (clerkHears busy place) heard s
     unfolding R.next R.clerkGetStep
     own-moves k s sim key h step =
         let given = from (l .origin) (sim .name) in
@@ -496,8 +497,8 @@ module _ {K : Type 0} {n : Naming K} (tells : Tells n) {p : R.Policy} {w : World
     hear-own k s sim fine key =
         let x = hear-head k s sim fine key in
         own-moves k s sim key (x .0)
-        (subst (λ (y : Letter). ClerkStep (w .clerk) (from (l .origin) (sim .name)) (sim .clerkPlace) (planFor rs (Input.Message y busy place)) (sim .name) (R.clerkTakes (s .clerk) (x .0 .code) busy)) (sym (x .1 .0))
-        (clerk-hears (w .clerk) (g .clerk) (from (l .origin) (sim .name)) (sim .name) (x .0 .code) busy place (s .clerk) (sim .clerkPlace) refl (x .1 .1) (sim .clerk)))
+        (subst (λ (y : Letter). ClerkStep (w .clerk) (w .count) (from (l .origin) (sim .name)) (sim .clerkPlace) (planFor rs (Input.Message y busy place)) (sim .name) (R.clerkTakes (s .clerk) (x .0 .code) busy)) (sym (x .1 .0))
+        (clerk-hears (w .clerk) (g .clerk) (w .count) (from (l .origin) (sim .name)) (sim .name) (x .0 .code) busy place (s .clerk) (sim .clerkPlace) refl (x .1 .1) (sim .clerk)))
 
     -- of another
     hear-other : (k : K) (s : R.Net) → Sim n k w s → Fine n k w (clerkHears busy place) → (n .key (label l) ≡ k → ⊥) → Turn n p k w (clerkHears busy place) heard s

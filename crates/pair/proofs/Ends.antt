@@ -202,15 +202,15 @@ abbrev pub policyOf : List ℕ → R.Policy
 policyOf words = record { keeps = keeps words; default = pick (retains words) R.ret R.rls }
 
 -- ---- what a step of a desk does to the place that it is about, by what is read there, and what it sends
-pub record ClerkStep (d : ClerkDesk.Desk) (given : Of Elements) (f : Found) (plan : ClerkPlans.Plan) (e : Elements) (answer : R.CAnswer) : Type 0 where
+pub record ClerkStep (d : ClerkDesk.Desk) (count : ℕ) (given : Of Elements) (f : Found) (plan : ClerkPlans.Plan) (e : Elements) (answer : R.CAnswer) : Type 0 where
   pub did :
-      Did clerkSight (ClerkRecords.records (d .words)) given f (clerkChange (plan .change)) (ClerkRecords.records (ClerkSteps.made d plan .desk .words))
+      Did clerkSight (ClerkRecords.records (d .words)) given f (clerkChange (plan .change)) (ClerkRecords.records (ClerkSteps.made d count plan .desk .words))
       (clerkRead e (answer .0))
   pub sends : sentBy (plan .outcome .sending) ≡ map (messageRead e) (answer .1)
 
-pub record LineStep (d : LineDesk.Desk) (given : Of Elements) (f : Found) (plan : LinePlans.Plan) (e : Elements) (answer : R.LAnswer) : Type 0 where
+pub record LineStep (d : LineDesk.Desk) (count : ℕ) (given : Of Elements) (f : Found) (plan : LinePlans.Plan) (e : Elements) (answer : R.LAnswer) : Type 0 where
   pub active : Bool
   pub did :
-      Did lineSight (LineRecords.records (d .words)) given f (lineChange (plan .change)) (LineRecords.records (LineSteps.made d plan .desk .words))
+      Did lineSight (LineRecords.records (d .words)) given f (lineChange (plan .change)) (LineRecords.records (LineSteps.made d count plan .desk .words))
       (lineRead e active (answer .0))
   pub sends : sentBy (plan .outcome .sending) ≡ map (messageRead e) (answer .1)

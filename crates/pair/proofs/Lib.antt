@@ -25,3 +25,4 @@ pub mod ClerkCarriers
 pub mod LineCarriers
 pub mod Premises
 pub mod Demand3
+pub mod Ticks

@@ -170,7 +170,7 @@ module _ (ws : List ℕ) (j : Elements) (place : ℕ) where
 -- ---- in a world of a run
 pub line-fits :
     {K : Type 0} {n : Naming K} (tells : Tells n) {Inv : World → Type 0} {k : K} {p : R.Policy} {w : World} (g : Good p w) → Known n Inv k p w → (x : Of Message) (rest : List (Of Message)) (place : ℕ) →
-    n .key (labelOf x) ≡ k → w .up ≡ x ∷ rest → Worded (Asked (w .history)) (x ∷ rest) → Fine n k w (lineHears place) → received (w .line) (x .it) place .outcome .refusal ≡ 8 → ⊥
+    n .key (labelOf x) ≡ k → w .up ≡ x ∷ rest → Worded (Asked (w .history)) (x ∷ rest) → Fine n k w (lineHears place) → received (w .line) (w .count) (x .it) place .outcome .refusal ≡ 8 → ⊥
 unfolding entered step planFor decided
 line-fits {n = n} tells {k = k} {w = w} g known x rest place key e (word l m taken clear others) fine refused =
     let ws = w .line .words in
@@ -178,7 +178,7 @@ line-fits {n = n} tells {k = k} {w = w} g known x rest place key e (word l m tak
     let head = hear-head tells g place l m rest e taken clear others k (known .net) (known .sim) own in
     let h = head .0 in
     let heard : planFor ws (Input.Message (letterRead (l .it) m) place) .outcome .refusal ≡ 8 =
-    ap (λ (y : Entry). entered (w .line) y .outcome .refusal) (sym (entry-as tells g place l m rest e taken clear others)) ∙ refused in
+    ap (λ (y : Entry). entered (w .line) (w .count) y .outcome .refusal) (sym (entry-as tells g place l m rest e taken clear others)) ∙ refused in
     let said = subst (λ (y : Letter). planFor ws (Input.Message y place) .outcome .refusal ≡ 8) (head .1) heard in
     let so = plan-eight ws (Input.Message (letterRead (known .sim .name) (h .code)) place) (messageDecision ws (letterRead (known .sim .name) (h .code)) place) said in
     let fits =

@@ -336,13 +336,13 @@ module _ (ws : List ℕ) (input : Input) (row : Row) (x : R.LAct) where
       Answers (ownRow i row (lineRecord j b t own s)) j b (R.holds t own s) (R.lineActs (R.holds t own s) x)) →
       (means : Means) → ((i : ℕ) → means ≡ Means.At i → used (getD (records ws) i blank) ≡ true) → Acted (records ws) x (planOf ws input (ownMeant ws row means))
   unfolding planOf
-  acted-found ways Means.Nothing u = refuses refl refl
-  acted-found ways Means.NotNow u = refuses refl refl
+  acted-found ways Means.Nothing u = refuses refl refl refl
+  acted-found ways Means.NotNow u = refuses refl refl refl
   acted-found ways (Means.At i) u =
       let r = getD (records ws) i blank in
       pick-elim (λ (d : Decision). Acted (records ws) x (planOf ws input d)) (holdsFor row r)
       (λ h. takes-row i (u i refl) (touches-row i r row) (own-row (records ws) i r row) (by h))
-      (λ h. refuses refl refl)
+      (λ h. refuses refl refl refl)
     where
       by :
           holdsFor row (getD (records ws) i blank) ≡ true → (j : Elements) (l : R.Line) (b : Bool) → P.one (getD (records ws) i blank) ≡ lineRead j b l →
@@ -379,17 +379,17 @@ pub line-fitting :
 line-fitting e m set absent r u same = both-true u ∙ ap (λ (names : Names). fits names (r .terms)) (set-names e m set) ∙ own-fits e absent (r .terms) same
 
 -- ---- the desk's steps
-module _ (d : Desk) (reached : Reached d) where
+module _ (d : Desk) (reached : Reached d) (count : ℕ) where
   -- what a decision on a message does is a step
   does-step :
       (given : Of Elements) (j : Elements) (m : R.Msg) (at : ℕ) (f : Found) (l : R.Line) (b : Bool) → given .it ≡ j → there lineSight (records (d .words)) f ≡ lineRead j b l →
       Does (d .words) j b m f l (messageDecision (d .words) (letterRead j m) at) →
-      (w : R.Word) × LineStep d given f (planFor (d .words) (heard j m at)) j (R.lineTakes (policyOf (d .words)) l m w)
+      (w : R.Word) × LineStep d count given f (planFor (d .words) (heard j m at)) j (R.lineTakes (policyOf (d .words)) l m w)
   unfolding planFor decided
   does-step given j m at f l b came h does = (
     does .0,
-    subst (λ (plan : Plan). LineStep d given f plan j (R.lineTakes (policyOf (d .words)) l m (does .0))) (sym (plan-place (d .words) j m at (messageDecision (d .words) (letterRead j m) at)))
-        (plan-step d reached given f j (planOf (d .words) (heard j m 0) (messageDecision (d .words) (letterRead j m) at)) (R.lineTakes (policyOf (d .words)) l m (does .0)) l b (does .1 .0) h (does .1 .1)
+    subst (λ (plan : Plan). LineStep d count given f plan j (R.lineTakes (policyOf (d .words)) l m (does .0))) (sym (plan-place (d .words) j m at (messageDecision (d .words) (letterRead j m) at)))
+        (plan-step d reached count given f j (planOf (d .words) (heard j m 0) (messageDecision (d .words) (letterRead j m) at)) (R.lineTakes (policyOf (d .words)) l m (does .0)) l b (does .1 .0) h (does .1 .1)
         (λ i q. came)),
   )
 
@@ -397,13 +397,13 @@ module _ (d : Desk) (reached : Reached d) where
   pub line-hears :
       (given : Of Elements) (j : Elements) (m : R.Msg) (at : ℕ) (f : Found) (l : R.Line) (b : Bool) → given .it ≡ j → NotReq m →
       Meant lineSight (records (d .words)) (setOf j m) (readyFor j m) f (meaning (letterRead j m) at (records (d .words))) → there lineSight (records (d .words)) f ≡ lineRead j b l →
-      (w : R.Word) × LineStep d given f (planFor (d .words) (heard j m at)) j (R.lineTakes (policyOf (d .words)) l m w)
+      (w : R.Word) × LineStep d count given f (planFor (d .words) (heard j m at)) j (R.lineTakes (policyOf (d .words)) l m w)
   line-hears given j m at f l b came plain means h = does-step given j m at f l b came h (message-heard (d .words) j b at f l h m plain means)
 
   -- its request, of which nothing is held
   pub line-asked :
       (given : Of Elements) (j : Elements) (x : R.Data) (kind : Kind) (q at : ℕ) → given .it ≡ j →
-      (w : R.Word) × LineStep d given Found.Nothing (planFor (d .words) (heard j (R.request x kind q) at)) j (R.lineTakes (policyOf (d .words)) R.none (R.request x kind q) w)
+      (w : R.Word) × LineStep d count given Found.Nothing (planFor (d .words) (heard j (R.request x kind q) at)) j (R.lineTakes (policyOf (d .words)) R.none (R.request x kind q) w)
   line-asked given j x kind q at came = does-step given j (R.request x kind q) at Found.Nothing R.none true came refl (request-heard (d .words) j true x kind q at)
 
   -- any message but a request

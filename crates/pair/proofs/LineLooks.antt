@@ -101,7 +101,7 @@ module _ (d : Desk) (number : Words) where
 
   look-acted : (decision : Decision) → Look rs number decision → Acted rs R.offers (planOf (d .words) (Input.Look number) decision)
   unfolding planOf
-  look-acted decision (refuses refusal) = Changed.refuses refl refl
+  look-acted decision (refuses refusal) = Changed.refuses refl refl refl
   look-acted decision (gives i fit) =
       let r = getD rs i blank in
       takes-row i (invoked-used (r .state) (fits-invoked number r fit)) (touches-row i r Offers) (own-row rs i r Offers) (offer-answers i fit)

@@ -45,7 +45,8 @@ use Rattle.line_records.specs.Meaning.{fitting, meaning}
 use Rattle.line_records.proofs.MeaningLaws.{meaning-uses}
 use Rattle.line_records.specs.Lines.{lines}
 use Rattle.line_records.specs.Change.{marking, recordsAfter, applied}
-use Rattle.line_records.proofs.ChangeLaws.{records-applied}
+use Rattle.line_records.specs.Deadlines.{timed}
+use Rattle.line.proofs.StepsLaws.{records-made}
 use Rattle.line_plan.specs.Plan.{planFor}
 use Rattle.line.specs.Entry.{messageEntry}
 use Rattle.line.specs.Steps.{made, step, entered}
@@ -80,10 +81,10 @@ use Rattle.pair.proofs.Sim.{about-touched, about-head, Asked, asked-sti
 use Rattle.pair.proofs.ClerkSteps.{unmoved}
 
 line-same :
-    (w : World) (given : Of Elements) (plan : Plan) (notes : List (Of Identifier) → List Note) → plan .change ≡ Stay → plan .outcome .sending ≡ Sending.Nothing → notes [] ≡ [] →
+    (w : World) (given : Of Elements) (plan : Plan) (notes : List (Of Identifier) → List Note) → plan .change ≡ Stay → plan .outcome .at ≡ Nothing → plan .outcome .sending ≡ Sending.Nothing → notes [] ≡ [] →
     lineMade w (w .up) given plan notes ≡ w
-unfolding applied
-line-same w given plan notes e s none = rw (e, s, none, append-none (w .down))
+unfolding applied timed
+line-same w given plan notes e a s none = rw (e, a, s, none, append-none (w .down))
 
 -- ---- the history after the guard's report
 abbrev isGuard : R.LAct → Bool
@@ -258,8 +259,8 @@ module _ {K : Type 0} {n : Naming K} (tells : Tells n) {p : R.Policy} {w : World
   os = w .lineOrigins
 
   -- the settings are the start's
-  settings : (plan : Plan) → policyOf (made (w .line) plan .desk .words) ≡ p
-  settings plan = policy-kept (w .line .words) (plan .change) (line-full (g .line)) ∙ g .policy
+  settings : (plan : Plan) → policyOf (made (w .line) (w .count) plan .desk .words) ≡ p
+  settings plan = policy-kept (w .line) (w .count) plan (line-full (g .line)) ∙ g .policy
 
   -- the record at a used place, as it is read
   read-at :
@@ -275,7 +276,7 @@ module _ {K : Type 0} {n : Naming K} (tells : Tells n) {p : R.Policy} {w : World
   row-told given plan ans plain i u touches own j l b f at h says =
       let whose = elementsAt lineSight os rs i in
       let its = subst (Its lineSight j) (sym h) (line-its j b l) in
-      let s = plan-step (w .line) (g .line) given (At i) j plan (ans l) l b own h says (λ m q. touches-never touches q) in (
+      let s = plan-step (w .line) (g .line) (w .count) given (At i) j plan (ans l) l b own h says (λ m q. touches-never touches q) in (
         s .active,
         subst (λ (y : Found). LineTold w given y plan (lineRead j (s .active) (ans l .0)) whose (ans l .1)) (sym at)
             (record {
@@ -296,9 +297,9 @@ module _ {K : Type 0} {n : Naming K} (tells : Tells n) {p : R.Policy} {w : World
     abbrev acted : World
     acted = lineMade w (w .up) given plan notes
 
-    act-reached : Line.Reached (made (w .line) plan .desk)
+    act-reached : Line.Reached (made (w .line) (w .count) plan .desk)
     unfolding step
-    act-reached = Line.steps fair (g .line)
+    act-reached = Line.steps (w .count) fair (g .line)
 
     -- taken for the record at a place
     module _ (i : ℕ) (u : used (getD rs i blank) ≡ true) (touches : Touches i (lineChange (plan .change))) (own : OwnChange rs (At i) (plan .change))
@@ -345,7 +346,7 @@ module _ {K : Type 0} {n : Naming K} (tells : Tells n) {p : R.Policy} {w : World
           (subst (λ (h : List Note). Notes n k h (w .history) false false false false) (sym act-history) (guard-unnoted n k (isGuard x) (label whose) (w .history) d))
 
     acting : Acted rs x plan → Turned n p w e acted
-    acting (refuses stay silent) = unmoved g (line-same w given plan notes stay silent none)
+    acting (refuses stay nowhere silent) = unmoved g (line-same w given plan notes stay nowhere silent none)
     acting (takes-row i u touches own says) =
         (act-good i u touches own says, λ k s r sim fine. act-turn i u touches own says k s sim (key? tells (n .key (label (elementsAt lineSight os rs i))) k))
 
@@ -358,7 +359,7 @@ module _ {K : Type 0} {n : Naming K} (tells : Tells n) {p : R.Policy} {w : World
     reportPlan = planFor (w .line .words) report
 
     abbrev reported : World
-    reported = record { clerk = w .clerk; clerkOrigins = w .clerkOrigins; up = w .up; line = made (w .line) reportPlan .desk; lineOrigins = os; down = w .down; history = w .history }
+    reported = record { clerk = w .clerk; clerkOrigins = w .clerkOrigins; up = w .up; line = made (w .line) (w .count) reportPlan .desk; lineOrigins = os; down = w .down; history = w .history; count = w .count }
 
     report-same : (given : Of Elements) → Reported rs number busy reportPlan → lineMade w (w .up) given reportPlan (lineNotes report) ≡ reported
     report-same given told = rw (told .silent, told .untouched, append-none (w .down))
@@ -367,7 +368,7 @@ module _ {K : Type 0} {n : Naming K} (tells : Tells n) {p : R.Policy} {w : World
     places told = report-places number busy rs (records (reported .line .words)) (by (told .marks))
       where
         after : records (reported .line .words) ≡ recordsAfter rs (reportPlan .change)
-        after = records-applied (w .line .words) (reportPlan .change) (line-full (g .line))
+        after = records-made (w .line .words) (reportPlan .change) (line-full (g .line)) (w .count) (reportPlan .outcome .at) (reportPlan .outcome .starts)
 
         by :
             (recordsAfter rs (reportPlan .change) ≡ rs) ⊎ ((busy ≡ true) × (recordsAfter rs (reportPlan .change) ≡ map (marking number) rs)) →
@@ -380,7 +381,7 @@ module _ {K : Type 0} {n : Naming K} (tells : Tells n) {p : R.Policy} {w : World
 
     report-reached : Line.Reached (reported .line)
     unfolding step
-    report-reached = Line.steps (Line.reports number busy) (g .line)
+    report-reached = Line.steps (w .count) (Line.reports number busy) (g .line)
 
     report-good : Reported rs number busy reportPlan → Good p reported
     report-good told =
@@ -462,9 +463,9 @@ module _ {K : Type 0} {n : Naming K} (tells : Tells n) {p : R.Policy} {w : World
   made-turned (Input.Message l place) never = absurd (never .toLine l place refl)
   made-turned (Input.Act name act) allowed =
       acting (lineDoes (Input.Act name act)) (bare (name .identifier)) (lineActRead act) (Input.Act name act) (lineNotes (Input.Act name act)) (Line.acts name act) refl
-      (λ l. ap (λ (b : Bool). pick b (Note.guarded l ∷ []) []) (sym (act-none act))) (λ l q. about-touched n q) (line-acts (w .line) (g .line) name act)
+      (λ l. ap (λ (b : Bool). pick b (Note.guarded l ∷ []) []) (sym (act-none act))) (λ l q. about-touched n q) (line-acts (w .line) (g .line) (w .count) name act)
   made-turned (Input.Guard name) allowed =
-      acting (lineDoes (Input.Guard name)) (bare (name .identifier)) R.guard (Input.Guard name) (lineNotes (Input.Guard name)) (Line.guards name) refl (λ l. refl) (λ l q. about-touched n q) (line-guards (w .line) (g .line) name)
+      acting (lineDoes (Input.Guard name)) (bare (name .identifier)) R.guard (Input.Guard name) (lineNotes (Input.Guard name)) (Line.guards name) refl (λ l. refl) (λ l q. about-touched n q) (line-guards (w .line) (g .line) (w .count) name)
   made-turned (Input.Report number busy) allowed = line-report number busy (bare (namesOf (Input.Report number busy) .identifier)) (line-reports (w .line) number busy)
   made-turned (Input.Look number) allowed =
       acting (lineDoes (Input.Look number)) (bare (namesOf (Input.Look number) .identifier)) R.offers (Input.Look number) (lineNotes (Input.Look number)) (Line.looks number) refl (λ l. refl)
@@ -509,9 +510,9 @@ module _ {K : Type 0} {n : Naming K} (tells : Tells n) {p : R.Policy} {w : World
         ap (λ (b : Bool). pick b Means.Nothing (meaning (letterOf (messageRead (l .it) m)) place rs)) (plain-body (l .it) m plain)
         ∙ ap (λ (x : Letter). meaning x place rs) (clear .back)
 
-    hear-reached : Line.Reached (made (w .line) hearPlan .desk)
+    hear-reached : Line.Reached (made (w .line) (w .count) hearPlan .desk)
     unfolding step messageEntry
-    hear-reached = Line.steps (Line.hears {input = hears} (messageRead (l .it) m) place (sent-typed (l .it) m) (rw (clear .ranged, clear .back))) (g .line)
+    hear-reached = Line.steps (w .count) (Line.hears {input = hears} (messageRead (l .it) m) place (sent-typed (l .it) m) (rw (clear .ranged, clear .back))) (g .line)
 
     head-key : {k : K} → n .key (label l) ≡ k → n .key (labelOf (worded l m)) ≡ k
     head-key key = ap (n .key) (worded-label l m l-kept) ∙ key
@@ -523,7 +524,7 @@ module _ {K : Type 0} {n : Naming K} (tells : Tells n) {p : R.Policy} {w : World
         (LineTold w l f hearPlan left whose ms × (Asked (w .history) whose × ((whose ≡ l) ⊎ ((i : ℕ) × (NotReq m × ((means ≡ Means.At i) × (whose ≡ elementsAt lineSight os rs i))))))))))
 
     speaks-given :
-        {f : Found} {left : P.Held Record} → Did lineSight rs l f (lineChange (hearPlan .change)) (records (made (w .line) hearPlan .desk .words)) left → f ≡ Nothing →
+        {f : Found} {left : P.Held Record} → Did lineSight rs l f (lineChange (hearPlan .change)) (records (made (w .line) (w .count) hearPlan .desk .words)) left → f ≡ Nothing →
         speaks lineSight os rs l (lineChange (hearPlan .change)) ≡ l
     speaks-given did q = nowhere-speaks lineSight os rs l did q
 
@@ -531,7 +532,7 @@ module _ {K : Type 0} {n : Naming K} (tells : Tells n) {p : R.Policy} {w : World
     hear-told plain (replies ms stay sends silent) =
         let own = subst (λ (c : Change). OwnChange rs Nothing c) (sym stay) stays in
         let says : Answers hearPlan (l .it) true R.none (R.none, ms) = answers true (ap (λ (c : Change). left c P.none) stay) sends in
-        let s = plan-step (w .line) (g .line) l Nothing (l .it) hearPlan (R.none, ms) R.none true own refl says (λ i q. refl) in (
+        let s = plan-step (w .line) (g .line) (w .count) l Nothing (l .it) hearPlan (R.none, ms) R.none true own refl says (λ i q. refl) in (
           Nothing,
           (
             P.none,
@@ -573,8 +574,8 @@ module _ {K : Type 0} {n : Naming K} (tells : Tells n) {p : R.Policy} {w : World
     -- a request, whosever it is: nothing of it is held
     ask-told : (d : R.Data) (kind : Kind) (q : ℕ) → m ≡ R.request d kind q → Told
     ask-told d kind q eq =
-        let s = subst (λ (x : R.Msg). (word : R.Word) × LineStep (w .line) l Nothing (planFor (w .line .words) (Input.Message (letterRead (l .it) x) place)) (l .it) (R.lineTakes (policyOf (w .line .words)) R.none x word)) (sym eq)
-        (line-asked (w .line) (g .line) l (l .it) d kind q place refl) in
+        let s = subst (λ (x : R.Msg). (word : R.Word) × LineStep (w .line) (w .count) l Nothing (planFor (w .line .words) (Input.Message (letterRead (l .it) x) place)) (l .it) (R.lineTakes (policyOf (w .line .words)) R.none x word)) (sym eq)
+        (line-asked (w .line) (g .line) (w .count) l (l .it) d kind q place refl) in
         let step = s .1 in
         let ans = R.lineTakes (policyOf (w .line .words)) R.none m (s .0) in
         let whose = speaks-given (step .did) refl in (
@@ -598,7 +599,7 @@ module _ {K : Type 0} {n : Naming K} (tells : Tells n) {p : R.Policy} {w : World
     told = by (message-sort m)
       where
         by : Sorted m → Told
-        by (plain-message plain) = hear-told plain (line-heard-any (w .line) (g .line) (l .it) m place plain)
+        by (plain-message plain) = hear-told plain (line-heard-any (w .line) (g .line) (w .count) (l .it) m place plain)
         by (a-request d kind q eq) = ask-told d kind q eq
 
     hear-good : Good p heard
@@ -651,7 +652,7 @@ module _ {K : Type 0} {n : Naming K} (tells : Tells n) {p : R.Policy} {w : World
 
     own-moves :
         (k : K) (s : R.Net) (sim : Sim n k w s) → n .key (label l) ≡ k → (h : Headed n k (sim .name) (worded l m) rest (s .up)) →
-        (x : R.Word) → LineStep (w .line) (from (l .origin) (sim .name)) (sim .linePlace) hearPlan (sim .name) (R.lineTakes p (s .line) (h .code) x) → Turn n p k w (lineHears place) heard s
+        (x : R.Word) → LineStep (w .line) (w .count) (from (l .origin) (sim .name)) (sim .linePlace) hearPlan (sim .name) (R.lineTakes p (s .line) (h .code) x) → Turn n p k w (lineHears place) heard s
     unfolding R.next R.lineGetStep
     own-moves k s sim key h x step =
         let given = from (l .origin) (sim .name) in
@@ -678,12 +679,12 @@ module _ {K : Type 0} {n : Naming K} (tells : Tells n) {p : R.Policy} {w : World
     -- with the start's settings
     hear-step :
         (j : Elements) (code : R.Msg) (x : R.Line) (f : Found) → letterRead (l .it) m ≡ letterRead j code →
-        (word : R.Word) × LineStep (w .line) (from (l .origin) j) f (planFor (w .line .words) (Input.Message (letterRead j code) place)) j (R.lineTakes (policyOf (w .line .words)) x code word) →
-        (word : R.Word) × LineStep (w .line) (from (l .origin) j) f hearPlan j (R.lineTakes p x code word)
+        (word : R.Word) × LineStep (w .line) (w .count) (from (l .origin) j) f (planFor (w .line .words) (Input.Message (letterRead j code) place)) j (R.lineTakes (policyOf (w .line .words)) x code word) →
+        (word : R.Word) × LineStep (w .line) (w .count) (from (l .origin) j) f hearPlan j (R.lineTakes p x code word)
     hear-step j code x f letter s = (
       s .0,
-      subst (λ (y : Letter). LineStep (w .line) (from (l .origin) j) f (planFor (w .line .words) (Input.Message y place)) j (R.lineTakes p x code (s .0))) (sym letter)
-          (subst (λ (q : R.Policy). LineStep (w .line) (from (l .origin) j) f (planFor (w .line .words) (Input.Message (letterRead j code) place)) j (R.lineTakes q x code (s .0))) (g .policy) (s .1)),
+      subst (λ (y : Letter). LineStep (w .line) (w .count) (from (l .origin) j) f (planFor (w .line .words) (Input.Message y place)) j (R.lineTakes p x code (s .0))) (sym letter)
+          (subst (λ (q : R.Policy). LineStep (w .line) (w .count) (from (l .origin) j) f (planFor (w .line .words) (Input.Message (letterRead j code) place)) j (R.lineTakes q x code (s .0))) (g .policy) (s .1)),
     )
 
     -- a request arrives where nothing of it is held
@@ -693,12 +694,12 @@ module _ {K : Type 0} {n : Naming K} (tells : Tells n) {p : R.Policy} {w : World
     own-asked k s sim reach key h letter d kind q eq =
         let none : s .line ≡ R.none = request-first (agreed reach) (h .whole ∙ ap (λ (c : R.Msg). c ∷ h .left) eq) in
         let nowhere : sim .linePlace ≡ Nothing = no-record lineSight rs (sim .linePlace) (sim .line ∙ ap (lineRead (sim .name) (sim .active)) none) in
-        let asked = line-asked (w .line) (g .line) (from (l .origin) (sim .name)) (sim .name) d kind q place refl in
+        let asked = line-asked (w .line) (g .line) (w .count) (from (l .origin) (sim .name)) (sim .name) d kind q place refl in
         let step =
         hear-step (sim .name) (h .code) (s .line) (sim .linePlace) letter
-        (subst (λ (x : R.Line). (word : R.Word) × LineStep (w .line) (from (l .origin) (sim .name)) (sim .linePlace) (planFor (w .line .words) (Input.Message (letterRead (sim .name) (h .code)) place)) (sim .name) (R.lineTakes (policyOf (w .line .words)) x (h .code) word)) (sym none)
-        (subst (λ (f : Found). (word : R.Word) × LineStep (w .line) (from (l .origin) (sim .name)) f (planFor (w .line .words) (Input.Message (letterRead (sim .name) (h .code)) place)) (sim .name) (R.lineTakes (policyOf (w .line .words)) R.none (h .code) word)) (sym nowhere)
-        (subst (λ (c : R.Msg). (word : R.Word) × LineStep (w .line) (from (l .origin) (sim .name)) Nothing (planFor (w .line .words) (Input.Message (letterRead (sim .name) c) place)) (sim .name) (R.lineTakes (policyOf (w .line .words)) R.none c word)) (sym eq) asked))) in
+        (subst (λ (x : R.Line). (word : R.Word) × LineStep (w .line) (w .count) (from (l .origin) (sim .name)) (sim .linePlace) (planFor (w .line .words) (Input.Message (letterRead (sim .name) (h .code)) place)) (sim .name) (R.lineTakes (policyOf (w .line .words)) x (h .code) word)) (sym none)
+        (subst (λ (f : Found). (word : R.Word) × LineStep (w .line) (w .count) (from (l .origin) (sim .name)) f (planFor (w .line .words) (Input.Message (letterRead (sim .name) (h .code)) place)) (sim .name) (R.lineTakes (policyOf (w .line .words)) R.none (h .code) word)) (sym nowhere)
+        (subst (λ (c : R.Msg). (word : R.Word) × LineStep (w .line) (w .count) (from (l .origin) (sim .name)) Nothing (planFor (w .line .words) (Input.Message (letterRead (sim .name) c) place)) (sim .name) (R.lineTakes (policyOf (w .line .words)) R.none c word)) (sym eq) asked))) in
         own-moves k s sim key h (step .0) (step .1)
 
     hear-own : (k : K) (s : R.Net) → R.Reach p s → Sim n k w s → Fine n k w (lineHears place) → n .key (label l) ≡ k → Turn n p k w (lineHears place) heard s
@@ -709,7 +710,7 @@ module _ {K : Type 0} {n : Naming K} (tells : Tells n) {p : R.Policy} {w : World
             let x = hear-head k s sim key in
             let step =
             hear-step (sim .name) (x .0 .code) (s .line) (sim .linePlace) (x .1)
-            (line-hears (w .line) (g .line) (from (l .origin) (sim .name)) (sim .name) (x .0 .code) place (sim .linePlace) (s .line) (sim .active) refl plain (hear-means k s sim fine key plain) (sim .line)) in
+            (line-hears (w .line) (g .line) (w .count) (from (l .origin) (sim .name)) (sim .name) (x .0 .code) place (sim .linePlace) (s .line) (sim .active) refl plain (hear-means k s sim fine key plain) (sim .line)) in
             own-moves k s sim key (x .0) (step .0) (step .1)
         by (a-request d kind q eq) = let x = hear-head k s sim key in own-asked k s sim reach key (x .0) (x .1) d kind q eq
 

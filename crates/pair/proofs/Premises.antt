@@ -35,7 +35,7 @@ use Rattle.line_records.specs.Records as LineRecords
 use Rattle.line_records.specs.Meaning as LineMeaning
 use Rattle.line.specs.declared.entry.Entry.the-variants as LineEntry
 use Rattle.pair_request.specs.Reading as R
-use Rattle.pair.specs.World.{Of, from, origins, identifiers, Note, World, Event, clerkDoes, lineDoes, clerkIsTold, clerkHears, lineHears, dropsUp, dropsDown, nameOf, labelOf, touched, clerkTouched, lineTouched, clerkChange, clerkHeard, lineHeard, next, Run, stop, then, reached, Once, isRequest, byPlace, clerkMeans, lineMeans, KeptApart, Apart}
+use Rattle.pair.specs.World.{Of, from, origins, identifiers, Note, World, Event, clerkDoes, lineDoes, clerkIsTold, clerkHears, lineHears, dropsUp, dropsDown, counts, nameOf, labelOf, touched, clerkTouched, lineTouched, clerkChange, clerkHeard, lineHeard, next, Run, stop, then, reached, Once, isRequest, byPlace, clerkMeans, lineMeans, KeptApart, Apart}
 use Rattle.pair.specs.Demand3.{OnceApart}
 use Rattle.pair.proofs.Sits.{label, elementsAt}
 use Rattle.pair.proofs.Ends.{clerkSight, lineSight}
@@ -51,7 +51,7 @@ use Rattle.pair.proofs.Runs.{Fines, good-start, run-good}
 data Newly (w : World) (e : Event) (l : Of Identifier) : Type 0 where
   old : Taken (w .history) l → Newly w e l
   new :
-      (names : Names) (q : Request) → e ≡ clerkDoes (ClerkInput.Ask names q) → Clerk.step (w .clerk) (ClerkInput.Ask names q) .outcome .refusal ≡ 0 →
+      (names : Names) (q : Request) → e ≡ clerkDoes (ClerkInput.Ask names q) → Clerk.step (w .clerk) (w .count) (ClerkInput.Ask names q) .outcome .refusal ≡ 0 →
       l ≡ from (length (w .history)) (names .identifier) → Newly w e l
 
 -- notes of another kind take up nothing
@@ -71,11 +71,11 @@ labelIn other (Note.guarded l) = other
 
 module _ {p : R.Policy} {w : World} (g : Good p w) where
   ask-newly :
-      (names : Names) (q : Request) → AskStep (w .clerk) names q (planFor (ClerkRecords.records (w .clerk .words)) (ClerkInput.Ask names q)) → (l : Of Identifier) →
+      (names : Names) (q : Request) → AskStep (w .clerk) (w .count) names q (planFor (ClerkRecords.records (w .clerk .words)) (ClerkInput.Ask names q)) → (l : Of Identifier) →
       Taken (map Note.takenUp (touched clerkView (w .clerkOrigins) (ClerkRecords.records (w .clerk .words)) (from (length (w .history)) (names .identifier)) (clerkChange (planFor (ClerkRecords.records (w .clerk .words)) (ClerkInput.Ask names q) .change))) ++ w .history) l →
       Newly w (clerkDoes (ClerkInput.Ask names q)) l
   unfolding Clerk.step
-  ask-newly names q (refused stay silent) l m = old (rw stay at m)
+  ask-newly names q (refused stay nowhere silent) l m = old (rw stay at m)
   ask-newly names q (stored i touch zero steps) l m = by (List·Memᴰ·cases-cons (rw touch at m))
     where
       by : (Note.takenUp l ≡ Note.takenUp (from (length (w .history)) (names .identifier))) ⊎ Taken (w .history) l → Newly w (clerkDoes (ClerkInput.Ask names q)) l
@@ -94,7 +94,7 @@ module _ {p : R.Policy} {w : World} (g : Good p w) where
 
   newly : (e : Event) (l : Of Identifier) → Taken (next w e .history) l → Newly w e l
   unfolding next
-  newly (clerkDoes (ClerkInput.Ask names q)) l m = ask-newly names q (clerk-asks (w .clerk) (g .clerk) names q) l m
+  newly (clerkDoes (ClerkInput.Ask names q)) l m = ask-newly names q (clerk-asks (w .clerk) (g .clerk) (w .count) names q) l m
   newly (clerkDoes (ClerkInput.Message x busy place)) l m = old m
   newly (clerkDoes (ClerkInput.Act j act)) l m = old m
   newly (clerkDoes (ClerkInput.Timer j T1)) l m =
@@ -113,6 +113,7 @@ module _ {p : R.Policy} {w : World} (g : Good p w) where
   newly (lineHears place) l m = old (line-heard place l (w .up) m)
   newly (dropsUp i) l m = old (skip (λ x. Note.dropped (labelOf x)) (λ a b e. let z : _≡_ {A = ℕ} 0 1 = cc in omega (arith, z)) (take 1 (drop i (w .up))) (w .history) l m)
   newly (dropsDown i) l m = old (skip (λ x. Note.dropped (labelOf x)) (λ a b e. let z : _≡_ {A = ℕ} 0 1 = cc in omega (arith, z)) (take 1 (drop i (w .down))) (w .history) l m)
+  newly (counts count) l m = old m
 
 -- ---- where identifiers are used once, labels with one identifier are one
 abbrev Unique : World → Type 0
@@ -122,7 +123,7 @@ unique-next : {p : R.Policy} {w : World} → Good p w → Unique w → (e : Even
 unique-next {w = w} g unique e once a b j x y = by (newly g e (from a j) x) (newly g e (from b j) y)
   where
     -- an old label and a new one have two identifiers
-    apart : (names : Names) (q : Request) → e ≡ clerkDoes (ClerkInput.Ask names q) → Clerk.step (w .clerk) (ClerkInput.Ask names q) .outcome .refusal ≡ 0 → (o c : ℕ) → from c j ≡ from (length (w .history)) (names .identifier) → Taken (w .history) (from o j) → ⊥
+    apart : (names : Names) (q : Request) → e ≡ clerkDoes (ClerkInput.Ask names q) → Clerk.step (w .clerk) (w .count) (ClerkInput.Ask names q) .outcome .refusal ≡ 0 → (o c : ℕ) → from c j ≡ from (length (w .history)) (names .identifier) → Taken (w .history) (from o j) → ⊥
     apart names q is zero o c same m = once names q is zero .1 o (subst (λ (i : Identifier). Taken (w .history) (from o i)) (ap (λ (l : Of Identifier). l .it) same) m)
 
     by : Newly w e (from a j) → Newly w e (from b j) → a ≡ b
@@ -210,7 +211,7 @@ pub apart-fine : Fines origins Apart
 apart-fine =
     record {
       Inv = λ w. Unit;
-      begins = λ given keep retain. tt;
+      begins = λ lengths given keep retain. tt;
       keeps = λ g inv k e so. tt;
       fine = λ g inv o e apart.
           record {
@@ -244,7 +245,7 @@ pub once-fine : Fines identifiers (λ j. Once)
 once-fine =
     record {
       Inv = Identified;
-      begins = λ given keep retain l m. nothing-noted (Note.takenUp l) m;
+      begins = λ lengths given keep retain l m. nothing-noted (Note.takenUp l) m;
       keeps = λ g all k e once. identified-next g all e once;
       fine = λ {p} {w} g all k e once.
           record {
@@ -255,8 +256,8 @@ once-fine =
     }
 
 pub once-apart : OnceApart
-once-apart o w (reached given keep retain b run) e once =
-    let start = good-start given keep retain b in
+once-apart o w (reached lengths given keep retain b run) e once =
+    let start = good-start lengths given keep retain b in
     let g = run-good run start in
     let unique = run-unique run start (λ a b j x y. nothing-noted (Note.takenUp (from a j)) x) in
     let all = run-identified run start (λ l m. nothing-noted (Note.takenUp l) m) in

@@ -11,7 +11,8 @@ use Rattle.desk.specs.declared.letter.Identifier.the-variants.{Absent}
 use Rattle.lists.proofs.Choice.{no-true}
 use Rattle.clerk_records.specs.Layout as ClerkLayout
 use Rattle.clerk_records.proofs.RecordsLaws as ClerkLaws
-use Rattle.clerk.specs.Steps.{startedDesk}
+use Rattle.clerk.specs.Start.{startedDesk}
+use Rattle.clerk.specs.declared.start.Lengths.{Lengths}
 use Rattle.clerk_sound.specs.Sound as ClerkSound
 use Rattle.clerk_sound.proofs.Start as ClerkStart
 use Rattle.line_table.specs.Search.{used}
@@ -21,7 +22,7 @@ use Rattle.line.specs.Start.{started}
 use Rattle.line_sound.specs.Sound as LineSound
 use Rattle.line_sound.proofs.Starting as LineStarting
 use Rattle.pair_request.specs.Reading as R
-use Rattle.pair.specs.World.{Naming, Note, World, Event, clerkDoes, lineDoes, clerkIsTold, clerkHears, lineHears, dropsUp, dropsDown, clerkHolds, lineHolds, messagesOf, next, Allowed, Run, stop, then, startWorld, Reached, reached}
+use Rattle.pair.specs.World.{Naming, Note, World, Event, clerkDoes, lineDoes, clerkIsTold, clerkHears, lineHears, dropsUp, dropsDown, counts, clerkHolds, lineHolds, messagesOf, next, Allowed, Run, stop, then, startWorld, Reached, reached}
 use Rattle.pair.proofs.Keys.{Tells, origins-tell}
 use Rattle.pair.proofs.Sits.{nowhere}
 use Rattle.pair.proofs.Ends.{clerkRead, lineRead, policyOf}
@@ -30,7 +31,7 @@ use Rattle.pair.proofs.Notes.{knows-none}
 use Rattle.pair.proofs.Sim.{Good, Sim, Fine, Hearing, Turn, leaves, moves, Turned, clerk-held, line-held}
 use Rattle.pair.proofs.ClerkSteps.{clerk-does, clerk-tells, clerk-hear}
 use Rattle.pair.proofs.LineSteps.{line-does, line-hear}
-use Rattle.pair.proofs.Drops.{drop-up, drop-down}
+use Rattle.pair.proofs.Drops.{drop-up, drop-down, counts-on}
 
 -- ---- every step, once
 pub turned : {K : Type 0} {n : Naming K} (tells : Tells n) {p : R.Policy} {w : World} → Good p w → (e : Event) → Allowed w e → Turned n p w e (next w e)
@@ -42,6 +43,7 @@ turned tells {w = w} g (clerkHears busy place) allowed = clerk-hear tells g busy
 turned tells {w = w} g (lineHears place) allowed = line-hear tells g place (w .up) refl (g .up)
 turned tells g (dropsUp i) allowed = drop-up tells g i
 turned tells g (dropsDown i) allowed = drop-down tells g i
+turned tells g (counts count) allowed = counts-on tells g count
 
 -- ---- the start: every desk empty, every wire quiet, nothing in the history
 abbrev pub startPolicy : List ℕ → Bool → Bool → R.Policy
@@ -53,28 +55,28 @@ nothing-noted x m = elim m [ ]
 line-unused : (given : List ℕ) (keep retain : Bool) (i : ℕ) → LineSound.lineView .used (LineSound.recordAt (started given keep retain .desk) i) ≡ false
 line-unused given keep retain i = ap used (LineStarting.start-free given keep retain i) ∙ LineStarting.blank-unused
 
-pub good-start : (given : List ℕ) (keep retain : Bool) → Bytes given → Good (startPolicy given keep retain) (startWorld given keep retain)
-good-start given keep retain b =
+pub good-start : (lengths : Lengths) (given : List ℕ) (keep retain : Bool) → Bytes given → Good (startPolicy given keep retain) (startWorld lengths given keep retain)
+good-start lengths given keep retain b =
     record {
-      clerk = ClerkSound.starts;
+      clerk = ClerkSound.starts lengths;
       line = LineSound.starts given keep retain b;
       policy = refl;
-      clerkFull = length-replicate {A = ℕ} ClerkLayout.places 0 ∙ sym (ClerkLaws.records-length (startedDesk .words));
+      clerkFull = length-replicate {A = ℕ} ClerkLayout.places 0 ∙ sym (ClerkLaws.records-length (startedDesk lengths .words));
       lineFull = length-replicate {A = ℕ} LineLayout.places 0 ∙ sym (LineLaws.records-length (started given keep retain .desk .words));
-      clerkLabels = λ i u. absurd (no-true (sym (ClerkStart.start-empty i) ∙ u));
+      clerkLabels = λ i u. absurd (no-true (sym (ClerkStart.start-empty lengths i) ∙ u));
       lineLabels = λ i u. absurd (no-true (sym (line-unused given keep retain i) ∙ u));
       up = quiet;
       down = quiet;
       taken = λ l m. nothing-noted (Note.takenUp l) m;
     }
 
-pub start-sim : {K : Type 0} (n : Naming K) (k : K) (given : List ℕ) (keep retain : Bool) → Sim n k (startWorld given keep retain) R.start
+pub start-sim : {K : Type 0} (n : Naming K) (k : K) (lengths : Lengths) (given : List ℕ) (keep retain : Bool) → Sim n k (startWorld lengths given keep retain) R.start
 unfolding messagesOf
-start-sim n k given keep retain =
+start-sim n k lengths given keep retain =
     record {
       name = record { identifier = Absent; numberA = noNumber; numberB = noNumber; service = 0 };
       clerkPlace = Nothing;
-      clerkSits = nowhere (λ i m. no-true (sym (ClerkStart.start-empty i) ∙ m .0));
+      clerkSits = nowhere (λ i m. no-true (sym (ClerkStart.start-empty lengths i) ∙ m .0));
       clerk = refl;
       linePlace = Nothing;
       lineSits = nowhere (λ i m. no-true (sym (line-unused given keep retain i) ∙ m .0));
@@ -97,7 +99,7 @@ run-good stop g = g
 run-good (then run e allowed so) g = turned origins-tell (run-good run g) e allowed .0
 
 pub good-world : {P : World → Event → Type 0} (w : World) → Reached P w → (p : R.Policy) × Good p w
-good-world w (reached given keep retain b run) = (startPolicy given keep retain, run-good run (good-start given keep retain b))
+good-world w (reached lengths given keep retain b run) = (startPolicy given keep retain, run-good run (good-start lengths given keep retain b))
 
 -- what a step makes of one request's net: it leaves it, or is a step of it
 pub data Follows {K : Type 0} (n : Naming K) (p : R.Policy) (k : K) (w : World) (e : Event) (s : R.Net) : R.Net → Type 0 where
@@ -133,7 +135,7 @@ line-reads tells g x = line-held tells g (x .sim) ∙ x .sim .line
 -- a premise from which the steps of a request are fine, by what it makes hold in every world of its runs
 pub record Fines {K : Type 0} (n : Naming K) (Holds : K → World → Event → Type 0) : Type 1 where
   pub Inv : World → Type 0
-  pub begins : (given : List ℕ) (keep retain : Bool) → Inv (startWorld given keep retain)
+  pub begins : (lengths : Lengths) (given : List ℕ) (keep retain : Bool) → Inv (startWorld lengths given keep retain)
   pub keeps : {p : R.Policy} {w : World} → Good p w → Inv w → (k : K) (e : Event) → Holds k w e → Inv (next w e)
   pub fine : {p : R.Policy} {w : World} → Good p w → Inv w → (k : K) (e : Event) → Holds k w e → Fine n k w e
 
@@ -149,9 +151,9 @@ module _ {K : Type 0} {n : Naming K} (tells : Tells n) {Holds : K → World → 
   run-known stop g x = x
   run-known (then run e allowed so) g x = step-known (run-good run g) (run-known run g x) e allowed so .0
 
-  abbrev pub known-start : (k : K) (given : List ℕ) (keep retain : Bool) → Known n (fines .Inv) k (startPolicy given keep retain) (startWorld given keep retain)
-  known-start k given keep retain = record { net = R.start; reach = R.begin; sim = start-sim n k given keep retain; inv = fines .begins given keep retain }
+  abbrev pub known-start : (k : K) (lengths : Lengths) (given : List ℕ) (keep retain : Bool) → Known n (fines .Inv) k (startPolicy given keep retain) (startWorld lengths given keep retain)
+  known-start k lengths given keep retain = record { net = R.start; reach = R.begin; sim = start-sim n k lengths given keep retain; inv = fines .begins lengths given keep retain }
 
   pub known-world : (k : K) (w : World) → Reached (Holds k) w → (p : R.Policy) × (Good p w × Known n (fines .Inv) k p w)
-  known-world k w (reached given keep retain b run) =
-      (startPolicy given keep retain, (run-good run (good-start given keep retain b), run-known run (good-start given keep retain b) (known-start k given keep retain)))
+  known-world k w (reached lengths given keep retain b run) =
+      (startPolicy given keep retain, (run-good run (good-start lengths given keep retain b), run-known run (good-start lengths given keep retain b) (known-start k lengths given keep retain)))

@@ -61,8 +61,8 @@ module _ (rs : List Record) (x : Signal) (busy : Bool) (input : Input) (l : Lett
       (λ g says.
       takes-row i u (touches-taken rs input i row) (own-taken rs input i row)
       (λ y c read. (subst (λ (plan : Plan). Says y plan (one r) (R.clerkActs c (R.signal x))) (same y) (says y c read), refl)))
-      (λ g says. refuses refl quiet))
-      (λ h says. refuses refl quiet)
+      (λ g says. refuses refl refl quiet))
+      (λ h says. refuses refl refl quiet)
 
 told-says :
     (rs : List Record) (x : Signal) (busy : Bool) (i : ℕ) (y : Elements) (c : R.Clerk) → one (getD rs i blank) ≡ clerkRead y c →
@@ -74,13 +74,13 @@ acted-told :
     (rs : List Record) (j : Identifier) (place : ℕ) (x : Signal) (busy : Bool) (means : Means) → ((i : ℕ) → means ≡ Means.At i → used (getD rs i blank) ≡ true) →
     Acted rs (R.signal x) (planOf rs (Input.Message (signalLetter x j) busy place) (messageMeant rs (signalLetter x j) busy means (messageFor (signalLetter x j .body))))
 unfolding planOf
-acted-told rs j place callDied busy Means.Nothing u = refuses refl refl
-acted-told rs j place callDied busy Means.NotNow u = refuses refl refl
+acted-told rs j place callDied busy Means.Nothing u = refuses refl refl refl
+acted-told rs j place callDied busy Means.NotNow u = refuses refl refl refl
 acted-told rs j place callDied busy (Means.At i) u =
     told-row rs callDied busy (Input.Message (signalLetter callDied j) busy place) (signalLetter callDied j) Message.Failed (λ c. refl) Row.CallFails (λ k q. refl) i (u i refl) (λ y. refl)
     (told-says rs callDied busy i)
-acted-told rs j place rejected busy Means.Nothing u = refuses refl refl
-acted-told rs j place rejected busy Means.NotNow u = refuses refl refl
+acted-told rs j place rejected busy Means.Nothing u = refuses refl refl refl
+acted-told rs j place rejected busy Means.NotNow u = refuses refl refl refl
 acted-told rs j place rejected busy (Means.At i) u =
     told-row rs rejected busy (Input.Message (signalLetter rejected j) busy place) (signalLetter rejected j) (Message.Error 1) (λ c. refl) Row.DeniedShort (λ k q. refl) i (u i refl) (λ y. refl)
     (told-says rs rejected busy i)

@@ -84,7 +84,7 @@ pub record Sim {K : Type 0} (n : Naming K) (k : K) (w : World) (s : R.Net) : Typ
 -- the premise of its steps: an ask that is taken is a new request, and it is kept apart
 pub record Fine {K : Type 0} (n : Naming K) (k : K) (w : World) (e : Event) : Type 0 where
   pub fresh :
-      (names : Names) (q : Request) → e ≡ clerkDoes (ClerkInput.Ask names q) → Clerk.step (w .clerk) (ClerkInput.Ask names q) .outcome .refusal ≡ 0 →
+      (names : Names) (q : Request) → e ≡ clerkDoes (ClerkInput.Ask names q) → Clerk.step (w .clerk) (w .count) (ClerkInput.Ask names q) .outcome .refusal ≡ 0 →
       n .key (from (length (w .history)) (names .identifier)) ≡ k → ToldIn n k Note.takenUp (w .history) → ⊥
   pub apart : KeptApart n k w e
 
@@ -189,13 +189,14 @@ clerkMade w down given plan notes =
     let rs = ClerkRecords.records (w .clerk .words) in
     let touch = clerkChange (plan .change) in
     record {
-      clerk = Clerk.made (w .clerk) plan .desk;
+      clerk = Clerk.made (w .clerk) (w .count) plan .desk;
       clerkOrigins = originsAfter touch (given .origin) (w .clerkOrigins);
       up = w .up ++ map (from (speaker clerkSight (w .clerkOrigins) rs given touch)) (sentBy (plan .outcome .sending));
       line = w .line;
       lineOrigins = w .lineOrigins;
       down = down;
       history = notes (touched clerkView (w .clerkOrigins) rs (label given) touch) ++ w .history;
+      count = w .count;
     }
 
 abbrev pub lineMade : World → List (Of Message) → Of Elements → LinePlans.Plan → (List (Of Identifier) → List Note) → World
@@ -206,16 +207,17 @@ lineMade w up given plan notes =
       clerk = w .clerk;
       clerkOrigins = w .clerkOrigins;
       up = up;
-      line = Line.made (w .line) plan .desk;
+      line = Line.made (w .line) (w .count) plan .desk;
       lineOrigins = originsAfter touch (given .origin) (w .lineOrigins);
       down = w .down ++ map (from (speaker lineSight (w .lineOrigins) rs given touch)) (sentBy (plan .outcome .sending));
       history = notes (touched lineView (w .lineOrigins) rs (label given) touch) ++ w .history;
+      count = w .count;
     }
 
 -- a step of the clerk's desk: what it did at a place, and what it sent for whom
 pub record ClerkTold (w : World) (given : Of Elements) (f : Found) (plan : ClerkPlans.Plan) (left : P.Held ClerkRecord.Record) (l : Of Elements) (ms : List R.Msg) : Type 0 where
   pub did :
-      Did clerkSight (ClerkRecords.records (w .clerk .words)) given f (clerkChange (plan .change)) (ClerkRecords.records (Clerk.made (w .clerk) plan .desk .words)) left
+      Did clerkSight (ClerkRecords.records (w .clerk .words)) given f (clerkChange (plan .change)) (ClerkRecords.records (Clerk.made (w .clerk) (w .count) plan .desk .words)) left
   pub whom : speaks clerkSight (w .clerkOrigins) (ClerkRecords.records (w .clerk .words)) given (clerkChange (plan .change)) ≡ l
   pub sends : sentBy (plan .outcome .sending) ≡ map (messageRead (l .it)) ms
   pub clear : AllClear (l .it) ms
@@ -236,7 +238,7 @@ module _ {p : R.Policy} {w : World} (g : Good p w) (down : List (Of Message)) (g
       ∙ sent-worded l (plan .outcome .sending) ms (told .sends)
 
   pub clerk-good :
-      {f : Found} {left : P.Held ClerkRecord.Record} {l : Of Elements} {ms : List R.Msg} → ClerkTold w given f plan left l ms → ClerkSound.Reached (Clerk.made (w .clerk) plan .desk) →
+      {f : Found} {left : P.Held ClerkRecord.Record} {l : Of Elements} {ms : List R.Msg} → ClerkTold w given f plan left l ms → ClerkSound.Reached (Clerk.made (w .clerk) (w .count) plan .desk) →
       Worded (Asked (w .history)) down → Grows (w .history) (clerkAfter .history) → Asked (clerkAfter .history) l →
       ((i : ℕ) → clerkChange (plan .change) ≡ storing i → Asked (clerkAfter .history) given) → Good p clerkAfter
   clerk-good {l = l} {ms} told reached heard grows its new =
@@ -323,7 +325,7 @@ module _ {p : R.Policy} {w : World} (g : Good p w) (down : List (Of Message)) (g
 -- a step of the line desk: what it did at a place, and what it sent for whom
 pub record LineTold (w : World) (given : Of Elements) (f : Found) (plan : LinePlans.Plan) (left : P.Held LineRecord.Record) (l : Of Elements) (ms : List R.Msg) : Type 0 where
   pub did :
-      Did lineSight (LineRecords.records (w .line .words)) given f (lineChange (plan .change)) (LineRecords.records (Line.made (w .line) plan .desk .words)) left
+      Did lineSight (LineRecords.records (w .line .words)) given f (lineChange (plan .change)) (LineRecords.records (Line.made (w .line) (w .count) plan .desk .words)) left
   pub whom : speaks lineSight (w .lineOrigins) (LineRecords.records (w .line .words)) given (lineChange (plan .change)) ≡ l
   pub sends : sentBy (plan .outcome .sending) ≡ map (messageRead (l .it)) ms
   pub clear : AllClear (l .it) ms
@@ -344,7 +346,7 @@ module _ {p : R.Policy} {w : World} (g : Good p w) (up : List (Of Message)) (giv
       ∙ sent-worded l (plan .outcome .sending) ms (told .sends)
 
   pub line-good :
-      {f : Found} {left : P.Held LineRecord.Record} {l : Of Elements} {ms : List R.Msg} → LineTold w given f plan left l ms → LineSound.Reached (Line.made (w .line) plan .desk) → policyOf (Line.made (w .line) plan .desk .words) ≡ p →
+      {f : Found} {left : P.Held LineRecord.Record} {l : Of Elements} {ms : List R.Msg} → LineTold w given f plan left l ms → LineSound.Reached (Line.made (w .line) (w .count) plan .desk) → policyOf (Line.made (w .line) (w .count) plan .desk .words) ≡ p →
       Worded (Asked (w .history)) up → Grows (w .history) (lineAfter .history) → Asked (lineAfter .history) l →
       ((i : ℕ) → lineChange (plan .change) ≡ storing i → Asked (lineAfter .history) given) → Good p lineAfter
   line-good {l = l} {ms} told reached settings heard grows its new =

@@ -12,11 +12,12 @@ use Rattle.clerk_table.specs.{Inputs.namesOf as clerkNames, declared.record.Rec
 use Rattle.line_table.specs.{Inputs.namesOf as lineNames, Record.activated, Search.marks, declared.inputs.Input.Input as LineInput}
 use Rattle.line_table.specs.declared.{record.Record.Record as LineRecord, table.State.State as LineState}
 use Rattle.clerk.specs.declared.entry.Entry.the-variants as ClerkEntry
+use Rattle.clerk.specs.declared.start.Lengths.{Lengths}
 use Rattle.clerk.specs.Steps as Clerk
 use Rattle.line.specs.declared.entry.Entry.the-variants as LineEntry
 use Rattle.line.specs.Steps as Line
 use Rattle.pair.specs.World.{Of, Naming, origins, identifiers, Note, takenUp, dropped, runOut, guarded, World, newLabel, labelOf, clerkHolds, lineHolds, messagesOf, clerkTouched, lineTouched, signalEntry}
-use Rattle.pair.specs.World.{Event, clerkDoes, lineDoes, clerkIsTold, clerkHears, lineHears, dropsUp, dropsDown, next, Allowed, Run, stop, then, startWorld, Reached, isRequest, Once, Apart}
+use Rattle.pair.specs.World.{Event, clerkDoes, lineDoes, clerkIsTold, clerkHears, lineHears, dropsUp, dropsDown, counts, next, Allowed, Run, stop, then, startWorld, Reached, isRequest, Once, Apart}
 
 -- the words that need no name for a request
 -- acknowledged: the connection choice is not empty
@@ -48,7 +49,7 @@ NoRequest [] = Unit
 NoRequest (m ∷ ms) = (isRequest (m .body) ≡ false) × NoRequest ms
 
 -- the request that a step is about, at most one: the one that an input at an end touches, a Look's too, or of which the signalling tells; or whose message is
--- delivered. A line report and a drop are about none
+-- delivered. A line report, a drop and another count are about none
 abbrev pub whom : World → Event → List (Of Identifier)
 whom w (clerkDoes input) = clerkTouched w (newLabel w (clerkNames input .identifier)) (ClerkEntry.Given input)
 whom w (lineDoes input) = lineTouched w (newLabel w (lineNames input .identifier)) (LineEntry.Given input)
@@ -57,6 +58,7 @@ whom w (clerkHears busy place) = map labelOf (take 1 (w .down))
 whom w (lineHears place) = map labelOf (take 1 (w .up))
 whom w (dropsUp i) = []
 whom w (dropsDown i) = []
+whom w (counts count) = []
 
 -- the same, except that a busy report of its line may mark the activity of an Invoked record (which are marked: `Reports` in line_sound)
 pub data Unaltered : Event → Held LineRecord → Held LineRecord → Type 0 where
@@ -98,7 +100,7 @@ module _ {K : Type 0} (n : Naming K) where
 
   abbrev pub AcknowledgedWasAccepted : (K → World → Event → Type 0) → Type 0
   AcknowledgedWasAccepted Holds =
-      (k : K) (given : List ℕ) (keep retain : Bool) → Bytes given → (w : World) (run : Run (Holds k) (startWorld given keep retain) w) →
+      (k : K) (lengths : Lengths) (given : List ℕ) (keep retain : Bool) → Bytes given → (w : World) (run : Run (Holds k) (startWorld lengths given keep retain) w) →
       (c : ClerkRecord) → clerkHolds n w k ≡ one c → Acknowledged c → Accepted k run
 
   -- ---- 2. while both hold it the data agree
@@ -161,8 +163,8 @@ module _ {K : Type 0} (n : Naming K) where
   abbrev pub CarriersFit : (K → World → Event → Type 0) → Type 0
   CarriersFit Holds =
       (k : K) (w : World) → Reached (Holds k) w → (x : Of Message) (rest : List (Of Message)) → n .key (labelOf x) ≡ k →
-      ((busy : Bool) (place : ℕ) → w .down ≡ x ∷ rest → Holds k w (clerkHears busy place) → Clerk.received (w .clerk) (x .it) busy place .outcome .refusal ≡ 8 → ⊥) ×
-      ((place : ℕ) → w .up ≡ x ∷ rest → Holds k w (lineHears place) → Line.received (w .line) (x .it) place .outcome .refusal ≡ 8 → ⊥)
+      ((busy : Bool) (place : ℕ) → w .down ≡ x ∷ rest → Holds k w (clerkHears busy place) → Clerk.received (w .clerk) (w .count) (x .it) busy place .outcome .refusal ≡ 8 → ⊥) ×
+      ((place : ℕ) → w .up ≡ x ∷ rest → Holds k w (lineHears place) → Line.received (w .line) (w .count) (x .it) place .outcome .refusal ≡ 8 → ⊥)
 
   pub record Claims (Holds : K → World → Event → Type 0) : Type 0 where
     pub acknowledgedWasAccepted : AcknowledgedWasAccepted Holds

@@ -1,2 +1,3 @@
 pub mod World
 pub mod Demand3
+pub mod Ticks

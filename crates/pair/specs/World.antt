@@ -13,6 +13,7 @@ use Rattle.clerk_table.specs.{Inputs.namesOf as clerkNames, declared.inputs.Inp
 use Rattle.clerk_records.specs.{Layout.places as clerkPlaces, Meaning.meaning as clerkMeaning, Records.records as clerkRecords}
 use Rattle.clerk_plan.specs.Plan as ClerkPlan
 use Rattle.clerk.specs.{Entry.messageEntry as clerkEntry, declared.Desk.Desk as ClerkDesk, declared.entry.Entry.Entry as ClerkEntry}
+use Rattle.clerk.specs.{Start.startedDesk as clerkStarted, declared.start.Lengths.Lengths}
 use Rattle.clerk.specs.Steps as Clerk
 use Rattle.clerk_sound.specs.Sound.{clerkView, Fair}
 use Rattle.line_table.specs.{Inputs.namesOf as lineNames, declared.inputs.Input.Input as LineInput, declared.record.Change.Change as LineChange, declared.record.Record.Record as LineRecord}
@@ -64,6 +65,8 @@ pub record World : Type 0 where
   pub lineOrigins : List ℕ
   pub down : List (Of Message)
   pub history : List Note
+  -- the count of seconds that a host gives with each step. It may become any between two steps, so the hosts of the two ends need not agree on it
+  pub count : ℕ
 
 -- a message's identifier, as the desks compare it
 abbrev pub nameOf : Message → Identifier
@@ -156,6 +159,8 @@ pub data Event : Type 0 where
   lineHears : ℕ → Event
   -- any message of a wire is dropped, by its place
   dropsUp dropsDown : ℕ → Event
+  -- the count is another one
+  counts : ℕ → Event
 
 -- what an outcome sends, a reply too
 abbrev pub sentBy : Sending → List Message
@@ -182,19 +187,19 @@ lineNotes (LineInput.Look number) ls = []
 -- sent is for them; a reply is for the message that is refused
 abbrev pub clerkStepped : World → List (Of Message) → Of Identifier → ClerkEntry → (List (Of Identifier) → List Note) → World
 clerkStepped w down given entry notes =
-    let step = Clerk.entered (w .clerk) entry in
+    let step = Clerk.entered (w .clerk) (w .count) entry in
     let whom = clerkTouched w given entry in
     let os = originsAfter (clerkTouch (w .clerk) entry) (given .origin) (w .clerkOrigins) in
     let sent = map (from (getD whom 0 given .origin)) (sentBy (step .outcome .sending)) in
-    record { clerk = step .desk; clerkOrigins = os; up = w .up ++ sent; line = w .line; lineOrigins = w .lineOrigins; down = down; history = notes whom ++ w .history }
+    record { clerk = step .desk; clerkOrigins = os; up = w .up ++ sent; line = w .line; lineOrigins = w .lineOrigins; down = down; history = notes whom ++ w .history; count = w .count }
 
 abbrev pub lineStepped : World → List (Of Message) → Of Identifier → LineEntry → (List (Of Identifier) → List Note) → World
 lineStepped w up given entry notes =
-    let step = Line.entered (w .line) entry in
+    let step = Line.entered (w .line) (w .count) entry in
     let whom = lineTouched w given entry in
     let os = originsAfter (lineTouch (w .line) entry) (given .origin) (w .lineOrigins) in
     let sent = map (from (getD whom 0 given .origin)) (sentBy (step .outcome .sending)) in
-    record { clerk = w .clerk; clerkOrigins = w .clerkOrigins; up = up; line = step .desk; lineOrigins = os; down = w .down ++ sent; history = notes whom ++ w .history }
+    record { clerk = w .clerk; clerkOrigins = w .clerkOrigins; up = up; line = step .desk; lineOrigins = os; down = w .down ++ sent; history = notes whom ++ w .history; count = w .count }
 
 -- the head is delivered, refused or not; an empty wire delivers nothing
 unfoldable pub clerkHeard : World → Bool → ℕ → List (Of Message) → World
@@ -218,9 +223,10 @@ signalEntry signal name busy = ClerkEntry.Given (ClerkInput.Message (signalLette
 abbrev pub lostAt : ℕ → List (Of Message) → List Note
 lostAt i wire = map (λ x. dropped (labelOf x)) (take 1 (drop i wire))
 
-abbrev pub lossy : World → List (Of Message) → List (Of Message) → List Note → World
-lossy w up down notes =
-    record { clerk = w .clerk; clerkOrigins = w .clerkOrigins; up = up; line = w .line; lineOrigins = w .lineOrigins; down = down; history = notes ++ w .history }
+-- the world with other wires and another count, which leaves both desks as they are
+abbrev pub lossy : World → List (Of Message) → List (Of Message) → List Note → ℕ → World
+lossy w up down notes count =
+    record { clerk = w .clerk; clerkOrigins = w .clerkOrigins; up = up; line = w .line; lineOrigins = w .lineOrigins; down = down; history = notes ++ w .history; count = count }
 
 -- what a host puts in has the label of an ask that is taken now: it counts only if it is one
 unfoldable pub next : World → Event → World
@@ -229,8 +235,9 @@ next w (lineDoes input) = lineStepped w (w .up) (newLabel w (lineNames input .id
 next w (clerkIsTold signal name busy) = clerkStepped w (w .down) (newLabel w (name .identifier)) (signalEntry signal name busy) (λ whom. [])
 next w (clerkHears busy place) = clerkHeard w busy place (w .down)
 next w (lineHears place) = lineHeard w place (w .up)
-next w (dropsUp i) = lossy w (take i (w .up) ++ drop (suc i) (w .up)) (w .down) (lostAt i (w .up))
-next w (dropsDown i) = lossy w (w .up) (take i (w .down) ++ drop (suc i) (w .down)) (lostAt i (w .down))
+next w (dropsUp i) = lossy w (take i (w .up) ++ drop (suc i) (w .up)) (w .down) (lostAt i (w .up)) (w .count)
+next w (dropsDown i) = lossy w (w .up) (take i (w .down) ++ drop (suc i) (w .down)) (lostAt i (w .down)) (w .count)
+next w (counts count) = lossy w (w .up) (w .down) [] count
 
 -- ---- runs
 pub record Allowed (w : World) (e : Event) : Type 0 where
@@ -245,14 +252,14 @@ pub data Run (Holds : World → Event → Type 0) (first : World) : World → Ty
   stop : Run Holds first first
   then : {w : World} → Run Holds first w → (e : Event) → Allowed w e → Holds w e → Run Holds first (next w e)
 
--- two desks started empty, the line desk with any lines and settings; where these are refused, a desk without lines, which no host is given
-abbrev pub startWorld : List ℕ → Bool → Bool → World
-startWorld given keep retain =
-    record { clerk = Clerk.startedDesk; clerkOrigins = replicate clerkPlaces 0; up = []; line = lineStarted given keep retain .desk; lineOrigins = replicate linePlaces 0; down = []; history = [] }
+-- two desks started empty, the clerk's with any lengths of its timers, the line desk with any lines and settings; where these are refused, a desk without lines, which no host is given
+abbrev pub startWorld : Lengths → List ℕ → Bool → Bool → World
+startWorld lengths given keep retain =
+    record { clerk = clerkStarted lengths; clerkOrigins = replicate clerkPlaces 0; up = []; line = lineStarted given keep retain .desk; lineOrigins = replicate linePlaces 0; down = []; history = []; count = 0 }
 
 -- a world of a run from the start
 pub data Reached (Holds : World → Event → Type 0) (w : World) : Type 0 where
-  reached : (given : List ℕ) (keep retain : Bool) → Bytes given → Run Holds (startWorld given keep retain) w → Reached Holds w
+  reached : (lengths : Lengths) (given : List ℕ) (keep retain : Bool) → Bytes given → Run Holds (startWorld lengths given keep retain) w → Reached Holds w
 
 -- ---- premises of a run
 -- none
@@ -262,7 +269,7 @@ Any w e = Unit
 -- every ask that is taken has an identifier, and one that none before it had
 abbrev pub Once : World → Event → Type 0
 Once w e =
-    (names : Names) (q : Request) → e ≡ clerkDoes (ClerkInput.Ask names q) → Clerk.step (w .clerk) (ClerkInput.Ask names q) .outcome .refusal ≡ 0 →
+    (names : Names) (q : Request) → e ≡ clerkDoes (ClerkInput.Ask names q) → Clerk.step (w .clerk) (w .count) (ClerkInput.Ask names q) .outcome .refusal ≡ 0 →
     (names .identifier ≡ Absent → ⊥) × ((o : ℕ) → Noted (takenUp (from o (names .identifier))) (w .history) → ⊥)
 
 -- types 1 and 2, whose numbers are below 3

@@ -36,11 +36,11 @@ use Rattle.line_table.specs.declared.inputs.Input.the-variants as AtLine
 use Rattle.line_records.specs.Records.{records as lineRecords}
 use Rattle.line_sound.specs.Sound.{lineView}
 use Rattle.line_sound.proofs.Starting as LineStart
-use Rattle.pair.specs.World.{Of, from, alike, origins, identifiers, Note, World, Event, clerkDoes, lineDoes, clerkIsTold, clerkHears, lineHears, dropsUp, dropsDown, next, Allowed, Run, stop, then, reached, Any, Once, clerkMeans, lineMeans, Apart, byPlace, Rightly}
+use Rattle.pair.specs.World.{Of, from, alike, origins, identifiers, Note, World, Event, clerkDoes, lineDoes, clerkIsTold, clerkHears, lineHears, dropsUp, dropsDown, counts, next, Allowed, Run, stop, then, reached, Any, Once, clerkMeans, lineMeans, Apart, byPlace, Rightly}
 use Rattle.pair.specs.Demand3.{Told}
 use Rattle.pair.proofs.Keys.{identifiers-tell, key-same}
 use Rattle.pair.proofs.Letters.{flags-sent}
-use Rattle.pair_runs.specs.Runs.{play, kindOf, whose, has, Row, oneLine, start, EachReached}
+use Rattle.pair_runs.specs.Runs.{play, kindOf, whose, has, Row, usual, oneLine, start, EachReached}
 
 -- ---- the bytes of the line that is given
 abbrev pub allBytes : List ℕ → Bool
@@ -139,7 +139,7 @@ undropped w identifier e told = has-not Note.dropped 1 (λ l. (refl, refl)) iden
 
 -- an ask that is not refused takes up an identifier that was not taken up before
 abbrev once : World → Names → Request → Bool
-once w names q = pick (eqb (Clerk.step (w .clerk) (AtClerk.Ask names q) .outcome .refusal) 0) (both (isIdentified (names .identifier)) (not (has 0 (names .identifier) (w .history)))) true
+once w names q = pick (eqb (Clerk.step (w .clerk) (w .count) (AtClerk.Ask names q) .outcome .refusal) 0) (both (isIdentified (names .identifier)) (not (has 0 (names .identifier) (w .history)))) true
 
 once-so : (take given had : Bool) → pick take (both given (not had)) true ≡ true → take ≡ true → (given ≡ true) × (had ≡ false)
 once-so true given had e t = (both-parts given (not had) e .0, by had (both-parts given (not had) e .1))
@@ -165,6 +165,7 @@ allowed w (clerkHears busy place) = true
 allowed w (lineHears place) = true
 allowed w (dropsUp i) = true
 allowed w (dropsDown i) = true
+allowed w (counts count) = true
 
 pub allowed-told : (w : World) (e : Event) → allowed w e ≡ true → Allowed w e
 allowed-told w e so =
@@ -185,11 +186,12 @@ new w (clerkHears busy place) = true
 new w (lineHears place) = true
 new w (dropsUp i) = true
 new w (dropsDown i) = true
+new w (counts count) = true
 
 pub new-told : (w : World) (e : Event) → new w e ≡ true → Once w e
 new-told w e so names q is taken =
     let had =
-    once-so (eqb (Clerk.step (w .clerk) (AtClerk.Ask names q) .outcome .refusal) 0) (isIdentified (names .identifier)) (has 0 (names .identifier) (w .history)) (subst (λ (x : Event). new w x ≡ true) is so) (eq-eqb _ 0 taken) in (
+    once-so (eqb (Clerk.step (w .clerk) (w .count) (AtClerk.Ask names q) .outcome .refusal) 0) (isIdentified (names .identifier)) (has 0 (names .identifier) (w .history)) (subst (λ (x : Event). new w x ≡ true) is so) (eq-eqb _ 0 taken) in (
       λ absent. false≢true (sym (ap isIdentified absent) ∙ had .0),
       λ o noted. has-not Note.takenUp 0 (λ l. (refl, refl)) (names .identifier) (w .history) (had .1) (from o (names .identifier)) refl noted,
     )
@@ -305,6 +307,7 @@ apart o w (clerkHears busy place) = rightHead clerkView o (w .clerkOrigins) (cle
 apart o w (lineHears place) = rightHead lineView o (w .lineOrigins) (lineRecords (w .line .words)) place (λ m. lineMeans w m place) (w .up)
 apart o w (dropsUp i) = true
 apart o w (dropsDown i) = true
+apart o w (counts count) = true
 
 apart-told : (o : ℕ) (w : World) (e : Event) → apart o w e ≡ true → Apart o w e
 apart-told o w e so =
@@ -334,4 +337,4 @@ unfolding allRun
 each-reached retain [] so = tt
 each-reached retain (r ∷ rs) so =
     let parts = both-parts (runs (start retain) (r .events)) (allRun retain rs) so in
-    (reached oneLine true retain (bytes-told oneLine refl) (run-told (start retain) (r .events) stop (parts .0)), each-reached retain rs (parts .1))
+    (reached usual oneLine true retain (bytes-told oneLine refl) (run-told (start retain) (r .events) stop (parts .0)), each-reached retain rs (parts .1))

@@ -29,10 +29,10 @@ use Rattle.line_table.specs.declared.record.Record as LineRecord
 use Rattle.line_table.specs.declared.table.State.{State}
 use Rattle.line_table.specs.declared.table.State.the-variants as LineState
 use Rattle.line_records.specs.Records as LineRecords
-use Rattle.pair.specs.World.{Of, Note, from, origins, identifiers, World, Event, clerkDoes, lineDoes, clerkIsTold, clerkHears, lineHears, dropsUp, dropsDown, clerkHolds, lineHolds, next, Allowed, Run, stop, then, Reached, reached, Any, Once, clerkMeans, lineMeans}
+use Rattle.pair.specs.World.{Of, Note, from, origins, identifiers, World, Event, clerkDoes, lineDoes, clerkIsTold, clerkHears, lineHears, dropsUp, dropsDown, counts, clerkHolds, lineHolds, next, Allowed, Run, stop, then, Reached, reached, Any, Once, clerkMeans, lineMeans}
 use Rattle.pair.specs.Demand3.{Accepted, Stores, Unaltered, same, marked, Listed, no-record, invoked, wait-answer, suspended, ringout}
 use Rattle.pair_runs.specs.Refuted as Wrong
-use Rattle.pair_runs.specs.Runs.{play, first, numberB, oneLine, start, asks, clerkActs, lineReports, stored, acknowledged, wentOn, noReply, noReplyBusy, noReplyLost, lineFell, runOut, deserted, rejection, reused, reusedLate, called, named, clerkGets, lineGets, nowhere, nameless, misplaced}
+use Rattle.pair_runs.specs.Runs.{play, first, numberB, usual, oneLine, start, asks, clerkActs, lineReports, stored, acknowledged, wentOn, noReply, noReplyBusy, noReplyLost, lineFell, runOut, deserted, rejection, reused, reusedLate, called, named, clerkGets, lineGets, nowhere, nameless, misplaced}
 use Rattle.pair_runs.proofs.Allowed.{passes, passes-told, bytes-told, undropped, allowed, allowed-told, new-told, goes-told, alikeAt, alike-at}
 use Rattle.pair_runs.proofs.Runs.{all, reach, heldOr, someone, held-one, not-listed, not-empty}
 
@@ -60,6 +60,7 @@ hears (clerkHears busy place) = false
 hears (lineHears place) = true
 hears (dropsUp i) = false
 hears (dropsDown i) = false
+hears (counts count) = false
 
 abbrev asked : List Event
 asked = asks Ccbs true first ∷ []
@@ -73,7 +74,7 @@ unfolding play passes Accepted all
 accepted-though-waiting wrong =
     let run : Run Once (start false) (at asked) = then stop (asks Ccbs true first) (allowed-told (start false) (asks Ccbs true first) refl) (new-told (start false) (asks Ccbs true first) refl) in
     not-heard (start false) (asks Ccbs true first) refl
-    (wrong oneLine true false (bytes-told oneLine refl) (at asked) run (called first) (clerkAt asked) (clerk-holds asked refl))
+    (wrong usual oneLine true false (bytes-told oneLine refl) (at asked) run (called first) (clerkAt asked) (clerk-holds asked refl))
 
 -- ---- 2. a request that is stored, its result under way
 abbrev keepSettled : Keep → Bool
@@ -243,7 +244,7 @@ pub accepted-though-mixed : Wrong.AcceptedThoughMixed → ⊥
 unfolding play all
 accepted-though-mixed wrong =
     let h = clerkHolds origins (at reused) 1 in
-    not-accepted (wrong 1 oneLine true false (bytes-told oneLine refl) (at reused) mixed-run (heldOr ClerkRecords.blank h) (held-one ClerkRecords.blank h refl) (not-empty Connection.Rls refl))
+    not-accepted (wrong 1 usual oneLine true false (bytes-told oneLine refl) (at reused) mixed-run (heldOr ClerkRecords.blank h) (held-one ClerkRecords.blank h refl) (not-empty Connection.Rls refl))
 
 -- of the first request, and not of the second
 not-second : Noted {A = ℕ} 1 (0 ∷ []) → ⊥
@@ -258,7 +259,7 @@ pub altered-though-mixed : Wrong.AlteredThoughMixed → ⊥
 unfolding play passes all
 altered-though-mixed wrong =
     let w = at reusedLate in
-    let reach : Reached Any w = reached oneLine true false (bytes-told oneLine refl) (goes-told (start false) reusedLate stop refl) in
+    let reach : Reached Any w = reached usual oneLine true false (bytes-told oneLine refl) (goes-told (start false) reusedLate stop refl) in
     true≢false (sym (ap someone (wrong 1 w reach (clerkGets false) (allowed-told w (clerkGets false) refl) tt (λ about. not-second about) .0)))
 
 -- ---- requests without identifiers: a ccCancel in Setup of the first, which is gone at the clerk's end, ends the second
@@ -273,6 +274,7 @@ unnamed w (clerkHears busy place) = true
 unnamed w (lineHears place) = true
 unnamed w (dropsUp i) = true
 unnamed w (dropsDown i) = true
+unnamed w (counts count) = true
 
 unnamed-told : (w : World) (e : Event) → unnamed w e ≡ true → Wrong.OnceIfGiven w e
 unnamed-told w e so names q is given o noted = given (by (names .identifier) (subst (λ (x : Event). unnamed w x ≡ true) is so))
@@ -286,7 +288,7 @@ unfolding play passes all
 altered-though-nameless wrong =
     let w = at nameless in
     let e = clerkHears false nowhere in
-    let reach : Reached Wrong.OnceIfGiven w = reached oneLine true false (bytes-told oneLine refl) (passes-told Wrong.OnceIfGiven unnamed unnamed-told (start false) nameless stop refl) in
+    let reach : Reached Wrong.OnceIfGiven w = reached usual oneLine true false (bytes-told oneLine refl) (passes-told Wrong.OnceIfGiven unnamed unnamed-told (start false) nameless stop refl) in
     true≢false (sym (ap someone (wrong 1 w reach e (allowed-told w e refl) (unnamed-told w e refl) (λ about. not-second about) .0)))
 
 -- ---- a place that is no record's: the result is answered as if the request were gone, and so is that answer
@@ -302,6 +304,7 @@ meansApart o w (clerkHears busy place) = headAlike o (w .clerkOrigins) (λ m. cl
 meansApart o w (lineHears place) = headAlike o (w .lineOrigins) (λ m. lineMeans w m place) (w .up)
 meansApart o w (dropsUp i) = true
 meansApart o w (dropsDown i) = true
+meansApart o w (counts count) = true
 
 means-apart-told : (o : ℕ) (w : World) (e : Event) → meansApart o w e ≡ true → Wrong.MeansApart o w e
 means-apart-told o w e so =
@@ -345,7 +348,7 @@ pub quiet-though-misplaced : Wrong.QuietThoughMisplaced → ⊥
 unfolding play passes all
 quiet-though-misplaced wrong =
     let w = at misplaced in
-    let reach : Reached (Wrong.MeansApart 0) w = reached oneLine true false (bytes-told oneLine refl) (passes-told (Wrong.MeansApart 0) (meansApart 0) (means-apart-told 0) (start false) misplaced stop refl) in
+    let reach : Reached (Wrong.MeansApart 0) w = reached usual oneLine true false (bytes-told oneLine refl) (passes-told (Wrong.MeansApart 0) (meansApart 0) (means-apart-told 0) (start false) misplaced stop refl) in
     true≢false (listed-answered (wrong 0 w reach (record { undropped = λ told. not-dropped (told .0) _ (told .1 .1); up = refl; down = refl })))
 
 pub refuted : Wrong.Refuted

@@ -21,6 +21,9 @@ use Rattle.clerk_table.specs.Step as ClerkStep
 use Rattle.clerk_table.specs.declared.record.Record as ClerkRecord
 use Rattle.clerk_records.specs.Codes as ClerkCodes
 use Rattle.clerk_records.specs.Records as ClerkRecords
+use Rattle.clerk_records.specs.Deadlines as ClerkDeadlines
+use Rattle.line_records.specs.Deadlines as LineDeadlines
+use Rattle.clock.specs.Clock.{deadlineOf}
 use Rattle.clerk_records.specs.Meaning as ClerkMeaning
 use Rattle.clerk_plan.specs.Plan as ClerkPlan
 use Rattle.clerk.specs.Entry as ClerkEntry
@@ -39,12 +42,12 @@ use Rattle.line.specs.Entry as LineEntry
 use Rattle.line.specs.Steps as Line
 use Rattle.pair.specs.World.{from, origins, identifiers, World, Event, heldOf, clerkHolds, lineHolds, Reached, reached, Once, Apart, stop, messagesOf, clerkHeard, lineHeard, next}
 use Rattle.pair.specs.Demand3.{Listed, no-record, invoked, wait-answer, suspended, ringout}
-use Rattle.pair_runs.specs.Runs.{has, RowsShown, KindsShown, FallsShown, Shown, TableReached, Premises, Unlisted, LeftOut, play, seen, kindsSeen, kinds, marksSeen, falls, pairs, answers, losses, signals, table, first, oneLine, start, stored, acknowledged, ringing, over, usedAgain, called, namelessAlone}
+use Rattle.pair_runs.specs.Runs.{has, RowsShown, KindsShown, FallsShown, Shown, TableReached, Premises, Unlisted, LeftOut, play, seen, kindsSeen, kinds, marksSeen, falls, pairs, answers, losses, signals, table, first, usual, oneLine, start, stored, acknowledged, ringing, over, usedAgain, called, namelessAlone}
 use Rattle.pair_runs.proofs.Allowed.{passes, bytes-told, undropped, runs, run-told, keeps, keeps-told, allRun, each-reached}
 
 -- all that a run computes with: who names this unfolds every definition on its line
 unfoldable pub all : Bool
-unfolding firstFrom count identifierOf fits oldest word octets wordsOf bytesOf sameWords numberAt fieldAt scanAt digitsAt digitsInRange inRange rows putRow turnRow dropRow rowsFit removedRow numberWords letterOf messageOf carrierFits kindOf keepOf connectionOf termsOf without ClerkStep.rowTaken ClerkCodes.stateOf ClerkRecords.recordOf ClerkRecords.records ClerkRecords.meant ClerkMeaning.elementsMean ClerkMeaning.meaning ClerkMeaning.named ClerkRecords.place ClerkRecords.applied ClerkPlan.decided ClerkPlan.planOf ClerkPlan.planFor ClerkEntry.messageEntry Clerk.step Clerk.entered LineStep.rowTaken LineCodes.stateOf LineRecords.recordOf LineRecords.records LineRecords.meant LineMeaning.elementsMean LineMeaning.meaning LineMeaning.named LineRecords.place LineRecords.putRecord LineRecords.turnRecord LineRecords.removed Lines.lineOf Lines.lines Lines.lineAt Lines.overLine Lines.putLine Lines.keeps Lines.retains Lines.withSettings Change.markPlace Change.marked Change.statusStored Change.withReport Change.applied Decide.takesCall Decide.recordDecision Decide.countedDecision Decide.admittedDecision Decide.requestDecision Decide.messageDecision Decide.ownDecision Decide.offerAt Decide.lookDecision Decide.reportDecision Decide.decided LinePlan.planOf LinePlan.planFor Start.goodLine Start.lineTaken Start.takeLines Start.started LineEntry.messageEntry Line.step Line.entered heldOf messagesOf has clerkHeard lineHeard next
+unfolding firstFrom count identifierOf fits oldest word octets wordsOf bytesOf sameWords numberAt fieldAt scanAt digitsAt digitsInRange inRange rows putRow turnRow dropRow rowsFit removedRow numberWords letterOf messageOf carrierFits kindOf keepOf connectionOf termsOf without ClerkStep.rowTaken ClerkCodes.stateOf ClerkRecords.recordOf ClerkRecords.records ClerkRecords.meant ClerkMeaning.elementsMean ClerkMeaning.meaning ClerkMeaning.named ClerkRecords.place ClerkRecords.applied ClerkDeadlines.startedAt ClerkDeadlines.timed LineDeadlines.startedAt LineDeadlines.timed deadlineOf ClerkPlan.decided ClerkPlan.planOf ClerkPlan.planFor ClerkEntry.messageEntry Clerk.step Clerk.entered LineStep.rowTaken LineCodes.stateOf LineRecords.recordOf LineRecords.records LineRecords.meant LineMeaning.elementsMean LineMeaning.meaning LineMeaning.named LineRecords.place LineRecords.putRecord LineRecords.turnRecord LineRecords.removed Lines.lineOf Lines.lines Lines.lineAt Lines.overLine Lines.putLine Lines.keeps Lines.retains Lines.withSettings Change.markPlace Change.marked Change.statusStored Change.withReport Change.applied Decide.takesCall Decide.recordDecision Decide.countedDecision Decide.admittedDecision Decide.requestDecision Decide.messageDecision Decide.ownDecision Decide.offerAt Decide.lookDecision Decide.reportDecision Decide.decided LinePlan.planOf LinePlan.planFor Start.goodLine Start.lineTaken Start.takeLines Start.started LineEntry.messageEntry Line.step Line.entered heldOf messagesOf has clerkHeard lineHeard next
 all = true
 
 pub pairs-shown : RowsShown pairs
@@ -109,7 +112,7 @@ held-one other none so = absurd (false≢true so)
 held-one other (one r) so = refl
 
 pub reach : (retain : Bool) (es : List Event) → runs (start retain) es ≡ true → Reached Once (play (start retain) es)
-reach retain es so = reached oneLine true retain (bytes-told oneLine refl) (run-told (start retain) es stop so)
+reach retain es so = reached usual oneLine true retain (bytes-told oneLine refl) (run-told (start retain) es stop so)
 
 abbrev settled : World
 settled = play (start false) acknowledged
@@ -124,7 +127,7 @@ abbrev again : World
 again = play (start false) usedAgain
 
 apart-again : (o : ℕ) → keeps o (start false) usedAgain ≡ true → Reached (Apart o) again
-apart-again o so = reached oneLine true false (bytes-told oneLine refl) (keeps-told o (start false) usedAgain stop so)
+apart-again o so = reached usual oneLine true false (bytes-told oneLine refl) (keeps-told o (start false) usedAgain stop so)
 
 abbrev alone : World
 alone = play (start false) namelessAlone
@@ -163,7 +166,7 @@ premises =
         request = tt;
       };
       nameless = record {
-        apart = reached oneLine true false (bytes-told oneLine refl) (keeps-told 0 (start false) namelessAlone stop refl);
+        apart = reached usual oneLine true false (bytes-told oneLine refl) (keeps-told 0 (start false) namelessAlone stop refl);
         c = heldOr ClerkRecords.blank (clerkHolds origins alone 0);
         l = heldOr LineRecords.blank (lineHolds origins alone 0);
         clerk = held-one ClerkRecords.blank (clerkHolds origins alone 0) refl;

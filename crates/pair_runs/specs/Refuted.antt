@@ -4,6 +4,7 @@ use mathlib.Core.Path.{_≡_}
 use mathlib.Core.Bool.{Bool, false}
 use mathlib.Core.List.{List, [], _∷_, List·Memᴰ as Noted}
 use lib.ListN.{getD}
+use Rattle.clerk.specs.declared.start.Lengths.{Lengths}
 use Rattle.message.specs.declared.Message.{Message}
 use Rattle.lists.specs.Words.{Bytes}
 use Rattle.lists.specs.declared.words.Words.{Words}
@@ -23,7 +24,7 @@ use Rattle.pair.specs.Demand3.{Told, Accepted, Listed, Quiet, NoRequest, About,
 -- ---- 1. without "acknowledged"
 abbrev pub AcceptedThoughWaiting : Type 0
 AcceptedThoughWaiting =
-    (given : List ℕ) (keep retain : Bool) → Bytes given → (w : World) (run : Run Once (startWorld given keep retain) w) →
+    (lengths : Lengths) (given : List ℕ) (keep retain : Bool) → Bytes given → (w : World) (run : Run Once (startWorld lengths given keep retain) w) →
     (identifier : Identifier) (c : ClerkRecord.Record) → clerkHolds identifiers w identifier ≡ one c → Accepted identifiers identifier run
 
 -- ---- 2. keep choice and connection choice without "once acknowledged"

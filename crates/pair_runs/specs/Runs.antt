@@ -29,6 +29,7 @@ use Rattle.clerk_table.specs.declared.table.State.the-variants as ClerkState
 use Rattle.clerk_table.specs.declared.table.Timer.{Timer}
 use Rattle.clerk_table.specs.declared.table.Timer.the-variants.{T1, T2, T3}
 use Rattle.clerk_records.specs.Codes as ClerkCodes
+use Rattle.clerk.specs.declared.start.Lengths.{Lengths}
 use Rattle.clerk.specs.Entry.{askNames, askRequest}
 use Rattle.clerk.specs.declared.entry.Asking.{Asking}
 use Rattle.line_table.specs.declared.inputs.Act as LineAct
@@ -159,9 +160,13 @@ asking identified kind canKeep identifier =
 abbrev pub oneLine : List ℕ
 oneLine = numberB ++ (3 ∷ [])
 
+-- the clerk's timers, in seconds
+abbrev pub usual : Lengths
+usual = record { t1 = 20; t2Ccbs = 900; t2Ccnr = 3600; t3 = 20 }
+
 -- the line desk keeps requests; it retains connections by default, or releases them
 abbrev pub start : Bool → World
-start retain = startWorld oneLine true retain
+start retain = startWorld usual oneLine true retain
 
 -- what a host puts in at each end, as the entry makes it of these bytes; the line is always the one
 abbrev pub asks : Kind → Bool → List ℕ → Event

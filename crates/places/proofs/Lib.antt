@@ -4,3 +4,4 @@ pub mod Counting
 pub mod Ordering
 pub mod Holding
 pub mod Moving
+pub mod Passing

@@ -3,7 +3,7 @@ use Prim.Native.Nat.{ℕ, zero, suc, _+_, _≤_, _<_}
 use mathlib.Core.Path.{_≡_, refl, sym, ap, ap₂, _∙_, subst}
 use mathlib.Core.Bool.{Bool, true, false}
 use mathlib.Core.List.{List, [], _∷_, map}
-use lib.ListN.{length, set, List·getD-eq-default}
+use lib.ListN.{length, getD, set, List·getD-eq-default}
 use lib.Seq.{getD-set-same, getD-set-other}
 use lib.Dec.{ltb, eqb}
 use native.Mathlib.Omega.{arith}
@@ -53,6 +53,17 @@ pub shift-never : (i j : ℕ) → shift i j ≡ i → ⊥
 shift-never i j =
     pick-elim (λ x. x ≡ i → ⊥) (ltb j i) (λ t e. omega (arith, ltb-true j i t)) (λ f e. omega (arith, ltb-false j i f))
 
+-- from the place on the one behind has moved up
+pub moved-up : {A : Type 0} (z : A) (l : List A) (i j : ℕ) → i ≤ j → getD (without z l i) j z ≡ getD l (j + 1) z
+moved-up z l i j h = by (ltb j (length l)) refl
+  where
+    by : (b : Bool) → ltb j (length l) ≡ b → getD (without z l i) j z ≡ getD l (j + 1) z
+    by true t = getD-without-behind z l i j z h (ltb-true j (length l) t)
+    by false f =
+        let past : length l ≤ j = ltb-false j (length l) f in
+        let over : length (without z l i) ≤ j = omega (arith, without-length z l i) in
+        List·getD-eq-default (without z l i) z over ∙ sym (List·getD-eq-default l z (omega arith))
+
 module _ {A : Type 0} (v : View A) where
   -- ---- places
   -- past its end a list reads as blank
@@ -94,18 +105,11 @@ module _ {A : Type 0} (v : View A) where
       decide false f = subst P (sym (getD-set-other rs i j r (v .blank) (eqb-false j i f))) (there (eqb-false j i f))
 
   -- what a place holds after a removal
-  moved : (rs : List A) (i j : ℕ) → i ≤ j → (b : Bool) → ltb j (length rs) ≡ b → at v (without (v .blank) rs i) j ≡ at v rs (j + 1)
-  moved rs i j h true t = getD-without-behind (v .blank) rs i j (v .blank) h (ltb-true j (length rs) t)
-  moved rs i j h false f =
-      let past : length rs ≤ j = ltb-false j (length rs) f in
-      let over : length (without (v .blank) rs i) ≤ j = omega (arith, without-length (v .blank) rs i) in
-      at-past (without (v .blank) rs i) j over ∙ sym (at-past rs (j + 1) (omega arith))
-
   pub at-without : (rs : List A) (i j : ℕ) → at v (without (v .blank) rs i) j ≡ at v rs (shift i j)
   at-without rs i j =
       pick-elim (λ n. at v (without (v .blank) rs i) j ≡ at v rs n) (ltb j i)
       (λ t. getD-without-before (v .blank) rs i j (v .blank) (ltb-true j i t))
-      (λ f. moved rs i j (ltb-false j i f) (ltb j (length rs)) refl)
+      (λ f. moved-up (v .blank) rs i j (ltb-false j i f))
 
   -- what a place holds after a change of all
   pub at-map : (rs : List A) (f : A → A) → f (v .blank) ≡ v .blank → (i : ℕ) → at v (map f rs) i ≡ f (at v rs i)

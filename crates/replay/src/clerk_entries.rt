@@ -1,5 +1,7 @@
 // The clerk's codes: an entry of the script is read as what the desk's door takes, and that is played on the desk's words and printed.
 use crate::clerk_lines::print_clerk;
+use crate::defaults::COUNT;
+use crate::defaults::default_lengths;
 use crate::fields::behind;
 use crate::fields::behind_identifier;
 use crate::fields::behind_name;
@@ -21,7 +23,7 @@ use clerk::entry::Entry;
 use clerk::entry::ask_entry;
 use clerk::entry::bytes_entry;
 use clerk::on_words::step;
-use clerk::steps::start;
+use clerk::start::start;
 use clerk_records::WORDS;
 use host_numbers::given::clerk_act_given;
 use host_numbers::given::timer_given;
@@ -32,7 +34,7 @@ use printing::part;
 
 // What the desk is given. The next entry is told.
 fn play_given(entry: Entry, next: usize, number: usize, words: &mut [u64; WORDS]) -> Next {
-    let outcome = step(words, entry);
+    let outcome = step(words, COUNT, entry);
     print_outcome(number, outcome, 0, Found::Nothing);
     Next::At(next)
 }
@@ -124,7 +126,7 @@ fn play_heard(
     let entry = read.entry;
     let fault = read.fault;
     let left = left_of(bytes.len(), read.next);
-    let outcome = step(words, entry);
+    let outcome = step(words, COUNT, entry);
     print_outcome(number, outcome, left, fault);
     Next::At(next)
 }
@@ -216,10 +218,16 @@ fn play_named(code: u8, script: &[u8], at: usize, number: usize, words: &mut [u6
     }
 }
 
+// The words of the program's start, and of each start by a script. The default lengths are in range, so that it is never refused.
+pub fn first_words() -> [u64; WORDS] {
+    let step = start(default_lengths());
+    let d = step.desk;
+    d.words
+}
+
 // Code 2.
 fn play_start(next: usize, number: usize, words: &mut [u64; WORDS]) -> Next {
-    let d = start();
-    let kept = d.words;
+    let kept = first_words();
     *words = kept;
     print_started(number);
     Next::At(next)

@@ -1,4 +1,5 @@
 // The line desk's codes: an entry of the script is read as what the desk's door takes, and that is played on the desk's words and printed.
+use crate::defaults::COUNT;
 use crate::fields::behind;
 use crate::fields::behind_name;
 use crate::fields::behind_run;
@@ -28,7 +29,7 @@ use printing::part;
 
 // What the desk is given. The next entry is told.
 fn play_given(entry: Entry, next: usize, number: usize, words: &mut [u64; WORDS]) -> Next {
-    let outcome = step(words, entry);
+    let outcome = step(words, COUNT, entry);
     print_outcome(number, outcome, 0, Found::Nothing);
     Next::At(next)
 }
@@ -44,7 +45,7 @@ fn play_heard(
     let entry = read.entry;
     let fault = read.fault;
     let left = left_of(bytes.len(), read.next);
-    let outcome = step(words, entry);
+    let outcome = step(words, COUNT, entry);
     print_outcome(number, outcome, left, fault);
     Next::At(next)
 }

@@ -3,6 +3,7 @@
 mod clerk_entries;
 mod clerk_lines;
 mod codec;
+mod defaults;
 mod fields;
 mod line_entries;
 mod line_lines;
@@ -15,12 +16,10 @@ mod script;
 use crate::clerk_entries::play_clerk;
 use crate::codec::play_write;
 use crate::fields::byte_in;
-use crate::line_entries::first_words;
 use crate::line_entries::play_line;
 use crate::output::print_line;
 use crate::output::put_numbers;
 use crate::script::Next;
-use clerk::steps::start;
 use libc::STDIN_FILENO;
 use printing::blank_page;
 use printing::part;
@@ -72,9 +71,8 @@ fn play_at(
 
 // Every entry from the script's first byte on. An entry takes a byte or more, so that a script never has more entries than bytes.
 fn play(script: &[u8]) {
-    let clerkDesk = start();
-    let mut clerkWords = clerkDesk.words;
-    let mut lineWords = first_words();
+    let mut clerkWords = clerk_entries::first_words();
+    let mut lineWords = line_entries::first_words();
     let mut at = 0;
     let mut number = 0;
     while number < script.len() {

@@ -21,7 +21,7 @@ use Rattle.terms.specs.declared.request.Names.{Names}
 use Rattle.terms.proofs.MeansLaws.{oldest-map}
 use Rattle.store.specs.declared.For.{For}
 use Rattle.store.specs.Rows.{live, free, hasIdentifier, fitsRow, isFor, rows, putRow, turnRow, dropRow, blankRow, rowsFit, found, foundFitting, liveAt, removedRow}
-use Rattle.store.proofs.RowsLaws.{place-within, getD-past, rows-length, rows-at, rows-put, turned, turned-length, turn-put, rows-drop}
+use Rattle.store.proofs.RowsLaws.{place-within, getD-past, rows-length, rows-at, rows-put, turned, turned-length, turn-put, put-turn, rows-drop}
 
 -- where the rows fit, a search is that of the rows, and a row that is there is taken out
 pub found-fit : (test : List ℕ → Bool) (width count : ℕ) (ws : List ℕ) → rowsFit width count (length ws) ≡ true → found test width count ws ≡ first test (rows width count ws)
@@ -134,6 +134,14 @@ module _ {A : Type 0} (width count : ℕ) (decode : List ℕ → A) where
       ∙ ap turns (sym (decoded-at front ws i h)) in
       ap (λ (v : List ℕ). map decode (rows width count v)) (turn-put width count ws i from words within h fits)
       ∙ decoded-put ws (take width row) i _ back (turned-length width count ws i from words within h fits) h fits
+
+  -- a record put at a place, over the front of the row there: with its words there any row reads as the record
+  pub decoded-over :
+      (words : List ℕ) (r : A) → ((row : List ℕ) → width ≤ length row → decode (over words row) ≡ r) → ((row : List ℕ) → decode (take width row) ≡ decode row) →
+      (ws : List ℕ) (i : ℕ) → length words ≤ width → i < count → count * width ≤ length ws →
+      map decode (rows width count (putRow width ws i words)) ≡ set (map decode (rows width count ws)) i r
+  decoded-over words r reads front ws i within h fits =
+      ap (λ (v : List ℕ). map decode (rows width count v)) (put-turn width ws i words) ∙ decoded-turn 0 words (λ x. r) reads front ws i (omega arith) h fits
 
   -- a record taken out: a row of zeros reads as no words do
   pub decoded-drop :

@@ -9,7 +9,7 @@ use native.Mathlib.Omega.{arith}
 use borrow.Author.Tests.{eqb-true, ltb-true, leb-true, eq-eqb, lt-ltb, le-leb}
 use lib.Dec.{leb, ltb, eqb}
 use lib.ListN.{length, getD, take, drop, set, replicate, length-append, length-drop, length-replicate, getD-replicate, take-append-drop, replicate-append-replicate}
-use lib.Seq.{length-take-le, take-all, drop-drop, take-add, take-at, drop-at, drop-append-add, set-at, getD-take, getD-drop, sets, sets-eq}
+use lib.Seq.{length-take-le, take-all, drop-drop, take-add, take-at, drop-at, drop-append-add, set-at, set-split, getD-take, getD-drop, sets, sets-eq}
 use Rattle.lists.specs.Lists.{both, first, without}
 use Rattle.lists.specs.Parts.{over}
 use Rattle.lists.specs.declared.Found.the-variants.{At, Nothing}
@@ -228,6 +228,21 @@ module _ (width : ℕ) where
 
     pub turn-length : length (turnRow width ws i from words) ≡ length ws
     turn-length = ap length turn-put ∙ put-length count ws i (take width turned) turned-length h fits
+
+  -- a row put at a place is words of it put anew from the first on; where they are fewer than a row, what stands behind them stays
+  pub put-turn : (ws : List ℕ) (i : ℕ) (words : List ℕ) → putRow width ws i words ≡ turnRow width ws i 0 words
+  unfolding putRow turnRow
+  put-turn ws i words =
+      let same : i * width ≡ i * width + 0 = omega arith in
+      ap (λ (k : ℕ). take k ws ++ over words (drop k ws)) same
+
+  -- and so is one word
+  pub set-turn : (ws : List ℕ) (i from x : ℕ) → i * width + from < length ws → set ws (i * width + from) x ≡ turnRow width ws i from (x ∷ [])
+  unfolding turnRow
+  set-turn ws i from x h =
+      let at = i * width + from in
+      let next : drop (suc at) ws ≡ drop 1 (drop at ws) = sym (drop-drop 1 at ws ∙ ap (λ (k : ℕ). drop k ws) (add-one at)) in
+      set-split ws at x h ∙ ap (λ (t : List ℕ). take at ws ++ (x ∷ t)) next
 
   -- a row stored word by word, as straight-line code leaves it
   pub put-words :

@@ -9,6 +9,7 @@ use crate::wire::name_about;
 use crate::wire::name_of;
 use crate::wire::place_named;
 use crate::wire::sent_of;
+use crate::world::COUNT;
 use crate::world::World;
 use clerk::entry::Entry;
 use clerk::entry::act_entry;
@@ -91,7 +92,7 @@ fn stepped(w: World, event: Event, entry: Entry, heard: &[u8]) -> World {
     let before = w.clerk;
     let wire = w.toLine;
     let mut clerk = before;
-    let outcome = step(&mut clerk, entry);
+    let outcome = step(&mut clerk, COUNT, entry);
     let sending = outcome.sending;
     let sent = sent_of(sending);
     let tag = about_of(event, heard, sent);

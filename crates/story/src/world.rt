@@ -1,4 +1,5 @@
 // A scene's two desks and two wires, and what it sets: whether the line's end is the wrong one, and User A's preference.
+use clerk::start::Lengths;
 use printing::Page;
 use printing::blank_page;
 
@@ -12,6 +13,21 @@ pub struct World {
     pub lineHeard: usize,
     pub wrong: bool,
     pub preference: u8,
+}
+
+// No time passes in a scene: every step is at this count of seconds.
+pub const COUNT: u32 = 0;
+
+// The lengths of the clerk's timers, in seconds, are those that a replay begins with (REPLAY-02.md, "Request 6").
+fn clerk_words() -> [u64; clerk_records::WORDS] {
+    let step = clerk::start::start(Lengths {
+        t1: 20,
+        t2Ccbs: 900,
+        t2Ccnr: 3600,
+        t3: 20,
+    });
+    let d = step.desk;
+    d.words
 }
 
 // What User A prefers to become of the connection, in an ask: 1 retain, 2 release.
@@ -35,7 +51,7 @@ pub fn start_world(scene: u8) -> World {
     let line = lineDesk.words;
     let quiet = blank_page();
     World {
-        clerk: [0u64; clerk_records::WORDS],
+        clerk: clerk_words(),
         line,
         toClerk: quiet,
         toLine: quiet,

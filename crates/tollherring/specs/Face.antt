@@ -9,6 +9,10 @@ use Rattle.writer.specs.declared.Written.{Written}
 use Rattle.writer.specs.declared.Written.the-variants.{Wrote, Refused}
 use Rattle.told.specs.Told.{sentWritten, sentBuffer, toldOf, toldRefused}
 
+-- a call gives no count of seconds: its step is one at count 0
+abbrev pub noCount : ℕ
+noCount = 0
+
 -- the desk's words, the buffer for the message that is sent, the outcome's eleven numbers, and the answer: the refusal's number or 0
 pub record Face : Type 0 where
   pub words : List ℕ

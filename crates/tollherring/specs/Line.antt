@@ -14,7 +14,7 @@ use Rattle.line.specs.declared.entry.Entry.{Entry}
 use Rattle.line.specs.declared.entry.Entry.the-variants.{Refused, Given}
 use Rattle.line.specs.declared.entry.BytesEntry.{BytesEntry}
 use Rattle.host_numbers.specs.Given.{lineActGiven, guardGiven, reportGiven, isWord, yes}
-use Rattle.tollherring.specs.Face.{Face, refusedFace, faced}
+use Rattle.tollherring.specs.Face.{Face, noCount, refusedFace, faced}
 
 -- a refused start makes no desk: the words stay as they were
 abbrev pub startWords : List ℕ → Stepped → List ℕ
@@ -27,26 +27,26 @@ lineStartedWords words given keep retain = pick (both (isWord keep) (isWord reta
 unfoldable pub lineStartedAnswer : List ℕ → ℕ → ℕ → ℕ
 lineStartedAnswer given keep retain = pick (both (isWord keep) (isWord retain)) (started given (yes keep) (yes retain) .outcome .refusal) 2
 
--- what comes in at the entry: a refusal is told at once; an input is a step on the desk of these words. `next` is the first unread place of what was read for it, `fault` that of a fault
-unfoldable pub lineEntered : List ℕ → List ℕ → Entry → ℕ → Found → Face
-lineEntered words out (Refused number) next fault = refusedFace words out number fault
-lineEntered words out (Given input) next fault = faced words (step (deskOf words) input .desk .words) out (step (deskOf words) input .outcome) next
+-- what comes in at the entry: a refusal is told at once; an input is a step on the desk of these words, at a count of seconds. `next` is the first unread place of what was read for it, `fault` that of a fault
+unfoldable pub lineEntered : List ℕ → ℕ → List ℕ → Entry → ℕ → Found → Face
+lineEntered words count out (Refused number) next fault = refusedFace words out number fault
+lineEntered words count out (Given input) next fault = faced words (step (deskOf words) count input .desk .words) out (step (deskOf words) count input .outcome) next
 
-abbrev pub lineBytes : List ℕ → List ℕ → BytesEntry → Face
-lineBytes words out read = lineEntered words out (read .entry) (read .next) (read .fault)
+abbrev pub lineBytes : List ℕ → ℕ → List ℕ → BytesEntry → Face
+lineBytes words count out read = lineEntered words count out (read .entry) (read .next) (read .fault)
 
 -- with a message, an act and a guard comes the place that the host names
 unfoldable pub lineReceived : List ℕ → List ℕ → ℕ → List ℕ → Face
-lineReceived words out place bytes = lineBytes words out (bytesEntry bytes place)
+lineReceived words out place bytes = lineBytes words noCount out (bytesEntry bytes place)
 
 unfoldable pub lineStatusReported : List ℕ → List ℕ → List ℕ → ℕ → Face
-lineStatusReported words out digits busy = lineEntered words out (reportGiven digits busy) 0 Nothing
+lineStatusReported words out digits busy = lineEntered words noCount out (reportGiven digits busy) 0 Nothing
 
 unfoldable pub lineLooked : List ℕ → List ℕ → List ℕ → Face
-lineLooked words out digits = lineEntered words out (lookEntry digits) 0 Nothing
+lineLooked words out digits = lineEntered words noCount out (lookEntry digits) 0 Nothing
 
 unfoldable pub lineActed : List ℕ → List ℕ → ℕ → List ℕ → ℕ → Face
-lineActed words out place identifier act = lineEntered words out (lineActGiven identifier place act) 0 Nothing
+lineActed words out place identifier act = lineEntered words noCount out (lineActGiven identifier place act) 0 Nothing
 
 unfoldable pub lineGuarded : List ℕ → List ℕ → ℕ → List ℕ → Face
-lineGuarded words out place identifier = lineEntered words out (guardGiven identifier place) 0 Nothing
+lineGuarded words out place identifier = lineEntered words noCount out (guardGiven identifier place) 0 Nothing

@@ -1,7 +1,8 @@
 // The clerk's desk for hosts: each call lends the desk's words, gives an input and is answered with the refusal's number or 0.
 use crate::clerk_step::step_in;
 use clerk::entry::Entry;
-use clerk::steps::start;
+use clerk::start::Lengths;
+use clerk::start::start;
 use clerk_records::WORDS;
 use host_numbers::given::ask_given;
 use host_numbers::given::clerk_act_given;
@@ -12,16 +13,22 @@ use lists::Found;
 use told::TOLD;
 use told::refuse;
 ghost use mathlib.Core.Path.{_≡_};
-ghost use Rattle.clerk.specs.Steps.{startedDesk};
+ghost use Rattle.clerk.specs.Start.{started};
 ghost use Rattle.tollherring.specs.Face.{face};
-ghost use Rattle.tollherring.specs.Clerk.{clerkEntered, clerkAsked, clerkReceived, clerkActed, clerkReported};
+ghost use Rattle.tollherring.specs.Clerk.{usualLengths, clerkEntered, clerkAsked, clerkReceived, clerkActed, clerkReported};
 
-// An empty desk.
+// An empty desk, with the usual lengths of the timers.
 #[no_mangle]
 pub extern "C" fn tollherring_clerk_start(words: &mut [u64; WORDS])
-    ensures { λ r. ⌜ now (words .exit) ≡ startedDesk .words ⌝ }
+    ensures { λ r. ⌜ now (words .exit) ≡ started usualLengths .desk .words ⌝ }
 {
-    let d = start();
+    let s = start(Lengths {
+        t1: 20,
+        t2Ccbs: 900,
+        t2Ccnr: 3600,
+        t3: 20,
+    });
+    let d = s.desk;
     let empty = d.words;
     *words = empty;
 }
@@ -53,7 +60,7 @@ pub extern "C" fn tollherring_clerk_ask(
     );
     match entry {
         Entry::Refused(number) => refuse(told, number, Found::Nothing),
-        Entry::Given(input) => step_in(words, input, 0, out, told),
+        Entry::Given(input) => step_in(words, 0, input, 0, out, told),
     }
 }
 
@@ -74,7 +81,7 @@ pub extern "C" fn tollherring_clerk_receive(
     let fault = read.fault;
     match entry {
         Entry::Refused(number) => refuse(told, number, fault),
-        Entry::Given(input) => step_in(words, input, read.next, out, told),
+        Entry::Given(input) => step_in(words, 0, input, read.next, out, told),
     }
 }
 
@@ -93,7 +100,7 @@ pub extern "C" fn tollherring_clerk_act(
     let entry = clerk_act_given(*identifier, place, act);
     match entry {
         Entry::Refused(number) => refuse(told, number, Found::Nothing),
-        Entry::Given(input) => step_in(words, input, 0, out, told),
+        Entry::Given(input) => step_in(words, 0, input, 0, out, told),
     }
 }
 
@@ -112,6 +119,6 @@ pub extern "C" fn tollherring_clerk_report(
     let entry = timer_given(*identifier, place, timer);
     match entry {
         Entry::Refused(number) => refuse(told, number, Found::Nothing),
-        Entry::Given(input) => step_in(words, input, 0, out, told),
+        Entry::Given(input) => step_in(words, 0, input, 0, out, told),
     }
 }

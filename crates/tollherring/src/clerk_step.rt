@@ -7,6 +7,7 @@ use clerk_plan::plan_refused;
 use clerk_plan::plan_stored;
 use clerk_plan::plan_taken;
 use clerk_records::WORDS;
+use clerk_records::deadlines::start_timers;
 use clerk_records::places::apply;
 use clerk_records::places::put;
 use clerk_table::inputs::Input;
@@ -25,9 +26,9 @@ ghost use mathlib.Core.Path.{_≡_};
 ghost use Rattle.desk.specs.Sends.{answered};
 ghost use Rattle.clerk_table.specs.Record.{refusedPlan};
 ghost use Rattle.clerk_table.specs.Inputs.{namesOf};
-ghost use Rattle.clerk_records.specs.Records.{records, applied};
+ghost use Rattle.clerk_records.specs.Records.{records};
 ghost use Rattle.clerk_plan.specs.Plan.{takenPlan, storedPlan};
-ghost use Rattle.clerk.specs.Steps.{deskOf, step};
+ghost use Rattle.clerk.specs.Steps.{deskOf, made, step};
 ghost use Rattle.tollherring.specs.Face.{face, faced, WordsStay};
 
 // A refusal, with its reply: whatever the desk's words are, they stay.
@@ -56,6 +57,7 @@ fn refuse_in(
 // A row taken for the record of a place.
 fn take_in(
     words: &mut [u64; WORDS],
+    count: u32,
     input: Input,
     place: usize,
     row: Row,
@@ -63,7 +65,7 @@ fn take_in(
     out: &mut [u8],
     told: &mut [u64; TOLD],
 ) -> u64
-    ensures { λ r. ⌜ face (now (words .exit)) (now (out .exit)) (now (told .exit)) r ≡ faced (now (words .entry)) (applied (now (words .entry)) (takenPlan (records (now (words .entry))) input place row .change)) (now (out .entry)) (takenPlan (records (now (words .entry))) input place row .outcome) next ⌝ }
+    ensures { λ r. ⌜ face (now (words .exit)) (now (out .exit)) (now (told .exit)) r ≡ faced (now (words .entry)) (made (deskOf (now (words .entry))) count (takenPlan (records (now (words .entry))) input place row) .desk .words) (now (out .entry)) (takenPlan (records (now (words .entry))) input place row .outcome) next ⌝ }
 {
     let plan = plan_taken(words, input, place, row);
     let outcome = plan.outcome;
@@ -71,7 +73,10 @@ fn take_in(
     match send(out, sending) {
         Written::Wrote(length) => {
             let change = plan.change;
+            let at = outcome.at;
+            let starts = outcome.starts;
             apply(words, change);
+            start_timers(words, count, at, starts);
             tell(told, outcome, length, next);
             outcome.refusal as u64
         }
@@ -82,6 +87,7 @@ fn take_in(
 // A request stored at a place.
 fn store_in(
     words: &mut [u64; WORDS],
+    count: u32,
     input: Input,
     place: usize,
     q: Request,
@@ -89,7 +95,7 @@ fn store_in(
     out: &mut [u8],
     told: &mut [u64; TOLD],
 ) -> u64
-    ensures { λ r. ⌜ face (now (words .exit)) (now (out .exit)) (now (told .exit)) r ≡ faced (now (words .entry)) (applied (now (words .entry)) (storedPlan place (namesOf input) q .change)) (now (out .entry)) (storedPlan place (namesOf input) q .outcome) next ⌝ }
+    ensures { λ r. ⌜ face (now (words .exit)) (now (out .exit)) (now (told .exit)) r ≡ faced (now (words .entry)) (made (deskOf (now (words .entry))) count (storedPlan place (namesOf input) q) .desk .words) (now (out .entry)) (storedPlan place (namesOf input) q .outcome) next ⌝ }
 {
     let names = names_of(input);
     let plan = plan_stored(place, names, q);
@@ -97,7 +103,10 @@ fn store_in(
     let sending = outcome.sending;
     match send(out, sending) {
         Written::Wrote(length) => {
+            let at = outcome.at;
+            let starts = outcome.starts;
             put(words, place, new_record(names, q));
+            start_timers(words, count, at, starts);
             tell(told, outcome, length, next);
             outcome.refusal as u64
         }
@@ -108,16 +117,17 @@ fn store_in(
 // The step of an input; what was refused at the entry is told at once, without it.
 pub fn step_in(
     words: &mut [u64; WORDS],
+    count: u32,
     input: Input,
     next: usize,
     out: &mut [u8],
     told: &mut [u64; TOLD],
 ) -> u64
-    ensures { λ r. ⌜ face (now (words .exit)) (now (out .exit)) (now (told .exit)) r ≡ faced (now (words .entry)) (step (deskOf (now (words .entry))) input .desk .words) (now (out .entry)) (step (deskOf (now (words .entry))) input .outcome) next ⌝ }
+    ensures { λ r. ⌜ face (now (words .exit)) (now (out .exit)) (now (told .exit)) r ≡ faced (now (words .entry)) (step (deskOf (now (words .entry))) count input .desk .words) (now (out .entry)) (step (deskOf (now (words .entry))) count input .outcome) next ⌝ }
 {
     match decide(words, input) {
         Decision::Refuse(refusal, reply) => refuse_in(input, refusal, reply, next, out, told),
-        Decision::Take(place, row) => take_in(words, input, place, row, next, out, told),
-        Decision::Store(place, q) => store_in(words, input, place, q, next, out, told),
+        Decision::Take(place, row) => take_in(words, count, input, place, row, next, out, told),
+        Decision::Store(place, q) => store_in(words, count, input, place, q, next, out, told),
     }
 }

@@ -66,7 +66,7 @@ pub extern "C" fn tollherring_line_receive(
     let fault = read.fault;
     match entry {
         Entry::Refused(number) => refuse(told, number, fault),
-        Entry::Given(input) => step_in(words, input, read.next, out, told),
+        Entry::Given(input) => step_in(words, 0, input, read.next, out, told),
     }
 }
 
@@ -84,7 +84,7 @@ pub extern "C" fn tollherring_line_report(
     let entry = report_given(*digits, busy);
     match entry {
         Entry::Refused(number) => refuse(told, number, Found::Nothing),
-        Entry::Given(input) => step_in(words, input, 0, out, told),
+        Entry::Given(input) => step_in(words, 0, input, 0, out, told),
     }
 }
 
@@ -101,7 +101,7 @@ pub extern "C" fn tollherring_line_look(
     let entry = look_entry(*digits);
     match entry {
         Entry::Refused(number) => refuse(told, number, Found::Nothing),
-        Entry::Given(input) => step_in(words, input, 0, out, told),
+        Entry::Given(input) => step_in(words, 0, input, 0, out, told),
     }
 }
 
@@ -120,7 +120,7 @@ pub extern "C" fn tollherring_line_act(
     let entry = line_act_given(*identifier, place, act);
     match entry {
         Entry::Refused(number) => refuse(told, number, Found::Nothing),
-        Entry::Given(input) => step_in(words, input, 0, out, told),
+        Entry::Given(input) => step_in(words, 0, input, 0, out, told),
     }
 }
 
@@ -138,6 +138,6 @@ pub extern "C" fn tollherring_line_guard(
     let entry = guard_given(*identifier, place);
     match entry {
         Entry::Refused(number) => refuse(told, number, Found::Nothing),
-        Entry::Given(input) => step_in(words, input, 0, out, told),
+        Entry::Given(input) => step_in(words, 0, input, 0, out, told),
     }
 }

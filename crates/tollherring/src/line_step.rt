@@ -11,6 +11,7 @@ use line_plan::stored_plan;
 use line_records::WORDS;
 use line_records::change::apply;
 use line_records::change::report_line;
+use line_records::deadlines::start_timers;
 use line_records::places::load;
 use line_records::places::put_record;
 use line_table::inputs::Input;
@@ -35,7 +36,7 @@ ghost use Rattle.line_table.specs.Step.{rowTaken};
 ghost use Rattle.line_records.specs.Records.{blank, records};
 ghost use Rattle.line_records.specs.Change.{applied};
 ghost use Rattle.line_plan.specs.Plan.{deniedPlan, newRecord, storedPlan, reportedPlan};
-ghost use Rattle.line.specs.Steps.{deskOf, step};
+ghost use Rattle.line.specs.Steps.{deskOf, made, step};
 ghost use Rattle.tollherring.specs.Face.{face, faced, WordsStay, OutStays};
 
 // A refusal, with its reply: whatever the desk's words are, they stay.
@@ -81,7 +82,7 @@ fn deny_in(input: Input, error: u8, next: usize, out: &mut [u8], told: &mut [u64
     }
 }
 
-// A row taken for the record of a place.
+// A row taken for the record of a place. No row of this desk starts a timer.
 fn take_in(
     words: &mut [u64; WORDS],
     place: usize,
@@ -109,6 +110,7 @@ fn take_in(
 // A request stored at a place, its line busy or not.
 fn store_in(
     words: &mut [u64; WORDS],
+    count: u32,
     input: Input,
     place: usize,
     q: Request,
@@ -117,7 +119,7 @@ fn store_in(
     out: &mut [u8],
     told: &mut [u64; TOLD],
 ) -> u64
-    ensures { λ r. ⌜ face (now (words .exit)) (now (out .exit)) (now (told .exit)) r ≡ faced (now (words .entry)) (applied (now (words .entry)) (storedPlan place (newRecord (now (words .entry)) (namesOf input) q busy) .change)) (now (out .entry)) (storedPlan place (newRecord (now (words .entry)) (namesOf input) q busy) .outcome) next ⌝ }
+    ensures { λ r. ⌜ face (now (words .exit)) (now (out .exit)) (now (told .exit)) r ≡ faced (now (words .entry)) (made (deskOf (now (words .entry))) count (storedPlan place (newRecord (now (words .entry)) (namesOf input) q busy)) .desk .words) (now (out .entry)) (storedPlan place (newRecord (now (words .entry)) (namesOf input) q busy) .outcome) next ⌝ }
 {
     let record = new_record(words, names_of(input), q, busy);
     let plan = stored_plan(place, record);
@@ -125,7 +127,10 @@ fn store_in(
     let sending = outcome.sending;
     match send(out, sending) {
         Written::Wrote(length) => {
+            let at = outcome.at;
+            let starts = outcome.starts;
             put_record(words, place, record);
+            start_timers(words, count, at, starts);
             tell(told, outcome, length, next);
             outcome.refusal as u64
         }
@@ -156,18 +161,21 @@ fn report_in(
 // The step of an input; what was refused at the entry is told at once, without it.
 pub fn step_in(
     words: &mut [u64; WORDS],
+    count: u32,
     input: Input,
     next: usize,
     out: &mut [u8],
     told: &mut [u64; TOLD],
 ) -> u64
-    ensures { λ r. ⌜ face (now (words .exit)) (now (out .exit)) (now (told .exit)) r ≡ faced (now (words .entry)) (step (deskOf (now (words .entry))) input .desk .words) (now (out .entry)) (step (deskOf (now (words .entry))) input .outcome) next ⌝ }
+    ensures { λ r. ⌜ face (now (words .exit)) (now (out .exit)) (now (told .exit)) r ≡ faced (now (words .entry)) (step (deskOf (now (words .entry))) count input .desk .words) (now (out .entry)) (step (deskOf (now (words .entry))) count input .outcome) next ⌝ }
 {
     match decide(words, input) {
         Decision::Refuse(refusal, reply) => refuse_in(input, refusal, reply, next, out, told),
         Decision::Deny(error) => deny_in(input, error, next, out, told),
         Decision::Take(place, row) => take_in(words, place, row, next, out, told),
-        Decision::Store(place, q, busy) => store_in(words, input, place, q, busy, next, out, told),
+        Decision::Store(place, q, busy) => {
+            store_in(words, count, input, place, q, busy, next, out, told)
+        }
         Decision::Report(place, busy) => report_in(words, input, place, busy, next, told),
     }
 }

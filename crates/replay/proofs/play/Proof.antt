@@ -11,11 +11,11 @@ Inv-loop script clerkWords₀ lineWords₀ at₀ number₀ clerkWords lineWords 
 abbrev μ-loop : tie.MeasureT-loop
 μ-loop script clerkWords₀ lineWords₀ at₀ number₀ clerkWords lineWords at number = length script - number
 
-start-requires : tie.Need-start-requires Inv-loop μ-loop
-start-requires c κs = search needs
-
 first-words-requires : tie.Need-first-words-requires Inv-loop μ-loop
 first-words-requires c κs = search needs
+
+first-words-requires-2 : tie.Need-first-words-requires-2 Inv-loop μ-loop
+first-words-requires-2 c κs = search needs
 
 loop-holds : tie.Need-loop-holds Inv-loop μ-loop
 loop-holds c = search needs
@@ -41,8 +41,8 @@ play-spec =
     (tie.spec
     Inv-loop
     μ-loop
-    start-requires
     first-words-requires
+    first-words-requires-2
     loop-holds
     play-at-requires
     add-number

@@ -17,7 +17,7 @@ returns : tie.Need-returns
 unfolding receivedBytes
 returns c =
     ap (λ (step : Stepped). withNext step (c .before .before .bytes-entry .result .next) (c .before .before .bytes-entry .result .fault)) (c .step .ensures)
-    ∙ ap (readStep (deskOf (now (c .before .before .before .before .args .words)))) (c .before .before .bytes-entry .ensures)
+    ∙ ap (readStep (deskOf (now (c .before .before .before .before .args .words))) (c .before .before .before .before .args .count)) (c .before .before .bytes-entry .ensures)
 
 pub step-bytes-spec : {M : Type 1} → statement M
 step-bytes-spec = tie.close (tie.spec bytes-entry-requires step-requires returns)

@@ -35,7 +35,7 @@ flag-code-requires-2 : tie.Need-flag-code-requires-2
 flag-code-requires-2 c κs = search needs
 
 slice-write-row-3 : tie.Need-slice-write-row-3
-slice-write-row-3 c = search needs
+slice-write-row-3 c = simp length-set (omega arith)
 
 same-length : tie.Need-same-length
 same-length c = search needs

@@ -1,4 +1,4 @@
--- The words are lent on with the bytes and the named place: a thin function of two values passed.
+-- The words are lent on with the count, the bytes and the named place: a thin function of three values passed.
 use mathlib.Core.Path.{_≡_}
 use mathlib.Core.List.{[], _∷_}
 use denote.Ref.{now}
@@ -9,19 +9,19 @@ use Rattle.lent.proofs.line_desk.step_bytes.Key.{name as #self}
 use Rattle.lent.proofs.line_desk.step_bytes.Statement.{statement}
 use Rattle.lent.proofs.line_desk.step_bytes.Code as code
 use Rattle.lent.proofs.Desks.{line-desk}
-use Rattle.lent.proofs.Rows.{of-usize, of-slice}
+use Rattle.lent.proofs.Rows.{of-u32, of-usize, of-slice}
 use Rattle.lent.proofs.Values.{bytes-outcome}
 use Rattle.lent.proofs.Thin.{Shape, proved}
-use Rattle.lent.proofs.Walks.{two}
+use Rattle.lent.proofs.Walks.{three}
 
-abbrev shape : Shape 1 (of-slice ∷ of-usize ∷ [])
+abbrev shape : Shape 1 (of-u32 ∷ of-slice ∷ of-usize ∷ [])
 shape = record {
   lent = line-desk;
   result = bytes-outcome;
   callee = callee.name;
-  Said = λ _ ws a r ws′. answeredBytes (deskOf ws′) r ≡ receivedBytes (deskOf ws) (now (a .0)) (a .1 .0);
+  Said = λ _ ws a r ws′. answeredBytes (deskOf ws′) r ≡ receivedBytes (deskOf ws) (a .0) (now (a .1 .0)) (a .1 .1 .0);
 }
 
 pub step-bytes-spec : {M : Type 1} → statement M
 unfolding code.routine
-step-bytes-spec 𝓤 H 𝓜 𝓖 𝓡 = proved shape (two shape) 𝓤 H 𝓜 𝓖 𝓡 code.env #self (code.unfolded 𝓤 H 𝓜 𝓡) callee.routine code.calls-line·on-words·step-bytes (callee-thm.met 𝓤 H 𝓜 𝓖 𝓡)
+step-bytes-spec 𝓤 H 𝓜 𝓖 𝓡 = proved shape (three shape) 𝓤 H 𝓜 𝓖 𝓡 code.env #self (code.unfolded 𝓤 H 𝓜 𝓡) callee.routine code.calls-line·on-words·step-bytes (callee-thm.met 𝓤 H 𝓜 𝓖 𝓡)

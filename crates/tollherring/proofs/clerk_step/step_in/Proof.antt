@@ -1,6 +1,7 @@
 -- By the decision.
 use mathlib.Core.Path.{sym, _∙_}
 use denote.Ref.{now}
+use Rattle.clerk_records.specs.Deadlines.{timed}
 use Rattle.clerk_records.specs.Records.{applied}
 use Rattle.clerk_plan.specs.Plan.{planOf, planFor}
 use Rattle.clerk.specs.Steps.{step}
@@ -33,21 +34,21 @@ same-length : tie.Need-same-length
 same-length c = search needs
 
 returns : tie.Need-returns
-unfolding step planFor planOf applied
+unfolding step planFor planOf applied timed
 returns c = rw (sym (c .before .before .before .before .before .before .before .before .decide .ensures) ∙ c .before .before .before .before .before .before .refusal .given .1) (c .before .before .refuse-in .ensures (now (c .before .before .before .before .before .before .before .before .before .before .before .args .words)))
 
 same-length-2 : tie.Need-same-length-2
 same-length-2 c = search needs
 
 returns-2 : tie.Need-returns-2
-unfolding step planFor planOf applied
+unfolding step planFor planOf applied timed
 returns-2 c = rw (sym (c .before .before .before .before .before .before .before .before .before .decide .ensures) ∙ c .before .before .before .before .before .before .before .place .given .1) (c .before .before .take-in .ensures)
 
 same-length-3 : tie.Need-same-length-3
 same-length-3 c = search needs
 
 returns-3 : tie.Need-returns-3
-unfolding step planFor planOf applied
+unfolding step planFor planOf applied timed
 returns-3 c = rw (sym (c .before .before .before .before .before .before .before .before .before .decide .ensures) ∙ c .before .before .before .before .before .before .before .place2 .given .1) (c .before .before .store-in .ensures)
 
 pub step-in-spec : {M : Type 1} → statement M

@@ -23,6 +23,9 @@ new-record-requires c κs = search needs
 put-requires : tie.Need-put-requires
 put-requires c κs = search needs
 
+start-timers-requires : tie.Need-start-timers-requires
+start-timers-requires c κs = search needs
+
 tell-requires : tie.Need-tell-requires
 tell-requires c κs = search needs
 
@@ -41,8 +44,8 @@ same-length c = search needs
 returns : tie.Need-returns
 unfolding faced
 returns c =
-    let wrote = rw (c .before .before .before .before .before .before .before .before .before .before .before .before .before .before .plan-stored .ensures, c .before .before .before .before .before .before .before .before .before .before .before .before .before .before .before .names-of .ensures) at (sym (c .before .before .before .before .before .before .before .before .before .before .before .send .ensures .0) ∙ c .before .before .before .before .before .before .before .length .given .1) in
-    rw (c .before .tell .ensures, c .before .before .before .put .ensures, c .before .before .before .before .new-record .ensures, c .before .before .before .before .before .before .before .before .before .before .before .send .ensures .1, c .before .before .before .before .before .before .before .before .before .before .before .before .before .before .plan-stored .ensures, c .before .before .before .before .before .before .before .before .before .before .before .before .before .before .before .names-of .ensures, wrote)
+    let wrote = rw (c .before .before .before .before .before .before .before .before .before .before .before .before .before .before .before .before .before .plan-stored .ensures, c .before .before .before .before .before .before .before .before .before .before .before .before .before .before .before .before .before .before .names-of .ensures) at (sym (c .before .before .before .before .before .before .before .before .before .before .before .before .before .before .send .ensures .0) ∙ c .before .before .before .before .before .before .before .before .before .before .length .given .1) in
+    rw (c .before .tell .ensures, c .before .before .before .start-timers .ensures, c .before .before .before .before .before .put .ensures, c .before .before .before .before .before .before .new-record .ensures, c .before .before .before .before .before .before .before .before .before .before .before .before .before .before .send .ensures .1, c .before .before .before .before .before .before .before .before .before .before .before .before .before .before .before .before .before .plan-stored .ensures, c .before .before .before .before .before .before .before .before .before .before .before .before .before .before .before .before .before .before .names-of .ensures, wrote)
 
 same-length-2 : tie.Need-same-length-2
 same-length-2 c = search needs
@@ -63,6 +66,7 @@ store-in-spec =
     enum-known-length
     new-record-requires
     put-requires
+    start-timers-requires
     tell-requires
     cast-result
     enum-known-number

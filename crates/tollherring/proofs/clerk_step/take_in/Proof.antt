@@ -17,6 +17,9 @@ enum-known-length c = search needs
 apply-requires : tie.Need-apply-requires
 apply-requires c κs = search needs
 
+start-timers-requires : tie.Need-start-timers-requires
+start-timers-requires c κs = search needs
+
 tell-requires : tie.Need-tell-requires
 tell-requires c κs = search needs
 
@@ -34,7 +37,7 @@ same-length c = search needs
 
 returns : tie.Need-returns
 unfolding faced
-returns c = rw (← c .before .before .before .before .before .before .before .before .before .before .before .before .before .plan-taken .ensures, c .before .tell .ensures, c .before .before .before .apply .ensures, c .before .before .before .before .before .before .before .before .before .before .send .ensures .1, sym (c .before .before .before .before .before .before .before .before .before .before .send .ensures .0) ∙ c .before .before .before .before .before .before .length .given .1)
+returns c = rw (← c .before .before .before .before .before .before .before .before .before .before .before .before .before .before .before .before .plan-taken .ensures, c .before .tell .ensures, c .before .before .before .start-timers .ensures, c .before .before .before .before .before .apply .ensures, c .before .before .before .before .before .before .before .before .before .before .before .before .before .send .ensures .1, sym (c .before .before .before .before .before .before .before .before .before .before .before .before .before .send .ensures .0) ∙ c .before .before .before .before .before .before .before .before .before .length .given .1)
 
 same-length-2 : tie.Need-same-length-2
 same-length-2 c = search needs
@@ -51,6 +54,7 @@ take-in-spec =
     send-requires
     enum-known-length
     apply-requires
+    start-timers-requires
     tell-requires
     cast-result
     enum-known-number

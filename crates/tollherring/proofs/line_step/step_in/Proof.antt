@@ -1,6 +1,8 @@
 -- By the decision.
 use mathlib.Core.Path.{sym, _∙_}
 use denote.Ref.{now}
+use Rattle.line_records.specs.Deadlines.{timed}
+use Rattle.line_table.specs.Step.{rowTaken}
 use Rattle.line_records.specs.Change.{applied}
 use Rattle.line_plan.specs.Plan.{planOf, planFor}
 use Rattle.line.specs.Steps.{step}
@@ -45,32 +47,32 @@ same-length : tie.Need-same-length
 same-length c = search needs
 
 returns : tie.Need-returns
-unfolding step planFor planOf applied
+unfolding step planFor planOf applied timed rowTaken
 returns c = rw (sym (c .before .before .before .before .before .before .before .before .decide .ensures) ∙ c .before .before .before .before .before .before .refusal .given .1) (c .before .before .refuse-in .ensures (now (c .before .before .before .before .before .before .before .before .before .before .before .args .words)))
 
 same-length-2 : tie.Need-same-length-2
 same-length-2 c = search needs
 
 returns-2 : tie.Need-returns-2
-unfolding step planFor planOf applied
+unfolding step planFor planOf applied timed rowTaken
 returns-2 c = rw (sym (c .before .before .before .before .before .before .before .before .decide .ensures) ∙ c .before .before .before .before .before .before .error .given .1) (c .before .before .deny-in .ensures (now (c .before .before .before .before .before .before .before .before .before .before .before .args .words)))
 
 same-length-3 : tie.Need-same-length-3
 same-length-3 c = search needs
 
 returns-3 : tie.Need-returns-3
-unfolding step planFor planOf applied
+unfolding step planFor planOf applied timed rowTaken
 returns-3 c = rw (sym (c .before .before .before .before .before .before .before .before .before .decide .ensures) ∙ c .before .before .before .before .before .before .before .place .given .1) (c .before .before .take-in .ensures)
 
 same-length-4 : tie.Need-same-length-4
 same-length-4 c = search needs
 
 returns-4 : tie.Need-returns-4
-unfolding step planFor planOf applied
+unfolding step planFor planOf applied timed rowTaken
 returns-4 c = rw (sym (c .before .before .before .before .before .before .before .before .before .decide .ensures) ∙ c .before .before .before .before .before .before .before .place2 .given .1) (c .before .before .store-in .ensures)
 
 returns-5 : tie.Need-returns-5
-unfolding step planFor planOf applied
+unfolding step planFor planOf applied timed rowTaken
 returns-5 c = rw (sym (c .before .before .before .before .before .before .decide .ensures) ∙ c .before .before .before .before .place3 .given .1) (c .report-in .ensures (now (c .before .before .before .before .before .before .before .before .before .args .out)))
 
 pub step-in-spec : {M : Type 1} → statement M

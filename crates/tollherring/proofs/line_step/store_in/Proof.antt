@@ -24,6 +24,9 @@ enum-known-length c = search needs
 put-record-requires : tie.Need-put-record-requires
 put-record-requires c κs = search needs
 
+start-timers-requires : tie.Need-start-timers-requires
+start-timers-requires c κs = search needs
+
 tell-requires : tie.Need-tell-requires
 tell-requires c κs = search needs
 
@@ -42,8 +45,8 @@ same-length c = search needs
 returns : tie.Need-returns
 unfolding faced applied
 returns c =
-    let wrote = rw (c .before .before .before .before .before .before .before .before .before .before .before .before .before .stored-plan .ensures, c .before .before .before .before .before .before .before .before .before .before .before .before .before .before .new-record .ensures, c .before .before .before .before .before .before .before .before .before .before .before .before .before .before .before .names-of .ensures) at (sym (c .before .before .before .before .before .before .before .before .before .before .send .ensures .0) ∙ c .before .before .before .before .before .before .length .given .1) in
-    rw (c .before .tell .ensures, c .before .before .before .put-record .ensures, c .before .before .before .before .before .before .before .before .before .before .send .ensures .1, c .before .before .before .before .before .before .before .before .before .before .before .before .before .stored-plan .ensures, c .before .before .before .before .before .before .before .before .before .before .before .before .before .before .new-record .ensures, c .before .before .before .before .before .before .before .before .before .before .before .before .before .before .before .names-of .ensures, wrote)
+    let wrote = rw (c .before .before .before .before .before .before .before .before .before .before .before .before .before .before .before .before .stored-plan .ensures, c .before .before .before .before .before .before .before .before .before .before .before .before .before .before .before .before .before .new-record .ensures, c .before .before .before .before .before .before .before .before .before .before .before .before .before .before .before .before .before .before .names-of .ensures) at (sym (c .before .before .before .before .before .before .before .before .before .before .before .before .before .send .ensures .0) ∙ c .before .before .before .before .before .before .before .before .before .length .given .1) in
+    rw (c .before .tell .ensures, c .before .before .before .start-timers .ensures, c .before .before .before .before .before .put-record .ensures, c .before .before .before .before .before .before .before .before .before .before .before .before .before .send .ensures .1, c .before .before .before .before .before .before .before .before .before .before .before .before .before .before .before .before .stored-plan .ensures, c .before .before .before .before .before .before .before .before .before .before .before .before .before .before .before .before .before .new-record .ensures, c .before .before .before .before .before .before .before .before .before .before .before .before .before .before .before .before .before .before .names-of .ensures, wrote)
 
 same-length-2 : tie.Need-same-length-2
 same-length-2 c = search needs
@@ -64,6 +67,7 @@ store-in-spec =
     send-requires
     enum-known-length
     put-record-requires
+    start-timers-requires
     tell-requires
     cast-result
     enum-known-number

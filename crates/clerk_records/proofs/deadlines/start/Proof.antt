@@ -1,0 +1,61 @@
+-- The deadline is put at its word of the row; past the last place nothing is.
+use mathlib.Core.Path.{sym}
+use native.Mathlib.Omega.{arith}
+use borrow.Author.Tests.{lt-ltb, le-ltb}
+use Rattle.clerk_records.specs.Deadlines.{startedAt}
+use Rattle.clerk_records.proofs.DeadlinesLaws.{deadline-below}
+use borrow.Author.Needs.{needs}
+use Rattle.clerk_records.proofs.deadlines.start.Statement.{statement}
+use Rattle.clerk_records.proofs.deadlines.start.Tie as tie
+
+load-requires : tie.Need-load-requires
+load-requires c κs = search needs
+
+length-of-requires : tie.Need-length-of-requires
+length-of-requires c κs = search needs
+
+deadline-of-requires : tie.Need-deadline-of-requires
+deadline-of-requires c κs = search needs
+
+cast-words : tie.Need-cast-words
+cast-words c = search needs
+
+mul-words : tie.Need-mul-words
+mul-words c = search needs
+
+deadline-at-requires : tie.Need-deadline-at-requires
+deadline-at-requires c κs = search needs
+
+add-words : tie.Need-add-words
+add-words c = omega (arith, c .deadline-at .ensures, deadline-below (c .before .before .before .before .before .before .before .before .args .timer) .1, c .before .before .before .before .before .before .before .if1 .taken)
+
+mul-words-2 : tie.Need-mul-words-2
+mul-words-2 c = omega (arith, c .deadline-at .ensures, deadline-below (c .before .before .before .before .before .before .before .before .args .timer) .1, c .before .before .before .before .before .before .before .if1 .taken)
+
+element-write-words : tie.Need-element-write-words
+element-write-words c = omega (arith, c .deadline-at .ensures, deadline-below (c .before .before .before .before .before .before .before .before .args .timer) .1, c .before .before .before .before .before .before .before .if1 .taken)
+
+returns : tie.Need-returns
+unfolding startedAt
+returns c =
+    rw (lt-ltb _ _ (c .before .before .before .before .before .before .before .if1 .taken), c .deadline-at .ensures, c .before .deadline-of .ensures, c .before .before .length-of .ensures, c .before .before .before .before .before .load .ensures)
+
+returns-2 : tie.Need-returns-2
+unfolding startedAt
+returns-2 c = sym (rw (le-ltb _ _ (c .if1 .left)))
+
+pub start-spec : {M : Type 1} → statement M
+start-spec =
+    tie.close
+    (tie.spec
+    load-requires
+    length-of-requires
+    deadline-of-requires
+    cast-words
+    mul-words
+    deadline-at-requires
+    add-words
+    mul-words-2
+    element-write-words
+    returns
+    returns-2)
