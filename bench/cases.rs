@@ -1,15 +1,23 @@
-//! The cases: what a desk was given before, the input that is measured, and the refusal that it must be answered with.
+//! The cases: what a desk was given before, the input that is measured, and the refusal that it must be answered with. The count starts at 0 and goes on by one
+//! with each input, so that every record has deadlines of its own.
 
 use crate::clerk;
 use crate::codec::{message_bytes, Carrier, Content, Elements, Message, RequestFields};
 use crate::outcome::Kind;
-use crate::side::{given, Ask, ClerkInput, CodecInput, Identifier, LineInput, Name, Number, NO_PLACE};
+use crate::side::{given, Ask, ClerkInput, CodecInput, Identifier, LineInput, Name, Number, NO_PLACE, ROOM};
 
 pub struct Case<I> {
     pub name: &'static str,
     pub given: Vec<I>,
     pub input: I,
     pub refusal: u64,
+}
+
+impl<I> Case<I> {
+    /// The count with the input that is measured.
+    pub fn count(&self) -> u32 {
+        self.given.len() as u32
+    }
 }
 
 fn case<I>(name: &'static str, given: Vec<I>, input: I, refusal: u64) -> Case<I> {
@@ -70,8 +78,13 @@ fn followed(mut message: Vec<u8>) -> Vec<u8> {
     message
 }
 
-fn request_content(kind: Kind, number_a: Vec<u8>, line: usize) -> Content {
-    let fields = RequestFields { number_a, number_b: digits(4, line), service: 16383, flags: 3 };
+/// Can keep, and prefers that the connection is retained.
+const RETAIN: u32 = 3;
+/// Can keep, and prefers that it is released.
+const RELEASE: u32 = 5;
+
+fn request_content(kind: Kind, number_a: Vec<u8>, line: usize, flags: u32) -> Content {
+    let fields = RequestFields { number_a, number_b: digits(4, line), service: 16383, flags };
     match kind {
         Kind::Ccbs => Content::CcbsRequest(fields),
         Kind::Ccnr => Content::CcnrRequest(fields),
@@ -80,7 +93,7 @@ fn request_content(kind: Kind, number_a: Vec<u8>, line: usize) -> Content {
 
 /// The n-th request, for a line: 54 bytes.
 fn request(kind: Kind, n: usize, line: usize) -> Vec<u8> {
-    bytes(Carrier::Setup, n, request_content(kind, digits(7, n), line))
+    bytes(Carrier::Setup, n, request_content(kind, digits(7, n), line, RETAIN))
 }
 
 fn ask_from(identifier: Option<Identifier>, number_a: Vec<u8>, number_b: Vec<u8>) -> ClerkInput {
@@ -120,6 +133,13 @@ fn invoked() -> Vec<ClerkInput> {
     (0..16).map(ask).chain((0..16).map(result)).collect()
 }
 
+/// A full desk, all acknowledged in this carrier and recalled; Wait-Answer, where T2 and T3 run.
+fn recalled(carrier: Carrier) -> Vec<ClerkInput> {
+    let results = (0..16).map(|n| clerk_bytes(carrier, n, Content::RequestResult { keep: 1 }));
+    let possible = |n| ClerkInput::Bytes(bytes(Carrier::Setup, n, Content::CcExecPossible), NO_PLACE, 0);
+    (0..16).map(ask).chain(results).chain((0..16).map(possible)).collect()
+}
+
 /// An empty desk that has worked: so many asks, each cancelled. What it costs must not grow with its past.
 fn worked(asks: usize) -> Vec<ClerkInput> {
     (0..asks).flat_map(|_| [ask(0), ClerkInput::Act(name(0), 4)]).collect()
@@ -131,7 +151,25 @@ fn last_invoked() -> Vec<ClerkInput> {
     (0..16).map(|_| ask_from(None, vec![], digits(4, 0))).chain([ClerkInput::Bytes(result, 15, 1)]).collect()
 }
 
-pub fn clerk_cases() -> Vec<Case<ClerkInput>> {
+/// T1 of the n-th ask is due at 20 and n; of a record that was recalled T3 before T2, from 52 on.
+fn clerk_tick_cases() -> Vec<Case<ClerkInput>> {
+    let tick = |count| ClerkInput::Tick(count, ROOM);
+    let last_unanswered = || (0..16).map(ask).chain((0..15).map(result)).collect();
+    let released = || recalled(Carrier::ReleaseComplete);
+    vec![
+        case("tick, empty desk", vec![], tick(0), 0),
+        case("tick, nothing due, 16 records, T1 runs", asked(16), tick(19), 0),
+        case("tick, nothing due, 16 records, T2 runs", invoked(), tick(35), 0),
+        case("tick, nothing due, 16 records, T2 and T3 run", recalled(Carrier::Connect), tick(51), 0),
+        case("tick, the oldest of 16 due", asked(16), tick(20), 0),
+        case("tick, the last of 16 due", last_unanswered(), tick(35), 0),
+        case("tick, all 16 due", asked(16), tick(35), 0),
+        case("tick, all 16 due, messages of 53 bytes", released(), tick(67), 0),
+        case("tick, all 16 due, a byte of room missing (12)", released(), ClerkInput::Tick(67, 16 * 53 - 1), 12),
+    ]
+}
+
+fn clerk_step_cases() -> Vec<Case<ClerkInput>> {
     let cancelled = |n| clerk_bytes(Carrier::ReleaseComplete, n, Content::CcCancel);
     let alerts = |n| clerk_bytes(Carrier::Alerting, n, Content::CallAlerts);
     let possible = |n| clerk_bytes(Carrier::Facility, n, Content::CcExecPossible);
@@ -159,6 +197,10 @@ pub fn clerk_cases() -> Vec<Case<ClerkInput>> {
         case("T2, first place: delete", invoked(), ClerkInput::Timer(name(0), 2), 0),
         case("T3, refused (9), last place", invoked(), ClerkInput::Timer(name(15), 3), 9),
     ]
+}
+
+pub fn clerk_cases() -> Vec<Case<ClerkInput>> {
+    clerk_step_cases().into_iter().chain(clerk_tick_cases()).collect()
 }
 
 /// So many requests in turn on sixteen lines: the n-th is of line n modulo 16. Lines are free.
@@ -196,7 +238,7 @@ fn last_awaits() -> Vec<LineInput> {
 /// A full desk, the last five of the last line and of callers that nothing tells apart; only the very last of them was offered. Four wait for activity (CCNR).
 fn last_of_five_awaits() -> Vec<LineInput> {
     let mut given = requested(Kind::Ccbs, 27);
-    let last = |kind| LineInput::Bytes(nameless(Carrier::Setup, 15, request_content(kind, vec![], 15)), NO_PLACE);
+    let last = |kind| LineInput::Bytes(nameless(Carrier::Setup, 15, request_content(kind, vec![], 15, RETAIN)), NO_PLACE);
     given[15] = LineInput::Bytes(request(Kind::Ccbs, 15, 0), NO_PLACE);
     given.extend((0..4).map(|_| last(Kind::Ccnr)));
     given.extend([last(Kind::Ccbs), look(15)]);
@@ -252,8 +294,28 @@ fn line_own_cases() -> Vec<Case<LineInput>> {
     ]
 }
 
+/// The guard of the n-th request is due at 3660 and n (CCBS), or a day later (CCNR).
+fn line_tick_cases() -> Vec<Case<LineInput>> {
+    let tick = |count| LineInput::Tick(count, ROOM);
+    let released = || {
+        let request = |n| line_bytes(Carrier::Setup, n, request_content(Kind::Ccbs, digits(7, n), n % 16, RELEASE));
+        (0..32).map(request).collect()
+    };
+    let mut last_ccbs = requested(Kind::Ccnr, 31);
+    last_ccbs.push(LineInput::Bytes(request(Kind::Ccbs, 31, 15), NO_PLACE));
+    vec![
+        case("tick, empty desk", vec![], tick(0), 0),
+        case("tick, nothing due, 32 records", full_and(vec![]), tick(3659), 0),
+        case("tick, the oldest of 32 due", full_and(vec![]), tick(3660), 0),
+        case("tick, the last of 32 due", last_ccbs, tick(3691), 0),
+        case("tick, all 32 due", full_and(vec![]), tick(3691), 0),
+        case("tick, all 32 due, messages of 53 bytes", released(), tick(3691), 0),
+        case("tick, all 32 due, a byte of room missing (12)", released(), LineInput::Tick(3691, 32 * 53 - 1), 12),
+    ]
+}
+
 pub fn line_cases() -> Vec<Case<LineInput>> {
-    line_request_cases().into_iter().chain(line_message_cases()).chain(line_own_cases()).collect()
+    line_request_cases().into_iter().chain(line_message_cases()).chain(line_own_cases()).chain(line_tick_cases()).collect()
 }
 
 /// The longest message, one with its elements, one with an identifier alone, the shortest, and bytes refused at the end of a request (its last digit is no digit) or at once.
@@ -275,6 +337,6 @@ pub fn codec_cases() -> Vec<Case<CodecInput>> {
         case("write, 54 bytes", vec![CodecInput::Read(long())], CodecInput::Write(7), 0),
         case("write, 19 bytes", vec![CodecInput::Read(short())], CodecInput::Write(7), 0),
         case("write, 3 bytes", vec![CodecInput::Read(least())], CodecInput::Write(7), 0),
-        case("write, refused (12), 54 bytes", vec![CodecInput::Read(long())], CodecInput::Write(12), 12),
+        case("write, refused (12), 54 bytes", vec![CodecInput::Read(long())], CodecInput::Write(ROOM - 52), 12),
     ]
 }

@@ -1,4 +1,4 @@
-//! What both sides are given and answer: the same bytes and numbers in, the same bytes and eleven numbers out.
+//! What both sides are given and answer: the same count, bytes and numbers in, the same bytes and numbers out, eleven of a step, 131 of a tick.
 
 use crate::clerk;
 use crate::meant;
@@ -7,9 +7,25 @@ pub type Identifier = [u8; 16];
 
 /// Refusal, bytes written, bytes read, timers started, timers stopped, notice, clear, whether bytes could not be read, and where, whether the step was about a
 /// record, and at which place: the library's outcome, in its order.
-pub type Told = [u64; 11];
+pub type Step = [u64; 11];
 
-pub const UNTOLD: Told = [0; 11];
+/// Refusal, bytes written, how many records expired, then the place, notice, clear and length of the message of each, and zeros behind them: the library's too.
+pub type Ticked = [u64; 131];
+
+/// Where a step and where a tick tells what it did.
+#[derive(PartialEq, Debug)]
+pub struct Told {
+    pub step: Step,
+    pub tick: Ticked,
+}
+
+pub const UNTOLD: Told = Told { step: [0; 11], tick: [0; 131] };
+
+/// The caller's buffer for what is sent: enough for a tick in which 32 records expire, with messages of 54 bytes, the most that one takes.
+pub const ROOM: usize = 1728;
+
+/// The lengths of T1, of T2 for both kinds and of T3, in seconds.
+pub const LENGTHS: [u32; 4] = [20, 900, 3600, 20];
 
 /// A place that no record has.
 pub const NO_PLACE: usize = usize::MAX;
@@ -65,12 +81,13 @@ pub struct Ask {
     pub own: clerk::Ask,
 }
 
-/// A message comes with the place that the host names.
+/// A message comes with the place that the host names; a tick with a count of its own and with its room in the buffer.
 pub enum ClerkInput {
     Ask(Ask),
     Bytes(Vec<u8>, usize, u64),
     Act(Name, u64),
     Timer(Name, u64),
+    Tick(u32, usize),
 }
 
 pub enum LineInput {
@@ -79,6 +96,7 @@ pub enum LineInput {
     Look(Number),
     Act(Name, u64),
     Guard(Name),
+    Tick(u32, usize),
 }
 
 /// The reader and the writer alone: bytes read into a message that is held, and that message written at a place.
@@ -87,8 +105,11 @@ pub enum CodecInput {
     Write(usize),
 }
 
-/// A desk of one of the two sides, or the place where it holds a message; and a step on it.
+/// A desk of one of the two sides, or the place where it holds a message; and a step on it, at a count.
 pub trait Desk: Clone {
     type Input;
-    fn step(&mut self, input: &Self::Input, out: &mut [u8], told: &mut Told) -> u64;
+    fn step(&mut self, count: u32, input: &Self::Input, out: &mut [u8], told: &mut Told) -> u64;
+
+    /// What the side itself does not tell is found out here, outside the measure, before the two are compared.
+    fn complete(_out: &[u8], _told: &mut Told) {}
 }

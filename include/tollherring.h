@@ -5,12 +5,12 @@
  * allocates a desk once, starts it, and lends it to each call for the whole working day. It does not look into it. docs/HOST.md tells, step by step, what
  * a host has to do; link with libtollherring.a, for x86-64.
  *
- * A step has the same tail everywhere: `out`, `room` and `outcome`. What the step sends, the reply that goes with a refusal too, is written at the front
- * of `out` (TOLLHERRING_MESSAGE_MOST bytes are always enough); the bytes behind it stay as they were. `outcome` is written whole. The call answers the
- * refusal's number, or 0. After a refusal the desk is as it was, and the outcome has no timer, no notice and no word to clear a call: beside the number there
- * is perhaps a reply to be sent, and after receive `next`, or where the bytes went wrong. Two refusals are the call's own and leave `out` as it was
- * too, and `outcome` then has the number and zeros: 2 for a number out of range, before anything else is looked at; and 12 where the message has no room, in
- * place of what would have been answered, so that the same input can be handed in again.
+ * A step has the same head and the same tail everywhere: the desk and the count of seconds (below); and `out`, `room` and `outcome`. What the step sends, the
+ * reply that goes with a refusal too, is written at the front of `out` (TOLLHERRING_MESSAGE_MOST bytes are always enough); the bytes behind it stay as they
+ * were. `outcome` is written whole. The call answers the refusal's number, or 0. After a refusal the desk is as it was, and the outcome has no timer, no notice
+ * and no word to clear a call: beside the number there is perhaps a reply to be sent, and after receive `next`, or where the bytes went wrong. Two refusals are
+ * the call's own and leave `out` as it was too, and `outcome` then has the number and zeros: 2 for a number out of range, before anything else is looked at;
+ * and 12 where the message has no room, in place of what would have been answered, so that the same input can be handed in again.
  *
  * Whatever numbers and bytes are passed, there is an answer, and any words are a desk, garbage too: every call is total, whatever the desk's memory holds,
  * and touches nothing but what it is lent. What the caller owes is only what C itself asks for: every pointer points to as many bytes as
@@ -73,6 +73,18 @@ typedef struct tollherring_line {
     uint64_t words[TOLLHERRING_LINE_WORDS];
 } tollherring_line;
 
+/* ---- the count of seconds, which every step and every tick is given
+ *
+ * It runs freely and wraps from 2^32 - 1 to 0: the seconds since the proxy was started will do, as long as no desk is older. It need not be the time of day, and
+ * the two ends need not agree on it, but for one desk it is one count, which never goes back. The desk notes with a record when each of its timers runs out; a
+ * timer is due from that count on, for 2^31 seconds.
+ *
+ * A host either ticks or keeps the timers itself. One that ticks calls tollherring_clerk_tick, tollherring_line_tick, once a second say and at least once a
+ * day, the first time within a day of the start, and carries out what it is told there; it has no timer to start or stop. (`starts` and `stops` also tell that a
+ * record was stored, with T1 or the guard started, and at the line desk that one ended, with the guard stopped.) One that keeps its own timers goes by `starts`
+ * and `stops` and reports a timer that ran out (tollherring_clerk_report, tollherring_line_guard). It never ticks, and may give any count, 0 always. Reports by
+ * hand are taken from either. */
+
 /* ---- what a step does */
 
 typedef struct tollherring_outcome {
@@ -95,7 +107,7 @@ typedef struct tollherring_outcome {
                             it is where the record was stored, of a Look that of the one which was offered. Else 0, which alone tells nothing */
 } tollherring_outcome;
 
-/* timers, in `starts` and `stops` */
+/* timers, in `starts` and `stops`, and of a record in `timers` */
 #define TOLLHERRING_T1 1
 #define TOLLHERRING_T2 2
 #define TOLLHERRING_T3 4
@@ -126,7 +138,7 @@ typedef struct tollherring_outcome {
 #define TOLLHERRING_NOT_RUNNING 9     /* that timer isn't running, or is T2 in Ringout, where it is not heeded */
 #define TOLLHERRING_NO_LINE 10        /* no such line */
 #define TOLLHERRING_NOTHING_TO_OFFER 11 /* a Look has nothing to offer: the usual answer, and no fault */
-#define TOLLHERRING_NO_ROOM 12        /* no room in `out` */
+#define TOLLHERRING_NO_ROOM 12        /* no room in `out`, in a tick for all of its messages */
 
 /* ---- messages are bytes, in a form of Tollherring's own (a host that talks to other makers' ends translates from and to H.450.9's APDUs):
  *
@@ -194,6 +206,26 @@ typedef struct tollherring_outcome {
 #define TOLLHERRING_REMOTE_USER_BUSY_AGAIN 1
 #define TOLLHERRING_FAILURE_TO_MATCH 2
 
+/* ---- what a tick does. It is told whole; on a refusal, the number and zeros */
+
+#define TOLLHERRING_CLERK_TICK_MOST 864
+#define TOLLHERRING_LINE_TICK_MOST 1728
+
+/* a record that expired: it is gone, and its timers with it */
+typedef struct tollherring_expiry {
+    uint64_t place;  /* where it stood before the tick. A list kept in the desk's order loses these entries from the last one on, so that each place is still right */
+    uint64_t notice; /* what to tell User A: at the clerk's desk TOLLHERRING_FAILED, at the line's 0 */
+    uint64_t clear;  /* 1: clear the call */
+    uint64_t length; /* how many bytes of `out` are its message, which stands behind that of the record before it in this list, the first at the front */
+} tollherring_expiry;
+
+typedef struct tollherring_ticked {
+    uint64_t refusal;               /* 0, or why nothing changed: TOLLHERRING_NO_ROOM; 2 only on words that no start made */
+    uint64_t length;                /* how many bytes of `out` were written, all messages together; those behind stay as they were */
+    uint64_t expired;               /* how many records expired */
+    tollherring_expiry records[32]; /* these, from the oldest on, and zeros behind them */
+} tollherring_ticked;
+
 /* ---- the clerk's desk (User A's end) */
 
 /* kinds and preferences of an ask: retain asks for RET, release for RLS */
@@ -215,28 +247,35 @@ typedef struct tollherring_outcome {
 #define TOLLHERRING_T2_RAN_OUT 2
 #define TOLLHERRING_T3_RAN_OUT 3
 
-/* An empty desk. */
-void tollherring_clerk_start(tollherring_clerk *desk);
+/* An empty desk, with the lengths of its timers in seconds: T1 1 to 3600, though only 10 to 30 conforms to H.450.9, clause 11.4.1; T2 of a CCBS request 60 to
+ * 3600 and of a CCNR request 60 to 86400; T3 10 to 30. 20, 900, 3600 and 20 are the usual ones. Refusal 2 for a length out of range: then no desk is made, and
+ * the memory is as it was. A host that keeps its own timers has to give lengths too; nothing but the deadlines comes of them. */
+uint64_t tollherring_clerk_start(tollherring_clerk *desk, uint32_t t1, uint32_t t2_ccbs, uint32_t t2_ccnr, uint32_t t3);
 
 /* User A asks to be rung back. `service`, 0 to 16383, is the service of the failed call as both ends number it; it is carried, and compared where a message
  * is matched to a record. can_keep, 0 or 1: whether this end can keep a request that meets a busy line again; it is kept if both ends say so. The preference
  * goes before the line desk's default. Refusals 2, 4 (only with an identifier), 5, 12. */
-uint64_t tollherring_clerk_ask(tollherring_clerk *desk, const tollherring_identifier *identifier, uint64_t kind, const tollherring_number *number_a,
-                               const tollherring_number *number_b, uint64_t service, uint64_t can_keep, uint64_t preference, uint8_t *out, size_t room,
-                               tollherring_outcome *outcome);
+uint64_t tollherring_clerk_ask(tollherring_clerk *desk, uint32_t count, const tollherring_identifier *identifier, uint64_t kind,
+                               const tollherring_number *number_a, const tollherring_number *number_b, uint64_t service, uint64_t can_keep,
+                               uint64_t preference, uint8_t *out, size_t room, tollherring_outcome *outcome);
 
 /* Bytes reach this end; `place`: of the record that a message without an identifier is about, as the host knows it, or TOLLHERRING_NO_PLACE; user_a_busy 0
  * or 1. One message is read, from the front. Refusals 1, 2, 3, 6, 7, 8, 12; a 1, and a 2 of the bytes, are `unread`. */
-uint64_t tollherring_clerk_receive(tollherring_clerk *desk, uint64_t place, const uint8_t *bytes, size_t length, uint64_t user_a_busy, uint8_t *out,
-                                   size_t room, tollherring_outcome *outcome);
+uint64_t tollherring_clerk_receive(tollherring_clerk *desk, uint32_t count, uint64_t place, const uint8_t *bytes, size_t length, uint64_t user_a_busy,
+                                   uint8_t *out, size_t room, tollherring_outcome *outcome);
 
 /* An act at this end, on the record with this identifier, or where that has length 0 on the one at this place. Refusals 2, 6, 7, 12. */
-uint64_t tollherring_clerk_act(tollherring_clerk *desk, uint64_t place, const tollherring_identifier *identifier, uint64_t act, uint8_t *out, size_t room,
-                               tollherring_outcome *outcome);
+uint64_t tollherring_clerk_act(tollherring_clerk *desk, uint32_t count, uint64_t place, const tollherring_identifier *identifier, uint64_t act, uint8_t *out,
+                               size_t room, tollherring_outcome *outcome);
 
-/* A timer ran out, of the record that is so named. Refusals 2, 6, 9, 12. */
-uint64_t tollherring_clerk_report(tollherring_clerk *desk, uint64_t place, const tollherring_identifier *identifier, uint64_t timer, uint8_t *out,
-                                  size_t room, tollherring_outcome *outcome);
+/* A timer ran out, of the record that is so named: by hand, whatever its deadline. Refusals 2, 6, 9, 12. */
+uint64_t tollherring_clerk_report(tollherring_clerk *desk, uint32_t count, uint64_t place, const tollherring_identifier *identifier, uint64_t timer,
+                                  uint8_t *out, size_t room, tollherring_outcome *outcome);
+
+/* The desk's timers at a count: each record with one that runs and is due expires, as if it had been reported by hand, from the oldest record on; of one record
+ * T1 before T2 before T3. T2 is not heeded in Ringout. Refusal 12 where the messages don't all have room, and then no record has expired:
+ * TOLLHERRING_CLERK_TICK_MOST bytes are always enough. (On words that are no started desk's it may be 2: a record in them has no message.) */
+uint64_t tollherring_clerk_tick(tollherring_clerk *desk, uint32_t count, uint8_t *out, size_t room, tollherring_ticked *ticked);
 
 /* ---- the line desk (User B's end) */
 
@@ -259,23 +298,28 @@ typedef struct tollherring_line_given {
 uint64_t tollherring_line_start(tollherring_line *desk, const tollherring_line_given *lines, size_t size, uint64_t keep, uint64_t retain);
 
 /* Bytes reach this end; `place` as at the clerk's. One message is read, from the front. Refusals 1, 2, 3, 6, 7, 8, 12; 1 and 2 are `unread`. */
-uint64_t tollherring_line_receive(tollherring_line *desk, uint64_t place, const uint8_t *bytes, size_t length, uint8_t *out, size_t room,
+uint64_t tollherring_line_receive(tollherring_line *desk, uint32_t count, uint64_t place, const uint8_t *bytes, size_t length, uint8_t *out, size_t room,
                                   tollherring_outcome *outcome);
 
 /* A line is busy (1) or free (0). It is about no request and sends nothing. Refusals 2, 10. */
-uint64_t tollherring_line_report(tollherring_line *desk, const tollherring_number *number, uint64_t busy, uint8_t *out, size_t room,
+uint64_t tollherring_line_report(tollherring_line *desk, uint32_t count, const tollherring_number *number, uint64_t busy, uint8_t *out, size_t room,
                                  tollherring_outcome *outcome);
 
 /* A Look at a line. Refusals 10, 11, 12. */
-uint64_t tollherring_line_look(tollherring_line *desk, const tollherring_number *number, uint8_t *out, size_t room, tollherring_outcome *outcome);
+uint64_t tollherring_line_look(tollherring_line *desk, uint32_t count, const tollherring_number *number, uint8_t *out, size_t room,
+                               tollherring_outcome *outcome);
 
 /* An act at this end, on the record with this identifier, or where that has length 0 on the one at this place. Refusals 2, 6, 7, 12. */
-uint64_t tollherring_line_act(tollherring_line *desk, uint64_t place, const tollherring_identifier *identifier, uint64_t act, uint8_t *out, size_t room,
-                              tollherring_outcome *outcome);
+uint64_t tollherring_line_act(tollherring_line *desk, uint32_t count, uint64_t place, const tollherring_identifier *identifier, uint64_t act, uint8_t *out,
+                              size_t room, tollherring_outcome *outcome);
 
-/* The guard ran out, of the record that is so named. Refusals 2 (the identifier's length), 6, 12. */
-uint64_t tollherring_line_guard(tollherring_line *desk, uint64_t place, const tollherring_identifier *identifier, uint8_t *out, size_t room,
+/* The guard ran out, of the record that is so named: by hand, whatever its deadline. Refusals 2 (the identifier's length), 6, 12. */
+uint64_t tollherring_line_guard(tollherring_line *desk, uint32_t count, uint64_t place, const tollherring_identifier *identifier, uint8_t *out, size_t room,
                                 tollherring_outcome *outcome);
+
+/* The desk's guards at a count, as tollherring_clerk_tick: 3660 seconds for a request that was accepted as CCBS, 86460 as CCNR. Refusal 12:
+ * TOLLHERRING_LINE_TICK_MOST bytes are always enough. */
+uint64_t tollherring_line_tick(tollherring_line *desk, uint32_t count, uint8_t *out, size_t room, tollherring_ticked *ticked);
 
 /* ---- looking at a desk: the records of the clerk's desk in the order of storing, those of the line desk in the order of acceptance, from place 0 on without
  * gaps, so that the first place without one ends the list. A record that goes moves those behind it one place forward. */
@@ -307,6 +351,11 @@ typedef struct tollherring_record {
     uint64_t active;     /* the line desk's activity mark, 0 or 1: the line was busy since, or at, acceptance; a CCNR request waits for it. At the clerk's desk 0 */
     uint64_t suspended;  /* the line desk's suspended mark, 0 or 1; at the clerk's desk 0 */
     uint64_t down;       /* 1: this end was told that the retained connection fell. Else 0, and always for RLS */
+    uint64_t timers;     /* those that run: a sum of TOLLHERRING_T1, T2, T3, GUARD */
+    uint64_t t1;         /* the counts at which they run out, in the count that the steps were given; 0 for one that does not run, which alone tells nothing: ask `timers` */
+    uint64_t t2;
+    uint64_t t3;
+    uint64_t guard;
 } tollherring_record;
 
 typedef struct tollherring_line_status {

@@ -9,14 +9,19 @@
 //! refusal the desk is as it was, and there is no timer, no notice and no word to clear the call. A buffer of [`MESSAGE_MOST`] bytes is always enough; with less
 //! room than the message takes, the refusal is [`Refusal::NoRoom`], and nothing at all was done.
 //!
+//! Every step and every tick is given a count of seconds, which runs freely and wraps from 2^32 - 1 to 0: the seconds since the proxy was started will do. It need not be
+//! the time of day, and the two ends need not agree on it, but for one desk it is one count, which never goes back. A host that ticks, once a second say and at least
+//! once a day, keeps no timers: [`ClerkDesk::tick`] and [`LineDesk::tick`] tell which requests expired. A host that keeps its own timers starts and stops them as the
+//! outcomes say and reports those that run out; it never ticks, and may give any count, 0 always.
+//!
 //! Take this file into a program as a module, and show rustc the folder of the archive: `rustc --edition 2021 -L target/staticlib main.rs`, or in a build.rs
 //! `println!("cargo:rustc-link-search=native=target/staticlib")`.
 //!
 //! ```ignore
-//! let mut desk = ClerkDesk::start();
+//! let mut desk = ClerkDesk::start(&Lengths::default())?;
 //! let mut out = [0; MESSAGE_MOST];
 //! let ask = Ask { kind: Kind::Ccbs, service: 0, can_keep: true, preference: Preference::None };
-//! let outcome = desk.ask(Some(call), &Number::of_text("5550123")?, &Number::of_text("41180")?, &ask, &mut out);
+//! let outcome = desk.ask(seconds, Some(call), &Number::of_text("5550123")?, &Number::of_text("41180")?, &ask, &mut out);
 //! if let (Some(message), Some(carrier)) = (outcome.message, outcome.carrier()) { send(carrier, message) }
 //! ```
 #![allow(dead_code)] // a host need not use all of it
@@ -26,6 +31,10 @@ use core::fmt;
 /// The least and the most bytes that a message takes.
 pub const MESSAGE_LEAST: usize = 3;
 pub const MESSAGE_MOST: usize = 54;
+
+/// How many bytes are always enough for what a tick sends, at each desk.
+pub const CLERK_TICK_MOST: usize = 864;
+pub const LINE_TICK_MOST: usize = 1728;
 
 /// How many words of 64 bits each desk takes.
 pub const CLERK_WORDS: usize = 260;
@@ -91,7 +100,7 @@ numbered! {
         NoLine = 10,
         /// A Look has nothing to offer: the usual answer, and no fault.
         NothingToOffer = 11,
-        /// No room for the message in the buffer.
+        /// No room for the message in the buffer, in a tick for all of its messages.
         NoRoom = 12,
     }
 }
@@ -285,7 +294,7 @@ impl fmt::Display for Number {
     }
 }
 
-/// Some timers of the one record that a step was about.
+/// Some timers of one record: that which a step was about, or that which is shown.
 #[derive(Clone, Copy, PartialEq, Eq, Debug, Default)]
 pub struct Timers(u64);
 
@@ -361,6 +370,68 @@ impl Outcome<'_> {
     }
 }
 
+/// A request that expired in a tick: its record is gone, and its timers with it.
+#[derive(Clone, Copy, PartialEq, Eq, Debug)]
+pub struct Expiry<'o> {
+    /// Where its record stood before the tick.
+    pub place: usize,
+    /// At the clerk's desk `Failed`, at the line's none.
+    pub notice: Option<Notice>,
+    /// Clear the call.
+    pub clear: bool,
+    /// What is to be sent.
+    pub message: Option<&'o [u8]>,
+}
+
+/// What a tick did.
+#[derive(Clone, Copy, PartialEq, Eq, Debug)]
+#[must_use = "what a tick sends is sent by the host"]
+pub struct Ticked<'o> {
+    /// All the messages, one behind the other, from the front of the buffer that was given.
+    pub messages: &'o [u8],
+    count: usize,
+    records: [RawExpiry; 32],
+}
+
+impl<'o> Ticked<'o> {
+    /// How many requests expired.
+    pub fn count(&self) -> usize {
+        self.count
+    }
+
+    /// These, from the oldest on.
+    pub fn expired(&self) -> impl Iterator<Item = Expiry<'o>> + '_ {
+        let mut rest = self.messages;
+        self.records[..self.count].iter().map(move |raw| {
+            let (message, behind) = rest.split_at(raw.length as usize);
+            rest = behind;
+            Expiry {
+                place: raw.place as usize,
+                notice: noticed(raw.notice),
+                clear: raw.clear == 1,
+                message: if message.is_empty() { None } else { Some(message) },
+            }
+        })
+    }
+}
+
+/// The lengths of the timers of a clerk's desk, in seconds: T1 1 to 3600, though only 10 to 30 conforms to H.450.9, clause 11.4.1; T2 of a CCBS request 60 to 3600 and of
+/// a CCNR request 60 to 86400; T3 10 to 30.
+#[derive(Clone, Copy, PartialEq, Eq, Debug)]
+pub struct Lengths {
+    pub t1: u32,
+    pub t2_ccbs: u32,
+    pub t2_ccnr: u32,
+    pub t3: u32,
+}
+
+/// The usual ones.
+impl Default for Lengths {
+    fn default() -> Lengths {
+        Lengths { t1: 20, t2_ccbs: 900, t2_ccnr: 3600, t3: 20 }
+    }
+}
+
 /// The choices of an ask. A service over 16383 is refused.
 #[derive(Clone, Copy, PartialEq, Eq, Debug)]
 pub struct Ask {
@@ -384,6 +455,10 @@ pub struct ClerkRecord {
     pub state: ClerkState,
     /// This end was told that the retained connection fell; the choice stays.
     pub down: bool,
+    /// The counts at which its timers run out; None for one that does not run.
+    pub t1: Option<u32>,
+    pub t2: Option<u32>,
+    pub t3: Option<u32>,
 }
 
 /// A request as the line desk holds it.
@@ -403,6 +478,8 @@ pub struct LineRecord {
     pub suspended: bool,
     /// This end was told that the retained connection fell; the choice stays.
     pub down: bool,
+    /// The count at which its guard runs out.
+    pub guard: u32,
 }
 
 /// A line of the line desk.
@@ -437,16 +514,18 @@ pub struct LineDesk {
 }
 
 impl ClerkDesk {
-    /// An empty desk.
-    pub fn start() -> ClerkDesk {
+    /// An empty desk, with the lengths of its timers. Refusal 2.
+    pub fn start(lengths: &Lengths) -> Result<ClerkDesk, Refusal> {
         let mut desk = ClerkDesk { words: [0; CLERK_WORDS] };
-        unsafe { tollherring_clerk_start(&mut desk) };
-        desk
+        let Lengths { t1, t2_ccbs, t2_ccnr, t3 } = *lengths;
+        let refusal = unsafe { tollherring_clerk_start(&mut desk, t1, t2_ccbs, t2_ccnr, t3) };
+        refused(refusal).map_or(Ok(desk), Err)
     }
 
     /// User A asks to be rung back. Refusals 2, 4 (only with an identifier), 5, 12.
     pub fn ask<'o>(
         &mut self,
+        count: u32,
         identifier: Option<Identifier>,
         number_a: &Number,
         number_b: &Number,
@@ -455,6 +534,7 @@ impl ClerkDesk {
     ) -> Outcome<'o> {
         let (kind, preference) = (ask.kind.number(), ask.preference.number());
         self.ask_numbers(
+            count,
             identifier,
             kind,
             number_a,
@@ -470,6 +550,7 @@ impl ClerkDesk {
     #[allow(clippy::too_many_arguments)]
     pub fn ask_numbers<'o>(
         &mut self,
+        count: u32,
         identifier: Option<Identifier>,
         kind: u64,
         number_a: &Number,
@@ -483,6 +564,7 @@ impl ClerkDesk {
         told(out, |out, room, raw| unsafe {
             tollherring_clerk_ask(
                 self,
+                count,
                 &identifier,
                 kind,
                 number_a,
@@ -501,6 +583,7 @@ impl ClerkDesk {
     /// Refusals 1, 2, 3, 6, 7, 8, 12; 1 and 2 have a `fault_at`.
     pub fn receive<'o>(
         &mut self,
+        count: u32,
         place: Option<usize>,
         bytes: &[u8],
         user_a_busy: bool,
@@ -508,24 +591,30 @@ impl ClerkDesk {
     ) -> Outcome<'o> {
         let (place, busy) = (named(place), u64::from(user_a_busy));
         told(out, |out, room, raw| unsafe {
-            tollherring_clerk_receive(self, place, bytes.as_ptr(), bytes.len(), busy, out, room, raw)
+            tollherring_clerk_receive(self, count, place, bytes.as_ptr(), bytes.len(), busy, out, room, raw)
         })
     }
 
     /// An act at this end. Refusals 6, 7, 12.
-    pub fn act<'o>(&mut self, name: Name, act: Act, out: &'o mut [u8]) -> Outcome<'o> {
+    pub fn act<'o>(&mut self, count: u32, name: Name, act: Act, out: &'o mut [u8]) -> Outcome<'o> {
         let (place, identifier) = name.parts();
         told(out, |out, room, raw| unsafe {
-            tollherring_clerk_act(self, place, &identifier, act.number(), out, room, raw)
+            tollherring_clerk_act(self, count, place, &identifier, act.number(), out, room, raw)
         })
     }
 
-    /// A timer ran out. Refusals 6, 9, 12.
-    pub fn report<'o>(&mut self, name: Name, timer: Timer, out: &'o mut [u8]) -> Outcome<'o> {
+    /// A timer ran out: by hand, whatever its deadline. Refusals 6, 9, 12.
+    pub fn report<'o>(&mut self, count: u32, name: Name, timer: Timer, out: &'o mut [u8]) -> Outcome<'o> {
         let (place, identifier) = name.parts();
         told(out, |out, room, raw| unsafe {
-            tollherring_clerk_report(self, place, &identifier, timer.number(), out, room, raw)
+            tollherring_clerk_report(self, count, place, &identifier, timer.number(), out, room, raw)
         })
+    }
+
+    /// The desk's timers at a count: each request with one that runs and is due expires, as if it had been reported by hand, from the oldest on. T2 is not heeded in Ringout.
+    /// Refusal 12 where the messages don't all have room, and then none has expired: [`CLERK_TICK_MOST`] bytes are always enough.
+    pub fn tick<'o>(&mut self, count: u32, out: &'o mut [u8]) -> Result<Ticked<'o>, Refusal> {
+        ticked(out, |out, room, raw| unsafe { tollherring_clerk_tick(self, count, out, room, raw) })
     }
 
     /// The record at a place, in the order of storing.
@@ -543,6 +632,9 @@ impl ClerkDesk {
             connection: Connection::from_number(raw.connection),
             state: known(ClerkState::from_number(raw.state)),
             down: raw.down == 1,
+            t1: runs(Timers(raw.timers).t1(), raw.t1),
+            t2: runs(Timers(raw.timers).t2(), raw.t2),
+            t3: runs(Timers(raw.timers).t3(), raw.t3),
         })
     }
 
@@ -551,9 +643,10 @@ impl ClerkDesk {
     }
 }
 
+/// With the usual lengths.
 impl Default for ClerkDesk {
     fn default() -> ClerkDesk {
-        ClerkDesk::start()
+        known(ClerkDesk::start(&Lengths::default()).ok())
     }
 }
 
@@ -583,37 +676,43 @@ impl LineDesk {
     }
 
     /// Bytes reach this end; `place` as at the clerk's. One message is read, from the front. Refusals 1, 2, 3, 6, 7, 8, 12; 1 and 2 have a `fault_at`.
-    pub fn receive<'o>(&mut self, place: Option<usize>, bytes: &[u8], out: &'o mut [u8]) -> Outcome<'o> {
+    pub fn receive<'o>(&mut self, count: u32, place: Option<usize>, bytes: &[u8], out: &'o mut [u8]) -> Outcome<'o> {
         let place = named(place);
         told(out, |out, room, raw| unsafe {
-            tollherring_line_receive(self, place, bytes.as_ptr(), bytes.len(), out, room, raw)
+            tollherring_line_receive(self, count, place, bytes.as_ptr(), bytes.len(), out, room, raw)
         })
     }
 
     /// A line is busy or free. It sends nothing. Refusal 10.
-    pub fn report(&mut self, number: &Number, busy: bool) -> Outcome<'static> {
+    pub fn report(&mut self, count: u32, number: &Number, busy: bool) -> Outcome<'static> {
         told(&mut [], |out, room, raw| unsafe {
-            tollherring_line_report(self, number, u64::from(busy), out, room, raw)
+            tollherring_line_report(self, count, number, u64::from(busy), out, room, raw)
         })
     }
 
     /// A Look at a line. Refusals 10, 11, 12.
-    pub fn look<'o>(&mut self, number: &Number, out: &'o mut [u8]) -> Outcome<'o> {
-        told(out, |out, room, raw| unsafe { tollherring_line_look(self, number, out, room, raw) })
+    pub fn look<'o>(&mut self, count: u32, number: &Number, out: &'o mut [u8]) -> Outcome<'o> {
+        told(out, |out, room, raw| unsafe { tollherring_line_look(self, count, number, out, room, raw) })
     }
 
     /// An act at this end. Refusals 6, 7, 12.
-    pub fn act<'o>(&mut self, name: Name, act: LineAct, out: &'o mut [u8]) -> Outcome<'o> {
+    pub fn act<'o>(&mut self, count: u32, name: Name, act: LineAct, out: &'o mut [u8]) -> Outcome<'o> {
         let (place, identifier) = name.parts();
         told(out, |out, room, raw| unsafe {
-            tollherring_line_act(self, place, &identifier, act.number(), out, room, raw)
+            tollherring_line_act(self, count, place, &identifier, act.number(), out, room, raw)
         })
     }
 
-    /// The guard of a record ran out. Refusals 6, 12.
-    pub fn guard<'o>(&mut self, name: Name, out: &'o mut [u8]) -> Outcome<'o> {
+    /// The guard of a record ran out: by hand, whatever its deadline. Refusals 6, 12.
+    pub fn guard<'o>(&mut self, count: u32, name: Name, out: &'o mut [u8]) -> Outcome<'o> {
         let (place, identifier) = name.parts();
-        told(out, |out, room, raw| unsafe { tollherring_line_guard(self, place, &identifier, out, room, raw) })
+        told(out, |out, room, raw| unsafe { tollherring_line_guard(self, count, place, &identifier, out, room, raw) })
+    }
+
+    /// The desk's guards at a count, as [`ClerkDesk::tick`]: 3660 seconds for a request that was accepted as CCBS, 86460 as CCNR. Refusal 12: [`LINE_TICK_MOST`] bytes are
+    /// always enough.
+    pub fn tick<'o>(&mut self, count: u32, out: &'o mut [u8]) -> Result<Ticked<'o>, Refusal> {
+        ticked(out, |out, room, raw| unsafe { tollherring_line_tick(self, count, out, room, raw) })
     }
 
     /// The record at a place, in the order of acceptance.
@@ -632,6 +731,7 @@ impl LineDesk {
             active: raw.active == 1,
             suspended: raw.suspended == 1,
             down: raw.down == 1,
+            guard: raw.guard as u32,
         })
     }
 
@@ -793,6 +893,28 @@ struct RawRecord {
     active: u64,
     suspended: u64,
     down: u64,
+    timers: u64,
+    t1: u64,
+    t2: u64,
+    t3: u64,
+    guard: u64,
+}
+
+#[repr(C)]
+#[derive(Clone, Copy, PartialEq, Eq, Debug)]
+struct RawExpiry {
+    place: u64,
+    notice: u64,
+    clear: u64,
+    length: u64,
+}
+
+#[repr(C)]
+struct RawTicked {
+    refusal: u64,
+    length: u64,
+    expired: u64,
+    records: [RawExpiry; 32],
 }
 
 #[repr(C)]
@@ -812,26 +934,29 @@ struct RawMessage {
 #[rustfmt::skip] // a function is a line or two, as in the header
 #[link(name = "tollherring", kind = "static")]
 extern "C" {
-    fn tollherring_clerk_start(desk: &mut ClerkDesk);
-    fn tollherring_clerk_ask(desk: &mut ClerkDesk, identifier: &RawIdentifier, kind: u64, number_a: &Number, number_b: &Number, service: u64,
+    fn tollherring_clerk_start(desk: &mut ClerkDesk, t1: u32, t2_ccbs: u32, t2_ccnr: u32, t3: u32) -> u64;
+    fn tollherring_clerk_ask(desk: &mut ClerkDesk, count: u32, identifier: &RawIdentifier, kind: u64, number_a: &Number, number_b: &Number, service: u64,
         can_keep: u64, preference: u64, out: *mut u8, room: usize, outcome: &mut RawOutcome) -> u64;
-    fn tollherring_clerk_receive(desk: &mut ClerkDesk, place: u64, bytes: *const u8, length: usize, user_a_busy: u64, out: *mut u8, room: usize,
+    fn tollherring_clerk_receive(desk: &mut ClerkDesk, count: u32, place: u64, bytes: *const u8, length: usize, user_a_busy: u64, out: *mut u8, room: usize,
         outcome: &mut RawOutcome) -> u64;
-    fn tollherring_clerk_act(desk: &mut ClerkDesk, place: u64, identifier: &RawIdentifier, act: u64, out: *mut u8, room: usize,
+    fn tollherring_clerk_act(desk: &mut ClerkDesk, count: u32, place: u64, identifier: &RawIdentifier, act: u64, out: *mut u8, room: usize,
         outcome: &mut RawOutcome) -> u64;
-    fn tollherring_clerk_report(desk: &mut ClerkDesk, place: u64, identifier: &RawIdentifier, timer: u64, out: *mut u8, room: usize,
+    fn tollherring_clerk_report(desk: &mut ClerkDesk, count: u32, place: u64, identifier: &RawIdentifier, timer: u64, out: *mut u8, room: usize,
         outcome: &mut RawOutcome) -> u64;
+    fn tollherring_clerk_tick(desk: &mut ClerkDesk, count: u32, out: *mut u8, room: usize, ticked: &mut RawTicked) -> u64;
     fn tollherring_clerk_record(desk: &ClerkDesk, place: u64, identifier: &mut RawIdentifier, number_a: &mut Number, number_b: &mut Number,
         record: &mut RawRecord) -> u64;
 
     fn tollherring_line_start(desk: &mut LineDesk, lines: *const LineGiven, bytes: usize, keep: u64, retain: u64) -> u64;
-    fn tollherring_line_receive(desk: &mut LineDesk, place: u64, bytes: *const u8, length: usize, out: *mut u8, room: usize,
+    fn tollherring_line_receive(desk: &mut LineDesk, count: u32, place: u64, bytes: *const u8, length: usize, out: *mut u8, room: usize,
         outcome: &mut RawOutcome) -> u64;
-    fn tollherring_line_report(desk: &mut LineDesk, number: &Number, busy: u64, out: *mut u8, room: usize, outcome: &mut RawOutcome) -> u64;
-    fn tollherring_line_look(desk: &mut LineDesk, number: &Number, out: *mut u8, room: usize, outcome: &mut RawOutcome) -> u64;
-    fn tollherring_line_act(desk: &mut LineDesk, place: u64, identifier: &RawIdentifier, act: u64, out: *mut u8, room: usize,
+    fn tollherring_line_report(desk: &mut LineDesk, count: u32, number: &Number, busy: u64, out: *mut u8, room: usize, outcome: &mut RawOutcome) -> u64;
+    fn tollherring_line_look(desk: &mut LineDesk, count: u32, number: &Number, out: *mut u8, room: usize, outcome: &mut RawOutcome) -> u64;
+    fn tollherring_line_act(desk: &mut LineDesk, count: u32, place: u64, identifier: &RawIdentifier, act: u64, out: *mut u8, room: usize,
         outcome: &mut RawOutcome) -> u64;
-    fn tollherring_line_guard(desk: &mut LineDesk, place: u64, identifier: &RawIdentifier, out: *mut u8, room: usize, outcome: &mut RawOutcome) -> u64;
+    fn tollherring_line_guard(desk: &mut LineDesk, count: u32, place: u64, identifier: &RawIdentifier, out: *mut u8, room: usize,
+        outcome: &mut RawOutcome) -> u64;
+    fn tollherring_line_tick(desk: &mut LineDesk, count: u32, out: *mut u8, room: usize, ticked: &mut RawTicked) -> u64;
     fn tollherring_line_record(desk: &LineDesk, place: u64, identifier: &mut RawIdentifier, number_a: &mut Number, number_b: &mut Number,
         record: &mut RawRecord) -> u64;
     fn tollherring_line_at(desk: &LineDesk, place: u64, number: &mut Number, status: &mut RawStatus) -> u64;
@@ -872,7 +997,7 @@ const _: () = {
             has_record: 9,
             record_at: 10,
         }));
-        in_order(transmute::<RawRecord, [u64; 9]>(RawRecord {
+        in_order(transmute::<RawRecord, [u64; 14]>(RawRecord {
             kind: 0,
             service: 1,
             can_keep: 2,
@@ -882,7 +1007,17 @@ const _: () = {
             active: 6,
             suspended: 7,
             down: 8,
+            timers: 9,
+            t1: 10,
+            t2: 11,
+            t3: 12,
+            guard: 13,
         }));
+        in_order(transmute::<RawExpiry, [u64; 4]>(RawExpiry { place: 0, notice: 1, clear: 2, length: 3 }));
+        let expiry = RawExpiry { place: 3, notice: 3, clear: 3, length: 3 };
+        let ticked = RawTicked { refusal: 0, length: 1, expired: 2, records: [expiry; 32] };
+        let words = transmute::<RawTicked, [u64; 131]>(ticked);
+        assert!(words[0] == 0 && words[1] == 1 && words[2] == 2 && words[3] == 3 && words[130] == 3);
         in_order(transmute::<RawStatus, [u64; 2]>(RawStatus { kinds: 0, busy: 1 }));
         in_order(transmute::<RawMessage, [u64; 4]>(RawMessage { message_type: 0, carrier: 1, service: 2, field: 3 }));
         let line = transmute::<LineGiven, [u8; 17]>(LineGiven { number: Number([1; 16]), kinds: 2 });
@@ -902,6 +1037,31 @@ fn refused(number: u64) -> Option<Refusal> {
         return None;
     }
     Some(known(Refusal::from_number(number)))
+}
+
+fn noticed(number: u64) -> Option<Notice> {
+    if number == 0 {
+        return None;
+    }
+    Some(known(Notice::from_number(number)))
+}
+
+/// The deadline of a timer that runs.
+fn runs(running: bool, deadline: u64) -> Option<u32> {
+    if running {
+        return Some(deadline as u32);
+    }
+    None
+}
+
+/// A tick with its tail, `out`, `room` and `ticked`, and what it did as Rust has it.
+fn ticked(out: &mut [u8], call: impl FnOnce(*mut u8, usize, &mut RawTicked) -> u64) -> Result<Ticked<'_>, Refusal> {
+    let records = [RawExpiry { place: 0, notice: 0, clear: 0, length: 0 }; 32];
+    let mut raw = RawTicked { refusal: 0, length: 0, expired: 0, records };
+    if let Some(refusal) = refused(call(out.as_mut_ptr(), out.len(), &mut raw)) {
+        return Err(refusal);
+    }
+    Ok(Ticked { messages: &out[..raw.length as usize], count: raw.expired as usize, records: raw.records })
 }
 
 /// A call with its tail, `out`, `room` and `outcome`, and the outcome as Rust has it.
@@ -927,7 +1087,7 @@ fn told(out: &mut [u8], call: impl FnOnce(*mut u8, usize, &mut RawOutcome) -> u6
         next: raw.next as usize,
         starts: Timers(raw.starts),
         stops: Timers(raw.stops),
-        notice: if raw.notice == 0 { None } else { Some(known(Notice::from_number(raw.notice))) },
+        notice: noticed(raw.notice),
         clear: raw.clear == 1,
         fault_at: if raw.unread == 0 { None } else { Some(raw.fault_at as usize) },
         record_at: if raw.has_record == 0 { None } else { Some(raw.record_at as usize) },
@@ -949,6 +1109,11 @@ fn looked(
         active: 0,
         suspended: 0,
         down: 0,
+        timers: 0,
+        t1: 0,
+        t2: 0,
+        t3: 0,
+        guard: 0,
     };
     if call(&mut identifier, &mut number_a, &mut number_b, &mut raw) != 0 {
         return None;

@@ -6,6 +6,7 @@ use crate::codec::{
 };
 use crate::meant::{place_of, record_meant, record_named, Held, Name};
 use crate::outcome::{message, Connection, Kind, Notice, Outcome, T1, T2, T3};
+use crate::timers::{self, deadline, is_due, Lengths, Ticked, Timed};
 
 /// "The clerk's desk is User A's endpoint and holds at most 16 records."
 pub const MOST_RECORDS: usize = 16;
@@ -46,7 +47,7 @@ impl State {
 
     /// READINGS 13: what a delete stops, "Wait-Ack T1; Invoked, Suspended,
     /// Ringout T2; Wait-Answer T2 and T3".
-    fn running(self) -> u32 {
+    pub fn running(self) -> u32 {
         match self {
             State::WaitAck => T1,
             State::Invoked | State::Suspended | State::Ringout => T2,
@@ -63,6 +64,9 @@ pub enum Timer {
 }
 
 impl Timer {
+    /// "T1 before T2 before T3 within one record".
+    pub const ALL: [Timer; 3] = [Timer::T1, Timer::T2, Timer::T3];
+
     pub fn name(self) -> &'static str {
         match self {
             Timer::T1 => "T1",
@@ -116,13 +120,57 @@ pub struct Record {
     pub state: State,
     /// Request 11: "A mark "connection down" goes into the record".
     pub down: bool,
+    pub deadlines: Deadlines,
+}
+
+/// Request 6: "Clerk: deadlines of T1, T2, T3"; "a stored deadline of a timer that
+/// does not run is not looked at".
+#[derive(Clone, Copy, PartialEq, Eq, Debug, Default)]
+pub struct Deadlines {
+    pub t1: u32,
+    pub t2: u32,
+    pub t3: u32,
+}
+
+impl Deadlines {
+    pub fn of(&self, timer: Timer) -> u32 {
+        match timer {
+            Timer::T1 => self.t1,
+            Timer::T2 => self.t2,
+            Timer::T3 => self.t3,
+        }
+    }
+}
+
+/// What a step that starts a timer goes by: the count that the host gave with it,
+/// and the desk's lengths.
+#[derive(Clone, Copy)]
+struct Now {
+    count: u32,
+    lengths: Lengths,
+}
+
+impl Now {
+    fn t1_ends(self) -> u32 {
+        deadline(self.count, self.lengths.t1)
+    }
+
+    /// "T2's length goes by the kind at the result".
+    fn t2_ends(self, kind: Kind) -> u32 {
+        deadline(self.count, self.lengths.t2(kind))
+    }
+
+    fn t3_ends(self) -> u32 {
+        deadline(self.count, self.lengths.t3)
+    }
 }
 
 /// READINGS 19: "Records stand compact in the order of storing; a delete
-/// closes the gap".
+/// closes the gap". Request 6: "the lengths being set at start".
 #[derive(Clone, PartialEq, Eq, Debug, Default)]
 pub struct ClerkDesk {
     pub records: Vec<Record>,
+    pub lengths: Lengths,
 }
 
 /// READINGS 8: "2 (digits, service, preference)".
@@ -146,7 +194,7 @@ fn request_of(ask: &Ask) -> Message {
     message(Carrier::Setup, ask.identifier, content)
 }
 
-fn record_of(ask: &Ask) -> Record {
+fn record_of(ask: &Ask, now: Now) -> Record {
     Record {
         identifier: ask.identifier,
         kind: ask.kind,
@@ -158,6 +206,7 @@ fn record_of(ask: &Ask) -> Record {
         connection: None,
         state: State::WaitAck,
         down: false,
+        deadlines: Deadlines { t1: now.t1_ends(), ..Deadlines::default() },
     }
 }
 
@@ -193,7 +242,7 @@ fn carrier_allowed(record: &Record, message: &Message) -> bool {
         Content::RequestError { .. } | Content::RingoutError { .. } | Content::CallFailed => {
             carrier == Carrier::ReleaseComplete
         }
-        Content::CcExecPossible => record.connection.is_some_and(|c| c.takes_exec_or_resume_in(carrier)),
+        Content::CcExecPossible => record.connection.map_or(false, |c| c.takes_exec_or_resume_in(carrier)),
         Content::CcCancel => matches!(carrier, Carrier::ReleaseComplete | Carrier::Setup),
         Content::CallAlerts => matches!(carrier, Carrier::Alerting | Carrier::Connect),
         _ => false,
@@ -268,27 +317,29 @@ impl Record {
     /// "Result in Wait-Ack: keep only if can-keep was sent true and keep is 1.
     /// Stop T1, start T2, Invoked, notice "accepted"." Carrier: "Connect means
     /// RET, Release Complete means RLS".
-    fn on_result(&mut self, carrier: Carrier, keep: u32) -> Outcome {
+    fn on_result(&mut self, carrier: Carrier, keep: u32, now: Now) -> Outcome {
         self.keep = Some(self.can_keep && keep == 1);
         self.connection = Some(match carrier {
             Carrier::Connect => Connection::Ret,
             _ => Connection::Rls,
         });
         self.state = State::Invoked;
+        self.deadlines.t2 = now.t2_ends(self.kind);
         Outcome::done().stopping(T1).starting(T2).telling(Notice::Accepted)
     }
 
     /// "start T3, Wait-Answer, "recall"".
-    fn recall(&mut self) -> Outcome {
+    fn recall(&mut self, now: Now) -> Outcome {
         self.state = State::WaitAnswer;
+        self.deadlines.t3 = now.t3_ends();
         Outcome::done().starting(T3).telling(Notice::Recall)
     }
 
     /// "ccExecPossible in Invoked, with the host's word on User A: not busy,
     /// start T3, Wait-Answer, "recall"; busy, send ccSuspend, Suspended."
-    fn on_exec_possible(&mut self, user_a_busy: bool) -> Outcome {
+    fn on_exec_possible(&mut self, user_a_busy: bool, now: Now) -> Outcome {
         if !user_a_busy {
-            return self.recall();
+            return self.recall(now);
         }
         self.state = State::Suspended;
         Outcome::done().sending(self.sends_suspend())
@@ -297,7 +348,8 @@ impl Record {
     /// "busy again and keep, Invoked, "busy again, kept""; READINGS 13: it
     /// names no timer. Request 5 of document 02: "Only a record that was CCNR
     /// has the notice "busy again, now waiting for free" (notice 10); one that
-    /// is CCBS, a converted one the next time too, has "busy again, kept"."
+    /// is CCBS, a converted one the next time too, has "busy again, kept"."; "T2
+    /// and the guard go on with the time of the kind at the start."
     fn on_busy_again_kept(&mut self) -> Outcome {
         let notice = match self.kind {
             Kind::Ccbs => Notice::BusyAgainKept,
@@ -307,24 +359,69 @@ impl Record {
         self.state = State::Invoked;
         Outcome::done().telling(notice)
     }
+
+    /// REPLAY-02: "`-` for a timer that does not run: T1 is printed in Wait-Ack, T2
+    /// in the four other states, T3 in Wait-Answer."
+    pub fn running_deadlines(&self) -> [Option<u32>; 3] {
+        let running = self.state.running();
+        let told = |bit: u32, deadline: u32| (running & bit != 0).then_some(deadline);
+        [told(T1, self.deadlines.t1), told(T2, self.deadlines.t2), told(T3, self.deadlines.t3)]
+    }
+
+    /// The timer that a tick finds due, where there is one: "T1 Wait-Ack; T2
+    /// Invoked, Wait-Answer, Suspended; T3 Wait-Answer", which is where a report is
+    /// taken. "T2 in Ringout runs on and never expires there (mend M1)".
+    pub fn due_timer(&self, count: u32) -> Option<Timer> {
+        let due = |timer: &Timer| timer.taken_in(self.state) && is_due(count, self.deadlines.of(*timer));
+        Timer::ALL.into_iter().find(due)
+    }
+}
+
+impl Timed for Record {
+    fn expires(&self, count: u32) -> bool {
+        self.due_timer(count).is_some()
+    }
+
+    fn last_message(&self) -> Message {
+        self.sends_cancel()
+    }
 }
 
 impl ClerkDesk {
+    /// Request 6: "out of range is 2 and no desk is made".
+    pub fn start(lengths: Lengths) -> Result<ClerkDesk, Refusal> {
+        if lengths.in_range() {
+            Ok(ClerkDesk { records: Vec::new(), lengths })
+        } else {
+            Err(Refusal::OutOfRange)
+        }
+    }
+
+    fn at(&self, count: u32) -> Now {
+        Now { count, lengths: self.lengths }
+    }
+
+    /// Request 6: a tick ends each record that has a running timer due.
+    pub fn tick(&mut self, count: u32, buffer: &mut [u8]) -> Result<Ticked, Refusal> {
+        timers::tick(&mut self.records, count, buffer)
+    }
+
     /// "Ask: 2, 4, 5." READINGS 8: "It tests no duplicate numbers. A live
     /// identifier at a full desk is 4." Request 1: "An ask without an identifier
-    /// is never 4."
-    pub fn ask(&mut self, ask: &Ask) -> Outcome {
+    /// is never 4." Request 6: "The host gives the count with every step"; the steps
+    /// that start no timer do not look at it and are not handed it here.
+    pub fn ask(&mut self, ask: &Ask, count: u32) -> Outcome {
         if !ask_in_range(ask) {
             return Outcome::refused(Refusal::OutOfRange);
         }
-        if ask.identifier.is_some_and(|identifier| place_of(&self.records, &identifier).is_some()) {
+        if ask.identifier.map_or(false, |identifier| place_of(&self.records, &identifier).is_some()) {
             return Outcome::refused(Refusal::IdentifierLive);
         }
         if self.records.len() >= MOST_RECORDS {
             return Outcome::refused(Refusal::ClerkFull);
         }
         // "Ask: send type 1 or 2, start T1, Wait-Ack."
-        self.records.push(record_of(ask));
+        self.records.push(record_of(ask, self.at(count)));
         Outcome::done().sending(request_of(ask)).starting(T1).about(self.records.len() - 1)
     }
 
@@ -352,9 +449,9 @@ impl ClerkDesk {
     /// clerk's desk and matters only for ccExecPossible in Invoked." Request 1: so
     /// does the place that the host names, and it matters only where the message
     /// has no identifier and is none of types 5 and 10 in Setup.
-    pub fn take(&mut self, message: &Message, place: usize, user_a_busy: bool) -> Outcome {
+    pub fn take(&mut self, message: &Message, place: usize, user_a_busy: bool, count: u32) -> Outcome {
         match self.judge(message, place) {
-            Ok(place) => self.step(place, message, user_a_busy).about(place),
+            Ok(place) => self.step(place, message, user_a_busy, self.at(count)).about(place),
             Err(refusal) => {
                 let mut outcome = Outcome::refused(refusal);
                 outcome.message = reply_to(message, refusal);
@@ -363,16 +460,17 @@ impl ClerkDesk {
         }
     }
 
-    fn step(&mut self, place: usize, message: &Message, user_a_busy: bool) -> Outcome {
-        let Some(record) = self.records.get_mut(place) else {
-            return Outcome::refused(Refusal::NoRecord);
+    fn step(&mut self, place: usize, message: &Message, user_a_busy: bool, now: Now) -> Outcome {
+        let record = match self.records.get_mut(place) {
+            Some(record) => record,
+            None => return Outcome::refused(Refusal::NoRecord),
         };
         match &message.content {
-            Content::RequestResult { keep } => record.on_result(message.carrier, *keep),
+            Content::RequestResult { keep } => record.on_result(message.carrier, *keep, now),
             // "Request error in Wait-Ack: delete, "denied short" or "denied long"."
             Content::RequestError { error: SHORT } => self.delete(place).telling(Notice::DeniedShort),
             Content::RequestError { .. } => self.delete(place).telling(Notice::DeniedLong),
-            Content::CcExecPossible => record.on_exec_possible(user_a_busy),
+            Content::CcExecPossible => record.on_exec_possible(user_a_busy, now),
             Content::RingoutError { error } => self.on_ringout_error(place, *error),
             // "Type 11 in Ringout: delete, "completed"."
             Content::CallAlerts => self.delete(place).telling(Notice::Completed),
@@ -403,7 +501,7 @@ impl ClerkDesk {
     }
 
     fn rings_out(&self, place: usize) -> bool {
-        self.records.get(place).is_some_and(|r| r.state == State::Ringout)
+        self.records.get(place).map_or(false, |r| r.state == State::Ringout)
     }
 
     /// "ccCancel in any state: delete, "failed"." M4: "The host is told to
@@ -457,10 +555,11 @@ impl ClerkDesk {
 
     /// "User A free in Suspended, as the host chooses: send ccResume, Invoked;
     /// or start T3, Wait-Answer, "recall"." Acts: 6, 7.
-    pub fn user_a_free(&mut self, name: &Name, choice: FreeChoice) -> Outcome {
+    pub fn user_a_free(&mut self, name: &Name, choice: FreeChoice, count: u32) -> Outcome {
+        let now = self.at(count);
         self.on_record(name, |record| match choice {
             _ if record.state != State::Suspended => Outcome::refused(Refusal::NoRow),
-            FreeChoice::Recall => record.recall(),
+            FreeChoice::Recall => record.recall(now),
             FreeChoice::Resume => {
                 record.state = State::Invoked;
                 Outcome::done().sending(record.sends_resume())
@@ -492,10 +591,11 @@ impl ClerkDesk {
     }
 
     /// "T1, T2 or T3 running out: the same, "failed"." Timers: 6, 9. M1 leaves
-    /// no timer that is taken in Ringout, so no clear-the-call word either.
+    /// no timer that is taken in Ringout, so no clear-the-call word either. Request
+    /// 6: "Reports by hand go by the state alone and not by the deadline."
     pub fn timer_runs_out(&mut self, name: &Name, timer: Timer) -> Outcome {
         self.on_named(name, |desk, place| {
-            let taken = desk.records.get(place).is_some_and(|r| timer.taken_in(r.state));
+            let taken = desk.records.get(place).map_or(false, |r| timer.taken_in(r.state));
             if !taken {
                 return Outcome::refused(Refusal::TimerNotRunning);
             }
@@ -506,3 +606,5 @@ impl ClerkDesk {
 
 #[cfg(test)]
 mod tests;
+#[cfg(test)]
+mod tests_ticks;

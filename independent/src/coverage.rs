@@ -14,7 +14,8 @@
 //!   refusal 9 on the guard (READINGS 13: "only ever 6 or taken");
 //! - carriers by an empty connection choice (READINGS 10: "In Wait-Ack the
 //!   connection choice is never asked for");
-//! - clear-the-call on a timer: M1 leaves no timer that is taken in Ringout;
+//! - clear-the-call on a timer or in a tick: M1 leaves no timer that is taken in
+//!   Ringout, and none that expires there;
 //! - a suspended mark outside Await (READINGS 18: "Suspended only in Await");
 //! - refusal 8, and M3's reply to it, on a ccExecPossible in Setup: since request
 //!   11 every acknowledged record takes it in that carrier, and 7 comes first;
@@ -25,7 +26,9 @@
 //!   has no way to say so;
 //! - refusal 7 on a ccCancel that is fitted (it is for every state), and refusal 8
 //!   on any message that is fitted (it is in Setup, which all of them may be in);
-//! - a ccRingout that is taken by place: it is taken in Setup alone, and fitted there.
+//! - a ccRingout that is taken by place: it is taken in Setup alone, and fitted there;
+//! - refusal 12 of a tick with room for 2048: the longest messages of a full desk take
+//!   less.
 //!
 //! Request 1: rows about a record say how it was found, "by identifier", "by fit" or
 //! "by place"; "no record" is the state where none was. A message for the other end
@@ -34,7 +37,11 @@
 //! another record, or a message is sent with what isn't its record's, the row is not
 //! listed.
 //!
-//! Refusal 12 is the writer's and at neither desk, so it is in the codec's table.
+//! Request 6: timing.rs states a second time which timers a record has and when they
+//! are due. A tick that ends other records, writes other bytes or leaves another desk
+//! is not listed, nor is a step that moves a deadline which it should leave.
+//!
+//! Refusal 12 is the writer's, in the codec's table, and a tick's, at either desk.
 //! Every fault of bytes is a row three times, with the place that is told for it:
 //! in the codec's table and in that of each desk.
 //!
@@ -43,13 +50,16 @@
 mod expected;
 mod expected_codec;
 mod expected_meant;
+mod expected_ticks;
 mod meaning;
 mod observed;
 mod observed_clerk;
 mod observed_codec;
 mod observed_line;
 mod observed_meant;
+mod observed_ticks;
 mod stops;
+mod timing;
 
 pub use self::observed::is_at_clerk;
 use crate::script::{take_entry, Answer, Entry, Session};
@@ -64,13 +74,15 @@ struct Row {
 fn all_rows() -> Vec<String> {
     let mut rows = expected::rows();
     rows.extend(expected_meant::rows());
+    rows.extend(expected_ticks::rows());
     rows.extend(expected_codec::rows());
     rows.extend(stops::rows());
     rows
 }
 
 /// The tables as they are reported, and how their rows' names begin.
-const TABLES: [(&str, &str); 3] = [("clerk's desk", "clerk: "), ("line desk", "line: "), ("codec", "codec: ")];
+const TABLES: [(&str, &str); 4] =
+    [("clerk's desk", "clerk: "), ("line desk", "line: "), ("count", "count: "), ("codec", "codec: ")];
 
 const STOP: &str = "stop: ";
 
@@ -89,6 +101,7 @@ fn refusal_number(answer: &Answer) -> u32 {
     match answer {
         Answer::Step { outcome, .. } => outcome.refusal.map_or(0, |r| r.number()),
         Answer::Written { refusal, .. } => *refusal,
+        Answer::Ticked { told, .. } => told.as_ref().err().map_or(0, |r| r.number()),
         Answer::Printed { .. } => 0,
     }
 }
@@ -217,6 +230,7 @@ impl Coverage {
 #[cfg(test)]
 mod tests {
     use super::*;
+    use crate::make::start_clerk;
 
     #[test]
     fn no_row_is_listed_twice() {
@@ -229,24 +243,26 @@ mod tests {
     #[test]
     fn the_last_lines_are_the_sums() {
         let mut coverage = Coverage::new();
-        // The clerk's desk is started, no bytes reach it, a code isn't listed.
-        coverage.play(&[2, 17, 0, 255, 0, 0]);
+        // The clerk's desk is started, the count goes on, no bytes reach the desk, a
+        // code isn't listed.
+        let start = start_clerk(Default::default());
+        coverage.play(&[&start[..], &[3, 0, 0, 0, 1, 17, 0, 255, 0, 0]].concat());
         let report = coverage.report(false);
         assert!(report.contains("\n1 clerk: no bytes: refusal 1 at the bytes' length\n"));
         assert!(report.contains("\n1 stop: code not listed\n"));
-        let (clerk, line, codec) =
-            (coverage.reached("clerk: "), coverage.reached("line: "), coverage.reached("codec: "));
+        let [clerk, line, count, codec] = TABLES.map(|(_, start)| coverage.reached(start));
         // The start, the bytes, and the refusal's own row.
-        assert_eq!((clerk.0, line.0, codec.0), (3, 0, 0));
-        let all = clerk.1 + line.1 + codec.1;
+        assert_eq!((clerk.0, line.0, count.0, codec.0), (3, 0, 1, 0));
+        let all = clerk.1 + line.1 + count.1 + codec.1;
         assert_eq!(all + coverage.reached_stops().1, coverage.all_rows());
         let lines = [
             format!("stop rows, counted apart: reached 1 of {}", coverage.reached_stops().1),
             format!("clerk's desk: rows reached 3 of {}", clerk.1),
             format!("line desk: rows reached 0 of {}", line.1),
+            format!("count: rows reached 1 of {}", count.1),
             format!("codec: rows reached 0 of {}", codec.1),
             "refusal numbers reached 1 of 12".to_string(),
-            format!("rows reached 3 of {all}"),
+            format!("rows reached 4 of {all}"),
         ];
         assert!(report.ends_with(&format!("{}\n", lines.join("\n"))), "{report}");
     }
@@ -254,7 +270,7 @@ mod tests {
     #[test]
     fn missing_rows_are_listed_where_all_are_required() {
         let mut coverage = Coverage::new();
-        coverage.play(&[2]);
+        coverage.play(&start_clerk(Default::default()));
         assert!(!coverage.complete());
         let listed = |report: &str| report.lines().filter(|line| line.starts_with("MISSING ")).count();
         let (reached, all) = coverage.reached_of_tables();
@@ -262,7 +278,7 @@ mod tests {
         assert_eq!(listed(&coverage.report(true)), all - 1);
         assert_eq!(listed(&coverage.report(false)), 0);
         assert!(coverage.report(true).contains("\nMISSING line: refusal 10\n"));
-        assert!(!coverage.report(true).contains("MISSING clerk: start\n"));
+        assert!(!coverage.report(true).contains("MISSING clerk: start, desk without records: started\n"));
         // A stop row is counted apart and never required.
         assert!(!coverage.report(true).contains("MISSING stop"));
     }
@@ -295,6 +311,12 @@ mod tests {
         assert_eq!(name(&[21, 0, 9, 4]), "stop: code 21: timer not listed");
         assert_eq!(name(&[19, 0, 9, 2]), "stop: code 19: resume or recall not listed");
         assert_eq!(name(&[36, 8, 9, 2]), "stop: code 36: identifier's length not listed");
+        assert_eq!(name(&[23, 1, 8]), "stop: code 23: room not listed");
+        assert_eq!(name(&[38, 0, 9, 64]), "stop: code 38: room not listed");
+        assert_eq!(name(&[38, 0]), "stop: code 38: the script ends inside");
+        assert_eq!(name(&[38, 0, 8]), "stop: code 38: nothing is wrong");
+        assert_eq!(name(&[&[2][..], &[1; 15]].concat()), "stop: code 2: the script ends inside");
+        assert_eq!(name(&[3, 1, 1, 1]), "stop: code 3: the script ends inside");
     }
 
     #[test]

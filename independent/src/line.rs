@@ -6,6 +6,7 @@ use crate::codec::{
 };
 use crate::meant::{place_of, record_meant, record_named, Held, Name};
 use crate::outcome::{message, Connection, Kind, Outcome, GUARD};
+use crate::timers::{self, deadline, guard_length, is_due, Ticked, Timed};
 
 /// "at most 16 lines, at most 32 records, at most 5 for one line".
 pub const MOST_LINES: usize = 16;
@@ -90,6 +91,8 @@ pub struct Record {
     pub suspended: bool,
     /// Request 11: "A mark "connection down" goes into the record".
     pub down: bool,
+    /// Request 6: "line: [the deadline] of the guard", which always runs.
+    pub guard: u32,
 }
 
 /// "Records keep the order of acceptance."
@@ -184,6 +187,16 @@ impl Held for Record {
     }
 }
 
+impl Timed for Record {
+    fn expires(&self, count: u32) -> bool {
+        is_due(count, self.guard)
+    }
+
+    fn last_message(&self) -> Message {
+        self.sends_cancel()
+    }
+}
+
 impl Record {
     /// Request 1: "What a record sends has the record's identifier or none, and in
     /// Setup (5, 6, 9, 10) the record's elements, numberA as it is held."
@@ -271,7 +284,7 @@ impl LineDesk {
 
     /// READINGS 11: "A request at the line: 2, 8, then the completed steps
     /// long, short, accepted".
-    fn take_request(&mut self, request: &Message, kind: Kind, fields: &RequestFields) -> Outcome {
+    fn take_request(&mut self, request: &Message, kind: Kind, fields: &RequestFields, count: u32) -> Outcome {
         if request.carrier != Carrier::Setup {
             return Outcome::refused(Refusal::BadCarrier);
         }
@@ -279,7 +292,7 @@ impl LineDesk {
             let answer = message(Carrier::ReleaseComplete, request.identifier, Content::RequestError { error });
             return Outcome::done().sending(answer);
         }
-        self.accept(request.identifier, kind, fields)
+        self.accept(request.identifier, kind, fields, deadline(count, guard_length(kind)))
     }
 
     /// "Connect or Release Complete by preference, by the desk's default if
@@ -296,8 +309,9 @@ impl LineDesk {
     /// "Otherwise store, Invoked, start the guard, send the result: keep is 1
     /// exactly if can-keep and the desk keeps; .. The activity mark starts set
     /// if the line is busy." READINGS 18: "Accepted: suspended mark clear,
-    /// activity mark = line busy (either kind)."
-    fn accept(&mut self, identifier: Option<Identifier>, kind: Kind, fields: &RequestFields) -> Outcome {
+    /// activity mark = line busy (either kind)." Request 6: the guard's length goes
+    /// "by the kind of the request".
+    fn accept(&mut self, identifier: Option<Identifier>, kind: Kind, fields: &RequestFields, guard: u32) -> Outcome {
         let keep = can_keep(fields) && self.keeps;
         let connection = self.choose_connection(fields);
         self.records.push(Record {
@@ -312,6 +326,7 @@ impl LineDesk {
             active: self.line_busy(&fields.number_b),
             suspended: false,
             down: false,
+            guard,
         });
         let carrier = match connection {
             Connection::Ret => Carrier::Connect,
@@ -323,14 +338,15 @@ impl LineDesk {
 
     /// "Messages: 2, 3, 6, 7, 8 (a request at the line desk: 2, 3, 8)." Request 1:
     /// the host's place comes with every message and is not looked at for types 1
-    /// and 2, for types 6, 9 and 10 in Setup, or where there is an identifier.
-    pub fn take(&mut self, message: &Message, place: usize) -> Outcome {
+    /// and 2, for types 6, 9 and 10 in Setup, or where there is an identifier. Request
+    /// 6: only an accepted request looks at the count, as it starts the guard.
+    pub fn take(&mut self, message: &Message, place: usize, count: u32) -> Outcome {
         if !in_range(message) {
             return Outcome::refused(Refusal::OutOfRange);
         }
         match &message.content {
-            Content::CcbsRequest(fields) => self.take_request(message, Kind::Ccbs, fields),
-            Content::CcnrRequest(fields) => self.take_request(message, Kind::Ccnr, fields),
+            Content::CcbsRequest(fields) => self.take_request(message, Kind::Ccbs, fields, count),
+            Content::CcnrRequest(fields) => self.take_request(message, Kind::Ccnr, fields, count),
             _ => self.take_other(message, place),
         }
     }
@@ -363,8 +379,9 @@ impl LineDesk {
     }
 
     fn step(&mut self, place: usize, message: &Message) -> Outcome {
-        let Some(record) = self.records.get_mut(place) else {
-            return Outcome::refused(Refusal::NoRecord);
+        let record = match self.records.get_mut(place) {
+            Some(record) => record,
+            None => return Outcome::refused(Refusal::NoRecord),
         };
         match message.content {
             // "ccSuspend in Await: set the suspended mark."
@@ -390,9 +407,10 @@ impl LineDesk {
     /// remoteUserBusyAgain and keeps"; "The line's allowed kinds are not asked
     /// again."
     fn on_ringout(&mut self, place: usize) -> Outcome {
-        let busy = self.records.get(place).is_some_and(|r| self.line_busy(&r.number_b));
-        let Some(record) = self.records.get_mut(place) else {
-            return Outcome::refused(Refusal::NoRecord);
+        let busy = self.records.get(place).map_or(false, |r| self.line_busy(&r.number_b));
+        let record = match self.records.get_mut(place) {
+            Some(record) => record,
+            None => return Outcome::refused(Refusal::NoRecord),
         };
         if !busy {
             record.suspended = false;
@@ -432,8 +450,9 @@ impl LineDesk {
     /// activity mark of that line's Invoked records. Repeats are allowed."
     /// Line report: 10; READINGS 16: "bad or unknown digits are 10".
     pub fn report(&mut self, digits: &[u8], busy: bool) -> Outcome {
-        let Some(line) = self.lines.iter_mut().find(|l| l.digits == digits) else {
-            return Outcome::refused(Refusal::NoSuchLine);
+        let line = match self.lines.iter_mut().find(|l| l.digits == digits) {
+            Some(line) => line,
+            None => return Outcome::refused(Refusal::NoSuchLine),
         };
         line.busy = busy;
         for record in &mut self.records {
@@ -458,8 +477,9 @@ impl LineDesk {
             return Outcome::refused(Refusal::NothingToOffer);
         }
         let oldest = self.records.iter_mut().enumerate().find(|(_, r)| r.number_b == digits && r.fits());
-        let Some((place, record)) = oldest else {
-            return Outcome::refused(Refusal::NothingToOffer);
+        let (place, record) = match oldest {
+            Some((place, record)) => (place, record),
+            None => return Outcome::refused(Refusal::NothingToOffer),
         };
         record.state = State::Await;
         let carrier = record.sends_by().facility_or_setup();
@@ -513,7 +533,14 @@ impl LineDesk {
     pub fn guard_runs_out(&mut self, name: &Name) -> Outcome {
         self.on_named(name, LineDesk::cancel_record)
     }
+
+    /// Request 6: a tick ends each record whose guard is due.
+    pub fn tick(&mut self, count: u32, buffer: &mut [u8]) -> Result<Ticked, Refusal> {
+        timers::tick(&mut self.records, count, buffer)
+    }
 }
 
 #[cfg(test)]
 mod tests;
+#[cfg(test)]
+mod tests_ticks;

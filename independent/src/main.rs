@@ -1,5 +1,5 @@
 //! An independent reference program for the desks of document 01 and requests
-//! 1, 2, 5 and 11 of document 02, written from the papers alone: 01-scope.md,
+//! 1, 2, 5, 6 and 11 of document 02, written from the papers alone: 01-scope.md,
 //! READINGS.md, REPLAY.md, STORY.md, 02-change-requests.md, READINGS-02.md,
 //! REPLAY-02.md and H.450.9.
 
@@ -12,6 +12,7 @@ mod meant;
 mod outcome;
 mod script;
 mod story;
+mod timers;
 
 use std::io::{self, BufWriter, Read, Write};
 use std::path::Path;
@@ -119,7 +120,7 @@ mod tests {
     #[test]
     fn coverage_that_requires_all_tells_by_its_status_what_is_missing() {
         // No script reaches no row; false becomes a status of 1.
-        let listed = |(report, complete): (String, bool)| (report.contains("\nMISSING clerk: start\n"), complete);
+        let listed = |(report, complete): (String, bool)| (report.contains("\nMISSING clerk: refusal 12\n"), complete);
         assert_eq!(cover(&["--require-all"]).map(listed).ok(), Some((true, false)));
         assert_eq!(cover(&[]).map(listed).ok(), Some((false, false)));
         assert!(run(&["coverage", "--require-all", "no such file"]).is_err());

@@ -3,16 +3,20 @@
 mod bad_input;
 pub mod clerk;
 mod clerk_meant;
+mod clerk_ticks;
 pub mod codec;
 pub mod line;
 mod line_meant;
+mod line_ticks;
 pub mod random;
 pub mod stop;
 pub mod stored;
+mod ticks;
 
 use crate::codec::{message_bytes, Carrier, Content, Elements, Identifier, RequestFields};
 use crate::outcome::{message, Kind};
 use crate::script::{take_entry, Answer, Session};
+use crate::timers::Lengths;
 use std::fs;
 use std::io;
 use std::ops::Range;
@@ -237,7 +241,31 @@ pub fn start_line<D: AsRef<[u8]>>(lines: &[(D, u8)], settings: u8) -> Vec<u8> {
     entry
 }
 
+/// Code 2, start the clerk's desk: the four lengths, in range or not.
 pub const START_CLERK: u8 = 2;
+
+pub fn start_clerk(lengths: Lengths) -> Vec<u8> {
+    let Lengths { t1, t2_ccbs, t2_ccnr, t3 } = lengths;
+    let mut entry = vec![START_CLERK];
+    entry.extend([t1, t2_ccbs, t2_ccnr, t3].iter().flat_map(|length| length.to_le_bytes()));
+    entry
+}
+
+/// Code 3, the count is now.
+pub const COUNT: u8 = 3;
+
+pub fn count(count: u32) -> Vec<u8> {
+    [&[COUNT][..], &count.to_le_bytes()].concat()
+}
+
+/// Codes 23 and 38, a tick with room for so many bytes.
+pub const TICK_AT_CLERK: u8 = 23;
+pub const TICK_AT_LINE: u8 = 38;
+
+pub fn tick(code: u8, room: u16) -> Vec<u8> {
+    [&[code][..], &room.to_le_bytes()].concat()
+}
+
 pub const PRINT_CLERK: u8 = 64;
 pub const PRINT_LINE: u8 = 65;
 
@@ -281,6 +309,7 @@ pub fn contents_without_requests() -> Vec<Content> {
 /// A run of entries that begins with a fresh desk and prints the desk after
 /// every step, "so that the whole desk is compared"; but for steps on the way to a
 /// state, where other cases print the same.
+#[derive(Clone)]
 pub struct Case {
     pub bytes: Vec<u8>,
     print: u8,
@@ -294,7 +323,7 @@ impl Case {
 
     pub fn at_clerk() -> Case {
         let mut case = Case::new(PRINT_CLERK);
-        case.step(&[START_CLERK]);
+        case.step(&start_clerk(Lengths::default()));
         case
     }
 

@@ -1,17 +1,19 @@
 //! Plays a script: entries in, lines out, as REPLAY.md has them, and REPLAY-02.md
-//! in its sections on requests 2, 5, 11 and 1.
+//! in its sections on requests 2, 5, 11, 1 and 6.
 
 use crate::clerk::{Ask, ClerkDesk, FreeChoice, Timer};
-use crate::codec::{message_bytes, read_message, write_message, Fault, Identifier};
+use crate::codec::{message_bytes, read_message, write_message, Fault, Identifier, Refusal};
 use crate::line::{Act, Line, LineDesk};
 use crate::meant::Name;
 use crate::outcome::{Kind, Notice, Outcome};
+use crate::timers::{Lengths, Ticked};
 
 /// One entry of a script. Choices that REPLAY.md doesn't list have no entry.
 #[derive(Clone, PartialEq, Eq, Debug)]
 pub enum Entry {
     StartLine { lines: Vec<Line>, keeps: bool, retains: bool },
-    StartClerk,
+    StartClerk(Lengths),
+    Count(u32),
     Ask(Ask),
     ToClerk { user_a_busy: bool, place: usize, bytes: Vec<u8> },
     Accept(Name),
@@ -19,16 +21,21 @@ pub enum Entry {
     UserCancels(Name),
     TimerRunsOut(Name, Timer),
     FellAtClerk(Name),
+    TickAtClerk { room: usize },
     ToLine { place: usize, bytes: Vec<u8> },
     Report { digits: Vec<u8>, busy: bool },
     Look { digits: Vec<u8> },
     Act(Name, Act),
     GuardRunsOut(Name),
     FellAtLine(Name),
+    TickAtLine { room: usize },
     Write { bytes: Vec<u8>, place: usize, size: usize },
     PrintClerk,
     PrintLine,
 }
+
+/// REPLAY-02: "room, two bytes, 0 to 2048 (more is a choice that is not listed)".
+pub const MOST_ROOM: usize = 2048;
 
 /// The part of the script that hasn't been read. Every reader gives None where
 /// "the script ends inside an entry, or an entry has a code or a choice not
@@ -48,6 +55,11 @@ impl Unread<'_> {
         let taken = self.bytes.get(..count)?.to_vec();
         self.bytes = self.bytes.get(count..)?;
         Some(taken)
+    }
+
+    /// "numbers of more than one byte in an entry stand low byte first".
+    fn four_bytes(&mut self) -> Option<u32> {
+        Some(u32::from_le_bytes([self.byte()?, self.byte()?, self.byte()?, self.byte()?]))
     }
 
     /// "digits is a byte L and then L bytes"; "N, N bytes" reads the same way.
@@ -116,6 +128,18 @@ impl Unread<'_> {
         Some(Entry::StartLine { lines, keeps, retains })
     }
 
+    /// "four lengths of four bytes: T1, T2 of CCBS, T2 of CCNR, T3".
+    fn start_clerk(&mut self) -> Option<Entry> {
+        let (t1, t2_ccbs) = (self.four_bytes()?, self.four_bytes()?);
+        let (t2_ccnr, t3) = (self.four_bytes()?, self.four_bytes()?);
+        Some(Entry::StartClerk(Lengths { t1, t2_ccbs, t2_ccnr, t3 }))
+    }
+
+    fn room(&mut self) -> Option<usize> {
+        let room = usize::from(u16::from_le_bytes([self.byte()?, self.byte()?]));
+        (room <= MOST_ROOM).then_some(room)
+    }
+
     /// "id, kind 1 CCBS or 2 CCNR, digits A, digits B, service low byte,
     /// service high byte, can-keep 0 or 1, preference"; the preference is
     /// "0 to 255, so that values out of range can be tried".
@@ -178,7 +202,8 @@ impl Unread<'_> {
     fn entry(&mut self) -> Option<Entry> {
         match self.byte()? {
             1 => self.start_line(),
-            2 => Some(Entry::StartClerk),
+            2 => self.start_clerk(),
+            3 => Some(Entry::Count(self.four_bytes()?)),
             16 => self.ask(),
             17 => Some(Entry::ToClerk { user_a_busy: self.yes_or_no()?, place: self.place()?, bytes: self.counted()? }),
             18 => Some(Entry::Accept(self.name()?)),
@@ -186,12 +211,14 @@ impl Unread<'_> {
             20 => Some(Entry::UserCancels(self.name()?)),
             21 => self.timer(),
             22 => Some(Entry::FellAtClerk(self.name()?)),
+            23 => Some(Entry::TickAtClerk { room: self.room()? }),
             32 => Some(Entry::ToLine { place: self.place()?, bytes: self.counted()? }),
             33 => Some(Entry::Report { digits: self.counted()?, busy: self.yes_or_no()? }),
             34 => Some(Entry::Look { digits: self.counted()? }),
             35 => self.act(),
             36 => Some(Entry::GuardRunsOut(self.name()?)),
             37 => Some(Entry::FellAtLine(self.name()?)),
+            38 => Some(Entry::TickAtLine { room: self.room()? }),
             48 => self.write(),
             64 => Some(Entry::PrintClerk),
             65 => Some(Entry::PrintLine),
@@ -212,17 +239,36 @@ pub fn take_entry(script: &[u8]) -> Option<(Entry, &[u8])> {
 /// reader refused" (REPLAY-02, request 2).
 #[derive(Clone, PartialEq, Eq, Debug)]
 pub enum Answer {
-    Step { outcome: Outcome, left: usize, fault_place: Option<usize> },
-    Written { refusal: u32, length: usize, buffer: Vec<u8>, fault_place: Option<usize> },
-    Printed { lines: Vec<String> },
+    Step {
+        outcome: Outcome,
+        left: usize,
+        fault_place: Option<usize>,
+    },
+    Written {
+        refusal: u32,
+        length: usize,
+        buffer: Vec<u8>,
+        fault_place: Option<usize>,
+    },
+    /// Request 6: what a tick told, and all of the bytes that it was lent.
+    Ticked {
+        told: Result<Ticked, Refusal>,
+        buffer: Vec<u8>,
+    },
+    Printed {
+        lines: Vec<String>,
+    },
 }
 
 /// "At the start the clerk's desk is empty, and the line desk has no lines,
-/// does not keep requests and does not retain connections."
+/// does not keep requests and does not retain connections." Request 6: "Before the
+/// first entry the lengths are 20, 900, 3600 and 20, and the count is 0. The count
+/// holds for every step and tick from its entry on, at both desks, over starts too."
 #[derive(Clone, PartialEq, Eq, Debug, Default)]
 pub struct Session {
     pub clerk: ClerkDesk,
     pub line: LineDesk,
+    pub count: u32,
 }
 
 /// A step without bytes that could be refused: "`-` in every other line, a 2 of
@@ -245,23 +291,26 @@ impl Session {
     pub fn play(&mut self, entry: &Entry) -> Answer {
         match entry {
             Entry::StartLine { lines, keeps, retains } => step(self.start_line(lines, *keeps, *retains)),
-            Entry::StartClerk => {
-                self.clerk = ClerkDesk::default();
+            Entry::StartClerk(lengths) => step(self.start_clerk(*lengths)),
+            Entry::Count(count) => {
+                self.count = *count;
                 step(Outcome::done())
             }
-            Entry::Ask(ask) => step(self.clerk.ask(ask)),
+            Entry::Ask(ask) => step(self.clerk.ask(ask, self.count)),
             Entry::ToClerk { user_a_busy, place, bytes } => self.clerk_gets(*user_a_busy, *place, bytes),
             Entry::Accept(name) => step(self.clerk.accept(name)),
-            Entry::UserAFree(name, choice) => step(self.clerk.user_a_free(name, *choice)),
+            Entry::UserAFree(name, choice) => step(self.clerk.user_a_free(name, *choice, self.count)),
             Entry::UserCancels(name) => step(self.clerk.user_cancels(name)),
             Entry::TimerRunsOut(name, timer) => step(self.clerk.timer_runs_out(name, *timer)),
             Entry::FellAtClerk(name) => step(self.clerk.connection_fell(name)),
+            Entry::TickAtClerk { room } => tick(*room, |buffer| self.clerk.tick(self.count, buffer)),
             Entry::ToLine { place, bytes } => self.line_gets(*place, bytes),
             Entry::Report { digits, busy } => step(self.line.report(digits, *busy)),
             Entry::Look { digits } => step(self.line.look(digits)),
             Entry::Act(name, act) => step(self.line.act(name, *act)),
             Entry::GuardRunsOut(name) => step(self.line.guard_runs_out(name)),
             Entry::FellAtLine(name) => step(self.line.connection_fell(name)),
+            Entry::TickAtLine { room } => tick(*room, |buffer| self.line.tick(self.count, buffer)),
             Entry::Write { bytes, place, size } => write(bytes, *place, *size),
             Entry::PrintClerk => Answer::Printed { lines: clerk_lines(&self.clerk) },
             Entry::PrintLine => Answer::Printed { lines: line_lines(&self.line) },
@@ -279,20 +328,31 @@ impl Session {
         }
     }
 
+    /// "Refused: the desk stays as it was", its lengths too.
+    fn start_clerk(&mut self, lengths: Lengths) -> Outcome {
+        match ClerkDesk::start(lengths) {
+            Ok(desk) => {
+                self.clerk = desk;
+                Outcome::done()
+            }
+            Err(refusal) => Outcome::refused(refusal),
+        }
+    }
+
     /// "`left` is, for 17 and 32, how many bytes follow the message that was
     /// read (all of them where the bytes are refused)": a message that the
     /// desk refuses has been read, so there it is what follows the message. "The
     /// place of an entry is handed to the desk with the message".
     fn clerk_gets(&mut self, user_a_busy: bool, place: usize, bytes: &[u8]) -> Answer {
         match read_message(bytes) {
-            Ok((message, rest)) => heard(self.clerk.take(&message, place, user_a_busy), rest),
+            Ok((message, rest)) => heard(self.clerk.take(&message, place, user_a_busy, self.count), rest),
             Err(fault) => unread(fault, bytes),
         }
     }
 
     fn line_gets(&mut self, place: usize, bytes: &[u8]) -> Answer {
         match read_message(bytes) {
-            Ok((message, rest)) => heard(self.line.take(&message, place), rest),
+            Ok((message, rest)) => heard(self.line.take(&message, place, self.count), rest),
             Err(fault) => unread(fault, bytes),
         }
     }
@@ -311,6 +371,13 @@ fn write(bytes: &[u8], place: usize, size: usize) -> Answer {
         },
     };
     Answer::Written { refusal, length, buffer, fault_place }
+}
+
+/// "The tick is lent `room` bytes of 0xEE, and `buffer` is all of them afterwards".
+fn tick(room: usize, desk_ticks: impl FnOnce(&mut [u8]) -> Result<Ticked, Refusal>) -> Answer {
+    let mut buffer = vec![0xEE; room];
+    let told = desk_ticks(&mut buffer);
+    Answer::Ticked { told, buffer }
 }
 
 /// "bytes in lower-case hexadecimal, .. `-` for nothing".
@@ -338,13 +405,19 @@ fn bit(choice: bool) -> u32 {
     u32::from(choice)
 }
 
-/// "`c id kind A B service can-keep keep connection state down`. .. keep 0, 1
-/// or `-`; connection `-`, 1 RET, 2 RLS", "(1 for a record that is down)".
+/// "`-` for a timer that does not run".
+fn deadline_text(deadline: Option<u32>) -> String {
+    deadline.map_or("-".to_string(), |deadline| deadline.to_string())
+}
+
+/// "`c id kind A B service can-keep keep connection state down t1 t2 t3`. .. keep
+/// 0, 1 or `-`; connection `-`, 1 RET, 2 RLS", "(1 for a record that is down)".
 fn clerk_record_line(record: &crate::clerk::Record) -> String {
     let keep = record.keep.map_or("-".to_string(), |k| bit(k).to_string());
     let connection = record.connection.map_or("-".to_string(), |c| c.number().to_string());
+    let deadlines = record.running_deadlines().map(deadline_text);
     format!(
-        "c {} {} {} {} {} {} {} {} {} {}",
+        "c {} {} {} {} {} {} {} {} {} {} {}",
         identifier_text(&record.identifier),
         record.kind.number(),
         digits_text(&record.number_a),
@@ -354,7 +427,8 @@ fn clerk_record_line(record: &crate::clerk::Record) -> String {
         keep,
         connection,
         record.state.number(),
-        bit(record.down)
+        bit(record.down),
+        deadlines.join(" ")
     )
 }
 
@@ -366,10 +440,11 @@ fn clerk_lines(desk: &ClerkDesk) -> Vec<String> {
     lines
 }
 
-/// "`r id kind A B service keep connection state active suspended down`".
+/// "`r id kind A B service keep connection state active suspended down guard`"; the
+/// guard always runs.
 fn line_record_line(record: &crate::line::Record) -> String {
     format!(
-        "r {} {} {} {} {} {} {} {} {} {} {}",
+        "r {} {} {} {} {} {} {} {} {} {} {} {}",
         identifier_text(&record.identifier),
         record.kind.number(),
         digits_text(&record.number_a),
@@ -380,7 +455,8 @@ fn line_record_line(record: &crate::line::Record) -> String {
         record.state.number(),
         bit(record.active),
         bit(record.suspended),
-        bit(record.down)
+        bit(record.down),
+        record.guard
     )
 }
 
@@ -420,6 +496,18 @@ fn step_line(number: usize, outcome: &Outcome, left: usize, fault_place: Option<
     )
 }
 
+/// "`N refusal expired places length buffer`"; "`places` are theirs, .. with a comma
+/// between two and no space (`-` for none)"; "With refusal 12 these are `0 - 0`".
+fn tick_line(number: usize, told: &Result<Ticked, Refusal>, buffer: &[u8]) -> String {
+    let (refusal, places, length) = match told {
+        Ok(ticked) => (0, &ticked.places[..], ticked.length),
+        Err(refusal) => (refusal.number(), &[][..], 0),
+    };
+    let listed: Vec<String> = places.iter().map(usize::to_string).collect();
+    let listed = if listed.is_empty() { "-".to_string() } else { listed.join(",") };
+    format!("{number} {refusal} {} {listed} {length} {}", places.len(), hex(buffer))
+}
+
 /// The lines of one entry, each closed by a line feed; a write is "`N refusal
 /// length buffer place`".
 fn answer_text(number: usize, answer: &Answer) -> String {
@@ -430,6 +518,7 @@ fn answer_text(number: usize, answer: &Answer) -> String {
         Answer::Written { refusal, length, buffer, fault_place } => {
             format!("{} {} {} {} {}\n", number, refusal, length, hex(buffer), place_text(*fault_place))
         }
+        Answer::Ticked { told, buffer } => format!("{}\n", tick_line(number, told, buffer)),
         Answer::Printed { lines } => format!("{} {}\n", number, lines.join("\n")),
     }
 }
@@ -440,10 +529,13 @@ pub fn play_script(script: &[u8], mut print: impl FnMut(&str)) {
     let mut rest = script;
     let mut number = 0;
     while !rest.is_empty() {
-        let Some((entry, behind)) = take_entry(rest) else {
-            // "the program prints `stop N`, N being the entry's number, and ends."
-            print(&format!("stop {number}\n"));
-            return;
+        let (entry, behind) = match take_entry(rest) {
+            Some((entry, behind)) => (entry, behind),
+            None => {
+                // "the program prints `stop N`, N being the entry's number, and ends."
+                print(&format!("stop {number}\n"));
+                return;
+            }
         };
         let answer = session.play(&entry);
         print(&answer_text(number, &answer));

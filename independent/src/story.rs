@@ -8,12 +8,12 @@ mod words;
 use self::ladder::End;
 use self::scenes::{Event, House, Place, Scene, Tag};
 use self::words::About;
-use crate::clerk::{Ask, Timer};
+use crate::clerk::Ask;
 use crate::codec::{message_bytes, read_message, Carrier, Content, Identifier, Message};
 use crate::line::{Act, Line, LineDesk};
 use crate::meant::Name;
 use crate::outcome::{message, Kind, Outcome};
-use crate::script::Session;
+use crate::script::{Session, MOST_ROOM};
 use std::collections::VecDeque;
 
 /// "sixteen bytes, each of the tag's value"; none for the tag `--`.
@@ -67,7 +67,9 @@ fn line_desk(house: House) -> LineDesk {
     LineDesk::start(lines, house == House::Keeps, false).unwrap_or_default()
 }
 
-/// What a scene is played on. The wires hold bytes.
+/// What a scene is played on. The wires hold bytes. The count of both desks is "what
+/// the clock shows, in seconds since midnight"; the clerk's desk starts "with 20, 900,
+/// 3600 and 20 seconds", as any desk does that was never started.
 struct Stage {
     desks: Session,
     to_clerk: VecDeque<Vec<u8>>,
@@ -79,7 +81,7 @@ struct Stage {
 impl Stage {
     fn of(scene: &Scene) -> Stage {
         Stage {
-            desks: Session { line: line_desk(scene.house), ..Session::default() },
+            desks: Session { line: line_desk(scene.house), count: scenes::BEGIN, ..Session::default() },
             to_clerk: VecDeque::new(),
             to_line: VecDeque::new(),
             preference: scene.preference,
@@ -96,7 +98,13 @@ impl Stage {
 
     /// Plays an event and gives the lines that it prints.
     fn play(&mut self, event: Event) -> Vec<String> {
+        self.desks.count += u32::from(event.takes_time());
         match event {
+            Event::Clock(time) => {
+                self.desks.count = time;
+                Vec::new()
+            }
+            Event::ClerkTick => self.tick(event),
             Event::Say(number) => scenes::narration(number).into_iter().map(str::to_string).collect(),
             Event::Records => self.records(),
             // "a result (type 3) with keep 1 in Connect and the identifier of tag T".
@@ -110,11 +118,34 @@ impl Stage {
                     Some(bytes) => self.hear(event, &bytes),
                     // "no desk steps; one row, whose middle is a name row with
                     // `nothing is under way` in place of the name (no tag)".
-                    None => ladder::block(event.end(), &[], &[ladder::name_row(event.end(), "nothing is under way")]),
+                    None => self.block(event, &[], &[ladder::name_row(event.end(), "nothing is under way")]),
                 }
             }
             _ => self.step(event),
         }
+    }
+
+    fn block(&self, event: Event, words: &[String], middle: &[String]) -> Vec<String> {
+        ladder::block(self.desks.count, event.end(), words, middle)
+    }
+
+    /// "a tick, with room for its messages"; "every message that it sent, in their
+    /// order". A refused one, which no scene has, would print nothing.
+    fn tick(&mut self, event: Event) -> Vec<String> {
+        let before = self.desks.clone();
+        let mut buffer = [0; MOST_ROOM];
+        let ticked = match self.desks.clerk.tick(self.desks.count, &mut buffer) {
+            Ok(ticked) => ticked,
+            Err(_) => return Vec::new(),
+        };
+        let mut middle = Vec::new();
+        let mut rest = buffer.get(..ticked.length).unwrap_or(&[]);
+        while let Ok((sent, behind)) = read_message(rest) {
+            self.to_line.push_back(message_bytes(&sent));
+            middle.extend(ladder::sent(End::Clerk, &sent));
+            rest = behind;
+        }
+        self.block(event, &words::of_tick(&before, &ticked.places), &middle)
     }
 
     fn records(&self) -> Vec<String> {
@@ -126,7 +157,7 @@ impl Stage {
     /// "no desk steps: .. goes behind the last message of the wire to the clerk".
     fn stray(&mut self, event: Event, stray: Message) -> Vec<String> {
         self.to_clerk.push_back(message_bytes(&stray));
-        ladder::block(event.end(), &words::of_step(event, &Outcome::done(), None), &ladder::stray(&stray))
+        self.block(event, &words::of_step(event, &Outcome::done(), None), &ladder::stray(&stray))
     }
 
     /// The bytes go to the desk: read, and stepped with. Bytes that are refused
@@ -147,8 +178,8 @@ impl Stage {
     fn take(&mut self, event: Event, heard: &Message) -> Outcome {
         let place = place_number(event.place());
         match event.end() {
-            End::Clerk => self.desks.clerk.take(heard, place, false),
-            End::Line => self.desks.line.take(heard, place),
+            End::Clerk => self.desks.clerk.take(heard, place, false, self.desks.count),
+            End::Line => self.desks.line.take(heard, place, self.desks.count),
         }
     }
 
@@ -163,12 +194,11 @@ impl Stage {
     /// STORY, "Events", the column "Input"; None where the event is no input
     /// of this kind.
     fn input(&mut self, event: Event) -> Option<Outcome> {
-        let Session { clerk, line } = &mut self.desks;
+        let Session { clerk, line, count } = &mut self.desks;
         Some(match event {
-            Event::Ask(tag) => clerk.ask(&ask_of(tag, self.preference)?),
+            Event::Ask(tag) => clerk.ask(&ask_of(tag, self.preference)?, *count),
             Event::Accept(tag) => clerk.accept(&name(tag)),
             Event::Cancel(tag) => clerk.user_cancels(&name(tag)),
-            Event::T2(tag) => clerk.timer_runs_out(&name(tag), Timer::T2),
             Event::ClerkFell(tag) => clerk.connection_fell(&name(tag)),
             Event::Busy(number) => line.report(&digits(number), true),
             Event::Free(number) => line.report(&digits(number), false),
@@ -177,7 +207,8 @@ impl Stage {
             Event::Withdraw(tag) => line.act(&name(tag), Act::Cancel),
             Event::LineFell(tag) => line.connection_fell(&name(tag)),
             Event::ClerkHears | Event::LineHears | Event::ClerkHearsAt(_) | Event::LineHearsAt(_) => return None,
-            Event::Stray(_) | Event::StrayCancel | Event::Records | Event::Say(_) => return None,
+            Event::Stray(_) | Event::StrayCancel | Event::ClerkTick => return None,
+            Event::Clock(_) | Event::Records | Event::Say(_) => return None,
         })
     }
 
@@ -204,7 +235,7 @@ impl Stage {
         let mut middle = Vec::new();
         middle.extend(heard.into_iter().flat_map(|m| ladder::arrived(end, m)));
         middle.extend(sent.iter().flat_map(|m| ladder::sent(end, m)));
-        ladder::block(end, &words::of_step(event, &outcome, about), &middle)
+        self.block(event, &words::of_step(event, &outcome, about), &middle)
     }
 
     /// "The step's request is the event's tag; for a hearing the identifier of the
@@ -229,7 +260,7 @@ impl Stage {
 
 /// STORY, "A scene", 1 to 6.
 fn opening_lines(number: usize, scene: &Scene) -> Vec<String> {
-    let rule = "=".repeat(100);
+    let rule = "=".repeat(109);
     let title = format!("Scene {number}. {}", scene.title);
     vec![rule.clone(), title, rule, scene.opening.to_string(), String::new(), ladder::head(), ladder::dashes()]
 }
@@ -264,12 +295,12 @@ mod tests {
     use super::*;
 
     #[test]
-    fn plain_ascii_in_lines_of_at_most_100_without_a_blank_at_the_end() {
+    fn plain_ascii_in_lines_of_at_most_109_without_a_blank_at_the_end() {
         let text = text();
         assert!(text.bytes().all(|b| b == b'\n' || (b' '..=b'~').contains(&b)));
         assert!(text.ends_with("\n\n") && !text.ends_with("\n\n\n"));
         for line in text.lines() {
-            assert!(line.len() <= 100 && !line.ends_with(' '), "{line}");
+            assert!(line.len() <= 109 && !line.ends_with(' '), "{line}");
         }
     }
 
@@ -281,13 +312,16 @@ mod tests {
             let mut stage = Stage::of(scene);
             for event in scene.prelude.iter().copied().chain(scene.events()) {
                 let rows = stage.play(event);
-                assert!(!rows.is_empty(), "{event:?}");
-                let is_row = |row: &String| row.get(30..31) == Some("|") && row.get(69..70) == Some("|");
+                assert_eq!(rows.is_empty(), matches!(event, Event::Clock(_)), "{event:?}");
+                let is_row = |row: &String| row.get(39..40) == Some("|") && row.get(78..79) == Some("|");
                 let is_say = matches!(event, Event::Say(_));
                 assert_eq!(rows.iter().all(is_row), !is_say, "{event:?}");
-                for row in rows.iter().filter(|_| !is_say) {
-                    assert!(row[..30].ends_with(' ') && row.len() <= 71 + 29, "{row}");
-                    assert!(row.len() == 70 || row[70..].starts_with(' '), "{row}");
+                for (place, row) in rows.iter().enumerate().filter(|_| !is_say) {
+                    let timed = place == 0 && event.takes_time();
+                    assert_eq!(row.starts_with("18:"), timed, "{row}");
+                    assert!(timed || row.starts_with("         "), "{row}");
+                    assert!(row[8..9] == *" " && row[..39].ends_with(' ') && row.len() <= 80 + 29, "{row}");
+                    assert!(row.len() == 79 || row[79..].starts_with(' '), "{row}");
                 }
             }
         }
@@ -321,10 +355,26 @@ mod tests {
             lines.into_iter().find(|line| line.contains("(records)"))
         };
         let middle = "              (records)";
-        let expected = ladder::row("#34 Invoked, keep 1", middle, "#34 Invoked, keep 0");
+        let expected = ladder::row("", "#34 Invoked, keep 1", middle, "#34 Invoked, keep 0");
         assert_eq!(first_records(&wrong), Some(expected));
-        let expected = ladder::row("#34 Invoked, keep 1", middle, "#34 Invoked, keep 1");
+        let expected = ladder::row("", "#34 Invoked, keep 1", middle, "#34 Invoked, keep 1");
         assert_eq!(first_records(&right), Some(expected));
+    }
+
+    /// Scene 1: at 18:10:01 nothing is due, at 18:20:01 T2 is, and the line's end hears
+    /// of a request that it has not.
+    #[test]
+    fn the_ticks_of_scene_1() {
+        let lines = scene_lines(1, &scenes::SCENES[0]);
+        let first = lines.iter().position(|line| line.starts_with("18:10:01")).unwrap();
+        let expected = [
+            "18:10:01 tick: nothing is due          |                                      |",
+            "18:20:01 tick: 1 expired               | #34 ccCancel                         |",
+            "           #34 Invoked -> no record    |o---[Release Complete]---...          |",
+            "           notice \"failed\"             |                                      |",
+            "18:20:02                               |                         #34 ccCancel |   refused with 6",
+        ];
+        assert_eq!(lines[first..first + 5], expected);
     }
 
     #[test]
@@ -366,7 +416,7 @@ mod tests {
         let [.., falls, _] = scenes::SCENES;
         let lines = scene_lines(5, &falls);
         let records: Vec<&String> = lines.iter().filter(|line| line.contains("(records)")).collect();
-        let row = |left, right| ladder::row(left, "              (records)", right);
+        let row = |left, right| ladder::row("", left, "              (records)", right);
         let expected = [
             row("#34 Invoked, keep 1", "#34 Invoked, keep 1"),
             row("#34 Invoked, keep 1", "#34 Invoked, keep 1, down"),
@@ -401,9 +451,9 @@ mod tests {
     #[test]
     fn a_wire_with_nothing_on_it() {
         let mut stage = Stage::of(&scenes::SCENES[0]);
-        let left = ladder::row("", " nothing is under way", "");
+        let left = ladder::row("18:00:01", "", " nothing is under way", "");
         assert_eq!(stage.play(Event::ClerkHears), [left]);
-        let right = ladder::row("", "                 nothing is under way ", "");
+        let right = ladder::row("18:00:02", "", "                 nothing is under way ", "");
         assert_eq!(stage.play(Event::LineHears), [right]);
     }
 }

@@ -1,6 +1,6 @@
 /* What a script's lines cannot show. Plays a script from standard input, and before each entry is played for good it is tried on copies of the desks, everything
  * fenced: with no room, one byte too little, just enough and more; with each plain number out of its range; with other named places; and on desks that hold
- * garbage. Whole memories are compared. Then bytes are spoilt in known places, and desks are filled. With the word `short` one byte less is lent than is said, and a fence has to end the program. */
+ * garbage. Whole memories are compared; so they are of ticks at many counts. Then bytes are spoilt in known places, desks are started and ticked, and filled. With the word `short` one byte less is lent than is said, and a fence has to end the program. */
 #include <stdio.h>
 #include <stdlib.h>
 #include <string.h>
@@ -21,6 +21,7 @@ struct with_room {
 };
 
 static size_t lie; /* how many bytes more are said to be there than are */
+static uint32_t count; /* that every step is given */
 
 static int on_clerk(const struct entry *e)
 {
@@ -41,6 +42,7 @@ static uint64_t on_things(const void *numbers, void *const at[])
     l.out = at[6];
     l.room = w->room + lie;
     l.outcome = at[7];
+    l.count = count;
     return call(w->entry, &l);
 }
 
@@ -103,7 +105,7 @@ static void faulty(const struct entry *e, const tollherring_outcome *o)
 static void placed(const struct entry *e, const struct told *t)
 {
     const tollherring_outcome *o = &t->outcome;
-    int started = e->code == START_LINE || e->code == START_CLERK, denied = e->code == TO_LINE && o->length > 0 && t->out[0] == TOLLHERRING_REQUEST_ERROR;
+    int started = e->code < ASK, denied = e->code == TO_LINE && o->length > 0 && t->out[0] == TOLLHERRING_REQUEST_ERROR;
     EXPECT(o->has_record == (o->refusal == 0 && !started && e->code != LINE_REPORT && !denied));
     EXPECT(o->record_at < (on_clerk(e) ? 16u : 32u) && (o->has_record || o->record_at == 0));
 }
@@ -143,6 +145,7 @@ static void tell(const struct entry *e, const struct desks *before, struct told 
     l.out = t->out;
     l.room = sizeof t->out;
     l.outcome = &t->outcome;
+    l.count = count;
     EXPECT(call(e, &l) == t->outcome.refusal);
     sane(e, before, t);
 }
@@ -296,6 +299,26 @@ static void spoil_desks(struct desks *desks)
     spoil(desks->line.words, TOLLHERRING_LINE_WORDS, sort);
 }
 
+/* A tick at the count or behind it, by turns: at the deadlines that there can be, before them, and half a turn away; and on desks that hold garbage. Then, where the entry is
+ * one, the tick for good. */
+static void play_tick(const struct entry *e, struct desks *now)
+{
+    static const uint32_t later[] = {0, 1, 20, 900, 3600, 3660, 86460, 0x7FFFFFFF, 0x80000000, 0xFFFFFFFF};
+    static struct desks spoilt;
+    static tollherring_ticked ticked;
+    static uint8_t out[TOLLHERRING_LINE_TICK_MOST];
+    static size_t turn;
+    size_t room = e->room < sizeof out ? e->room : sizeof out;
+    try_ticks(now, count + later[turn % 10], 1);
+    spoilt = *now;
+    spoil_desks(&spoilt);
+    try_ticks(&spoilt, count + later[turn++ % 10], 0);
+    if (e->code == CLERK_TICK)
+        tollherring_clerk_tick(&now->clerk, count, out, room, &ticked);
+    else if (e->code == LINE_TICK)
+        tollherring_line_tick(&now->line, count, out, room, &ticked);
+}
+
 /* a record of a sound desk as it is shown; zeros where there is none */
 struct shown {
     tollherring_identifier identifier;
@@ -366,12 +389,14 @@ static void play(const uint8_t *script, size_t length)
     static struct entry e;
     static struct desks now;
     const uint8_t *at = script, *end = script + length;
-    tollherring_clerk_start(&now.clerk);
+    EXPECT(tollherring_clerk_start(&now.clerk, USUAL) == 0);
     EXPECT(tollherring_line_start(&now.line, e.lines, 0, 0, 0) == 0);
     for (entry_number = 0; at != end && (at = read_entry(&e, at, end)) != NULL; entry_number++) {
         switch (e.code) {
+        case COUNT: count = e.count; break;
         case WRITE: try_message(&e); break;
-        case PRINT_CLERK: case PRINT_LINE: play_print(&now); break;
+        case PRINT_CLERK: case PRINT_LINE: play_print(&now); play_tick(&e, &now); break;
+        case CLERK_TICK: case LINE_TICK: play_tick(&e, &now); break;
         default: play_step(&e, &now);
         }
     }
@@ -385,6 +410,9 @@ int main(int argc, char **argv)
     fences_up();
     play(script, length);
     try_places();
+    start_clerk();
+    tick_clerk();
+    tick_line();
     printf("%lu entries, %lu calls between fences\n", entry_number, fenced_calls);
     fill_clerk();
     fill_nameless();

@@ -1,5 +1,5 @@
-/* The parts of the edges: edges.c has the steps, looks.c the calls that look at a desk or a message, places.c bytes that are spoilt, full.c the desks
- * that are filled. */
+/* The parts of the edges: edges.c has the steps, looks.c the calls that look at a desk or a message, ticks.c the ticks, places.c bytes that are spoilt, full.c
+ * the desks that are filled. */
 #ifndef EDGES_H
 #define EDGES_H
 
@@ -13,6 +13,14 @@ struct desks {
 
 /* Every place of both desks, and places that they don't have. Where the desks are sound the records stand without a gap. */
 void try_looks(struct desks *desks, int sound);
+
+/* A tick of both desks at a count, in every room that makes a difference. Where the desks are sound its messages are good ones. */
+void try_ticks(const struct desks *desks, uint32_t count, int sound);
+
+/* Lengths in range and out of it, deadlines as they are shown, and ticks before, at and behind them. */
+void start_clerk(void);
+void tick_clerk(void);
+void tick_line(void);
 
 /* The message of a write entry, read and written at every kind of place, and with fields out of range. */
 void try_message(const struct entry *entry);

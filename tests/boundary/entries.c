@@ -64,6 +64,30 @@ static void message_of(struct unread *u, struct entry *e)
     e->bytes = run_of(u, e->length);
 }
 
+/* low byte first */
+static uint32_t number_of_bytes(struct unread *u, unsigned count)
+{
+    uint32_t value = 0;
+    unsigned k;
+    for (k = 0; k < count; k++)
+        value |= (uint32_t)byte_of(u) << 8 * k;
+    return value;
+}
+
+static void lengths_of(struct unread *u, struct entry *e)
+{
+    size_t k;
+    for (k = 0; k < 4; k++)
+        e->lengths[k] = number_of_bytes(u, 4);
+}
+
+static void room_of(struct unread *u, struct entry *e)
+{
+    e->room = number_of_bytes(u, 2);
+    if (e->room > 2048)
+        u->stopped = 1;
+}
+
 static void lines_of(struct unread *u, struct entry *e)
 {
     size_t count = byte_of(u), k;
@@ -80,12 +104,10 @@ static void lines_of(struct unread *u, struct entry *e)
 
 static void ask_of(struct unread *u, struct entry *e)
 {
-    unsigned low;
     e->kind = listed(u, 1, 2);
     number_of(u, &e->number_a);
     number_of(u, &e->number_b);
-    low = byte_of(u);
-    e->service = low + 256u * byte_of(u);
+    e->service = number_of_bytes(u, 2);
     e->can_keep = listed(u, 0, 1);
     e->preference = byte_of(u);
 }
@@ -95,6 +117,8 @@ static void fields_of(struct unread *u, struct entry *e)
 {
     switch (e->code) {
     case START_LINE: lines_of(u, e); break;
+    case START_CLERK: lengths_of(u, e); break;
+    case COUNT: e->count = number_of_bytes(u, 4); break;
     case ASK: ask_of(u, e); break;
     case TO_CLERK: e->choice = listed(u, 0, 1); e->named = byte_of(u); message_of(u, e); break;
     case ACCEPT: e->choice = TOLLHERRING_CLERK_ACT_ACCEPT; break;
@@ -106,8 +130,9 @@ static void fields_of(struct unread *u, struct entry *e)
     case TO_LINE: e->named = byte_of(u); message_of(u, e); break;
     case LINE_REPORT: number_of(u, &e->number_b); e->choice = listed(u, 0, 1); break;
     case LOOK: number_of(u, &e->number_b); break;
+    case CLERK_TICK: case LINE_TICK: room_of(u, e); break;
     case WRITE: message_of(u, e); e->place = byte_of(u); e->size = byte_of(u); break;
-    case START_CLERK: case GUARD: case PRINT_CLERK: case PRINT_LINE: break;
+    case GUARD: case PRINT_CLERK: case PRINT_LINE: break;
     default: u->stopped = 1;
     }
 }
@@ -134,8 +159,8 @@ static uint64_t start(const struct entry *e, const struct lent *l)
 {
     memset(l->outcome, 0, sizeof *l->outcome);
     if (e->code == START_CLERK)
-        tollherring_clerk_start(l->clerk);
-    else
+        l->outcome->refusal = tollherring_clerk_start(l->clerk, e->lengths[0], e->lengths[1], e->lengths[2], e->lengths[3]);
+    else if (e->code == START_LINE)
         l->outcome->refusal = tollherring_line_start(l->line, l->lines, e->lines_bytes, e->keep, e->retain);
     return l->outcome->refusal;
 }
@@ -144,17 +169,17 @@ uint64_t call(const struct entry *e, const struct lent *l)
 {
     switch (e->code) {
     case ASK:
-        return tollherring_clerk_ask(l->clerk, l->identifier, e->kind, l->number_a, l->number_b, e->service, e->can_keep, e->preference,
+        return tollherring_clerk_ask(l->clerk, l->count, l->identifier, e->kind, l->number_a, l->number_b, e->service, e->can_keep, e->preference,
                                      l->out, l->room, l->outcome);
-    case TO_CLERK: return tollherring_clerk_receive(l->clerk, e->named, l->bytes, e->length, e->choice, l->out, l->room, l->outcome);
+    case TO_CLERK: return tollherring_clerk_receive(l->clerk, l->count, e->named, l->bytes, e->length, e->choice, l->out, l->room, l->outcome);
     case ACCEPT: case USER_A_FREE: case USER_CANCELS: case CLERK_FELL:
-        return tollherring_clerk_act(l->clerk, e->named, l->identifier, e->choice, l->out, l->room, l->outcome);
-    case TIMER: return tollherring_clerk_report(l->clerk, e->named, l->identifier, e->choice, l->out, l->room, l->outcome);
-    case TO_LINE: return tollherring_line_receive(l->line, e->named, l->bytes, e->length, l->out, l->room, l->outcome);
-    case LINE_REPORT: return tollherring_line_report(l->line, l->number_b, e->choice, l->out, l->room, l->outcome);
-    case LOOK: return tollherring_line_look(l->line, l->number_b, l->out, l->room, l->outcome);
-    case LINE_ACT: case LINE_FELL: return tollherring_line_act(l->line, e->named, l->identifier, e->choice, l->out, l->room, l->outcome);
-    case GUARD: return tollherring_line_guard(l->line, e->named, l->identifier, l->out, l->room, l->outcome);
+        return tollherring_clerk_act(l->clerk, l->count, e->named, l->identifier, e->choice, l->out, l->room, l->outcome);
+    case TIMER: return tollherring_clerk_report(l->clerk, l->count, e->named, l->identifier, e->choice, l->out, l->room, l->outcome);
+    case TO_LINE: return tollherring_line_receive(l->line, l->count, e->named, l->bytes, e->length, l->out, l->room, l->outcome);
+    case LINE_REPORT: return tollherring_line_report(l->line, l->count, l->number_b, e->choice, l->out, l->room, l->outcome);
+    case LOOK: return tollherring_line_look(l->line, l->count, l->number_b, l->out, l->room, l->outcome);
+    case LINE_ACT: case LINE_FELL: return tollherring_line_act(l->line, l->count, e->named, l->identifier, e->choice, l->out, l->room, l->outcome);
+    case GUARD: return tollherring_line_guard(l->line, l->count, e->named, l->identifier, l->out, l->room, l->outcome);
     default: return start(e, l);
     }
 }

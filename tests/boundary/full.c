@@ -14,7 +14,7 @@ static uint64_t ask(uint8_t n, uint8_t line_digit)
 {
     const tollherring_identifier identifier = {16, {9, 9, n}};
     const tollherring_number number_a = {3, {(uint8_t)(n / 100), (uint8_t)(n / 10 % 10), (uint8_t)(n % 10)}}, number_b = {2, {line_digit, 7}};
-    return tollherring_clerk_ask(&clerk, &identifier, TOLLHERRING_CCBS, &number_a, &number_b, 300, 1, TOLLHERRING_PREFER_NONE, out, sizeof out, &outcome);
+    return tollherring_clerk_ask(&clerk, 0, &identifier, TOLLHERRING_CCBS, &number_a, &number_b, 300, 1, TOLLHERRING_PREFER_NONE, out, sizeof out, &outcome);
 }
 
 /* the same without an identifier, and with the same withheld number_a: nothing tells one from the next */
@@ -23,7 +23,7 @@ static uint64_t ask_nameless(uint8_t line_digit)
     static const tollherring_identifier none;
     static const tollherring_number withheld;
     const tollherring_number number_b = {2, {line_digit, 7}};
-    return tollherring_clerk_ask(&clerk, &none, TOLLHERRING_CCBS, &withheld, &number_b, 300, 1, TOLLHERRING_PREFER_NONE, out, sizeof out, &outcome);
+    return tollherring_clerk_ask(&clerk, 0, &none, TOLLHERRING_CCBS, &withheld, &number_b, 300, 1, TOLLHERRING_PREFER_NONE, out, sizeof out, &outcome);
 }
 
 /* 16 asks are taken and the 17th is 5; one that is live is 4 also there; a freed place is used again */
@@ -32,13 +32,13 @@ void fill_clerk(void)
     const tollherring_identifier third = {16, {9, 9, 3}};
     static tollherring_clerk full;
     uint8_t n;
-    tollherring_clerk_start(&clerk);
+    EXPECT(tollherring_clerk_start(&clerk, USUAL) == 0);
     for (n = 0; n < 16; n++)
         EXPECT(ask(n, 1) == 0 && outcome.length > 0 && outcome.starts == TOLLHERRING_T1 && outcome.has_record && outcome.record_at == n);
     full = clerk;
     EXPECT(ask(16, 1) == TOLLHERRING_FULL && outcome.length == 0 && outcome.starts == 0);
     EXPECT(ask(3, 1) == TOLLHERRING_LIVE && memcmp(&full, &clerk, sizeof full) == 0);
-    EXPECT(tollherring_clerk_act(&clerk, TOLLHERRING_NO_PLACE, &third, TOLLHERRING_CLERK_ACT_CANCEL, out, sizeof out, &outcome) == 0);
+    EXPECT(tollherring_clerk_act(&clerk, 0, TOLLHERRING_NO_PLACE, &third, TOLLHERRING_CLERK_ACT_CANCEL, out, sizeof out, &outcome) == 0);
     EXPECT(outcome.notice == TOLLHERRING_CANCELLED && outcome.length == HEAD && out[0] == TOLLHERRING_CC_CANCEL && outcome.record_at == 3);
     EXPECT(ask(16, 1) == 0 && outcome.record_at == 15);
     EXPECT(ask(3, 1) == TOLLHERRING_FULL);
@@ -52,15 +52,15 @@ void fill_nameless(void)
     tollherring_number number_a, number_b;
     tollherring_record record;
     uint8_t n;
-    tollherring_clerk_start(&clerk);
+    EXPECT(tollherring_clerk_start(&clerk, USUAL) == 0);
     for (n = 0; n < 16; n++)
         EXPECT(ask_nameless((uint8_t)(n / 2)) == 0 && out[2] == 0 && outcome.record_at == n);
     EXPECT(ask_nameless(9) == TOLLHERRING_FULL && ask(1, 9) == TOLLHERRING_FULL);
     for (n = 0; n < 16; n++) {
         EXPECT(tollherring_clerk_record(&clerk, 0, &identifier, &number_a, &number_b, &record) == 0);
         EXPECT(identifier.length == 0 && number_a.length == 0 && number_b.digits[0] == n / 2);
-        EXPECT(tollherring_clerk_report(&clerk, 16, &none, TOLLHERRING_T1_RAN_OUT, out, sizeof out, &outcome) == TOLLHERRING_NO_RECORD);
-        EXPECT(tollherring_clerk_report(&clerk, 0, &none, TOLLHERRING_T1_RAN_OUT, out, sizeof out, &outcome) == 0);
+        EXPECT(tollherring_clerk_report(&clerk, 0, 16, &none, TOLLHERRING_T1_RAN_OUT, out, sizeof out, &outcome) == TOLLHERRING_NO_RECORD);
+        EXPECT(tollherring_clerk_report(&clerk, 0, 0, &none, TOLLHERRING_T1_RAN_OUT, out, sizeof out, &outcome) == 0);
         EXPECT(outcome.notice == TOLLHERRING_FAILED && outcome.length == TOLLHERRING_MESSAGE_LEAST && outcome.record_at == 0);
     }
     EXPECT(tollherring_clerk_record(&clerk, 0, &identifier, &number_a, &number_b, &record) == TOLLHERRING_NO_RECORD);
@@ -71,12 +71,12 @@ static unsigned request(uint8_t n, uint8_t line_digit)
 {
     uint8_t both[TOLLHERRING_MESSAGE_MOST + 7];
     size_t length;
-    tollherring_clerk_start(&clerk);
+    EXPECT(tollherring_clerk_start(&clerk, USUAL) == 0);
     EXPECT(ask(n, line_digit) == 0);
     length = (size_t)outcome.length;
     memset(both, 0xFF, sizeof both);
     memcpy(both, out, length);
-    EXPECT(tollherring_line_receive(&line, TOLLHERRING_NO_PLACE, both, length + 7, out, sizeof out, &outcome) == 0);
+    EXPECT(tollherring_line_receive(&line, 0, TOLLHERRING_NO_PLACE, both, length + 7, out, sizeof out, &outcome) == 0);
     EXPECT(outcome.next == length && outcome.length == HEAD + 1 && out[2] == 16 && out[3] == 9 && out[5] == n);
     EXPECT(outcome.starts == (out[0] == TOLLHERRING_RESULT ? TOLLHERRING_GUARD : 0u) && outcome.has_record == (out[0] == TOLLHERRING_RESULT));
     return out[0] == TOLLHERRING_REQUEST_ERROR ? 100u + out[HEAD] : out[0];
@@ -128,7 +128,7 @@ void fill_line(void)
     EXPECT(request(32, 9) == 101);
     EXPECT(request(31, 9) == 101);
     EXPECT(memcmp(&full, &line, sizeof full) == 0);
-    EXPECT(tollherring_line_guard(&line, 7, &guarded, out, sizeof out, &outcome) == 0 && outcome.stops == TOLLHERRING_GUARD && outcome.record_at == 2);
+    EXPECT(tollherring_line_guard(&line, 0, 7, &guarded, out, sizeof out, &outcome) == 0 && outcome.stops == TOLLHERRING_GUARD && outcome.record_at == 2);
     EXPECT(request(32, 9) == TOLLHERRING_RESULT && outcome.record_at == 31);
     EXPECT(request(2, 9) == 101);
     EXPECT(start(0, 3) == 0 && request(1, 1) == 102);

@@ -20,8 +20,22 @@ static uint64_t line_at(const void *place, void *const at[])
     return tollherring_line_at(at[0], *(const uint64_t *)place, at[1], at[2]);
 }
 
+enum { NUMBERS = sizeof(tollherring_record) / sizeof(uint64_t) };
+
+/* the timers that run are those of the state, and one that does not run has no deadline */
+static int timers_in_range(const tollherring_record *r, int at_clerk)
+{
+    static const uint64_t running[] = {0, TOLLHERRING_T1, TOLLHERRING_T2, TOLLHERRING_T2 + TOLLHERRING_T3, TOLLHERRING_T2, TOLLHERRING_T2};
+    const uint64_t deadlines[] = {r->t1, r->t2, r->t3, r->guard};
+    size_t k;
+    for (k = 0; k < 4; k++)
+        if (deadlines[k] > UINT32_MAX || (deadlines[k] != 0 && !(r->timers >> k & 1u)))
+            return 0;
+    return r->timers == (at_clerk ? running[r->state] : (uint64_t)TOLLHERRING_GUARD);
+}
+
 /* whatever the desk holds, a record that is shown has numbers of its lists */
-static int record_in_range(const uint64_t name[9], const uint64_t words[9], uint64_t states)
+static int record_in_range(const uint64_t name[NUMBERS], const uint64_t words[NUMBERS], uint64_t states)
 {
     static const tollherring_identifier none;
     tollherring_identifier identifier;
@@ -29,7 +43,7 @@ static int record_in_range(const uint64_t name[9], const uint64_t words[9], uint
     memcpy(&identifier, name, sizeof identifier);
     memcpy(&r, words, sizeof r);
     return (identifier.length == 16 || memcmp(&identifier, &none, sizeof none) == 0) && r.kind >= 1 && r.kind <= 2 && r.can_keep <= 1 && r.keep <= 2 && r.connection <= 2 && r.state >= 1 && r.state <= states &&
-           r.active <= 1 && r.suspended <= 1 && r.down <= 1;
+           r.active <= 1 && r.suspended <= 1 && r.down <= 1 && timers_in_range(&r, states == 5);
 }
 
 /* how each looks: the desk's size, the number for a place that has nothing, the most places, and the sizes of what is written */
@@ -49,7 +63,7 @@ static const struct look looks[] = {
 /* whether there is something at the place */
 static int try_place(const struct look *look, void *desk, uint64_t place)
 {
-    uint64_t fresh[9], made[4][9], answer;
+    uint64_t fresh[NUMBERS], made[4][NUMBERS], answer;
     void *plain[5];
     struct thing things[5];
     size_t k;

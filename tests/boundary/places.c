@@ -20,13 +20,13 @@ struct given {
 static uint64_t to_clerk(const void *numbers, void *const at[])
 {
     const struct given *g = numbers;
-    return tollherring_clerk_receive(at[0], 0, at[1], g->length, g->user_a_busy, at[2], TOLLHERRING_MESSAGE_MOST, at[3]);
+    return tollherring_clerk_receive(at[0], 7, 0, at[1], g->length, g->user_a_busy, at[2], TOLLHERRING_MESSAGE_MOST, at[3]);
 }
 
 static uint64_t to_line(const void *numbers, void *const at[])
 {
     const struct given *g = numbers;
-    return tollherring_line_receive(at[0], 0, at[1], g->length, at[2], TOLLHERRING_MESSAGE_MOST, at[3]);
+    return tollherring_line_receive(at[0], 7, 0, at[1], g->length, at[2], TOLLHERRING_MESSAGE_MOST, at[3]);
 }
 
 static uint64_t to_reader(const void *numbers, void *const at[])
@@ -44,7 +44,7 @@ static void try_desk(lent_call *receive, const struct given *g, const uint8_t *b
     struct thing things[] = {{&desks.clerk, &desks.clerk, sizeof desks.clerk}, {bytes, bytes, 0}, {fresh, out, sizeof out}, {&never, told, sizeof never}};
     memset(fresh, 0xEE, sizeof fresh);
     memset(out, 0xEE, sizeof out);
-    tollherring_clerk_start(&desks.clerk);
+    EXPECT(tollherring_clerk_start(&desks.clerk, USUAL) == 0);
     EXPECT(tollherring_line_start(&desks.line, (const tollherring_line_given *)fresh, 0, 0, 0) == 0);
     if (receive == to_line) {
         things[0].before = things[0].after = &desks.line;

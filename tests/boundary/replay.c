@@ -67,6 +67,12 @@ static void print_digits(const tollherring_number *number)
         putchar('0' + number->digits[i]);
 }
 
+/* a deadline, of a timer that runs */
+static void print_deadline(const tollherring_record *r, uint64_t timer, uint64_t deadline)
+{
+    print_place((r->timers & timer) != 0, deadline);
+}
+
 static void print_outcome(unsigned long number, const tollherring_outcome *o, const uint8_t *out, size_t left)
 {
     printf("%lu", number);
@@ -106,6 +112,31 @@ static void play_step(unsigned long number, const struct entry *e, const struct 
     for (i = 0; i < sizeof held / sizeof held[0]; i++)
         free(held[i]);
     free(l.outcome);
+}
+
+/* a tick, and what it has to leave alone */
+static void play_tick(unsigned long number, const struct entry *e, const struct lent *desks)
+{
+    tollherring_ticked *t = block(sizeof *t);
+    uint8_t *out = block(e->room);
+    uint64_t refusal, k;
+    memset(out, 0xEE, e->room);
+    refusal = e->code == CLERK_TICK ? tollherring_clerk_tick(desks->clerk, desks->count, out, e->room, t)
+                                    : tollherring_line_tick(desks->line, desks->count, out, e->room, t);
+    if (refusal != t->refusal)
+        fail("the answer is not the one that is told");
+    printf("%lu", number);
+    print_field(refusal);
+    print_field(t->expired);
+    fputs(t->expired ? " " : " -", stdout);
+    for (k = 0; k < t->expired; k++)
+        printf(k ? ",%llu" : "%llu", (unsigned long long)t->records[k].place);
+    print_field(t->length);
+    putchar(' ');
+    print_bytes(out, e->room);
+    putchar('\n');
+    free(out);
+    free(t);
 }
 
 static void play_write(unsigned long number, const struct entry *e)
@@ -174,6 +205,9 @@ static void print_clerk(unsigned long number, const tollherring_clerk *desk)
         print_choice(s.record.connection, 0);
         print_field(s.record.state);
         print_field(s.record.down);
+        print_deadline(&s.record, TOLLHERRING_T1, s.record.t1);
+        print_deadline(&s.record, TOLLHERRING_T2, s.record.t2);
+        print_deadline(&s.record, TOLLHERRING_T3, s.record.t3);
         putchar('\n');
     }
 }
@@ -209,6 +243,7 @@ static uint64_t print_requests(const tollherring_line *desk, int silent)
         print_field(s.record.active);
         print_field(s.record.suspended);
         print_field(s.record.down);
+        print_deadline(&s.record, TOLLHERRING_GUARD, s.record.guard);
         putchar('\n');
     }
     return count;
@@ -224,7 +259,7 @@ static void print_line_desk(unsigned long number, const tollherring_line *desk)
     print_requests(desk, 0);
 }
 
-static void play(const uint8_t *script, size_t length, const struct lent *desks, size_t room_held)
+static void play(const uint8_t *script, size_t length, struct lent *desks, size_t room_held)
 {
     const uint8_t *at = script, *end = script + length;
     struct entry *e = block(sizeof *e);
@@ -235,7 +270,10 @@ static void play(const uint8_t *script, size_t length, const struct lent *desks,
             printf("stop %lu\n", number);
             break;
         }
+        if (e->code == COUNT)
+            desks->count = e->count;
         switch (e->code) {
+        case CLERK_TICK: case LINE_TICK: play_tick(number, e, desks); break;
         case WRITE: play_write(number, e); break;
         case PRINT_CLERK: print_clerk(number, desks->clerk); break;
         case PRINT_LINE: print_line_desk(number, desks->line); break;
@@ -257,7 +295,8 @@ int main(int argc, char **argv)
     desks.line = block(sizeof *desks.line);
     desks.out = block(room_held);
     desks.room = TOLLHERRING_MESSAGE_MOST;
-    tollherring_clerk_start(desks.clerk);
+    if (tollherring_clerk_start(desks.clerk, USUAL) != 0)
+        fail("the usual lengths are refused");
     if (tollherring_line_start(desks.line, (const tollherring_line_given *)script, 0, 0, 0) != 0)
         fail("a desk without lines is refused");
     if (strcmp(fault, "sum") == 0)

@@ -32,6 +32,17 @@ impl<'s> Unread<'s> {
         self.run(usize::from(count))
     }
 
+    /// Low byte first.
+    fn four(&mut self) -> Option<u32> {
+        Some(u32::from_le_bytes(self.run(4)?.try_into().ok()?))
+    }
+
+    /// How many bytes a tick is lent.
+    fn room(&mut self) -> Option<usize> {
+        let room = usize::from(u16::from_le_bytes(self.run(2)?.try_into().ok()?));
+        Some(room).filter(|room| *room <= 2048)
+    }
+
     /// A length, 0 or 16, and so many bytes: None within where there is no identifier.
     fn identifier(&mut self) -> Option<Option<Identifier>> {
         match self.byte()? {
@@ -65,6 +76,7 @@ impl<'s> Unread<'s> {
 struct Session {
     clerk: Box<ClerkDesk>,
     line: Box<LineDesk>,
+    count: u32,
     out: Box<[u8]>,
     text: String,
 }
@@ -80,6 +92,11 @@ fn hex(bytes: &[u8]) -> String {
 /// The last fields of a step and of a write: only bytes that cannot be read have the place of a fault, and only some steps are about a record.
 fn place_text(place: Option<usize>) -> String {
     place.map_or("-".to_string(), |place| place.to_string())
+}
+
+/// A deadline, of a timer that runs.
+fn count_text(count: Option<u32>) -> String {
+    count.map_or("-".to_string(), |count| count.to_string())
 }
 
 fn identifier_text(identifier: Option<Identifier>) -> String {
@@ -107,7 +124,32 @@ fn start_text(number: usize, refusal: Option<Refusal>) -> String {
     format!("{} {} - 0 0 0 0 0 - -\n", number, refusal.map_or(0, Refusal::number))
 }
 
+/// The tick is lent a block of the room's own size, so that a checker sees a byte too far.
+fn tick_text(
+    number: usize,
+    room: usize,
+    tick: impl for<'o> FnOnce(&'o mut [u8]) -> Result<Ticked<'o>, Refusal>,
+) -> Option<String> {
+    let mut out = vec![0xEE; room].into_boxed_slice();
+    let (refusal, places, length) = match tick(&mut out) {
+        Ok(ticked) => (0, ticked.expired().map(|e| e.place.to_string()).collect(), ticked.messages.len()),
+        Err(refusal) => (refusal.number(), Vec::new(), 0),
+    };
+    let named = if places.is_empty() { "-".to_string() } else { places.join(",") };
+    Some(format!("{} {} {} {} {} {}\n", number, refusal, places.len(), named, length, hex(&out)))
+}
+
 impl Session {
+    fn start_clerk(&mut self, number: usize, unread: &mut Unread) -> Option<String> {
+        let (t1, t2_ccbs, t2_ccnr, t3) = (unread.four()?, unread.four()?, unread.four()?, unread.four()?);
+        let started = ClerkDesk::start(&Lengths { t1, t2_ccbs, t2_ccnr, t3 });
+        let refusal = started.as_ref().err().copied();
+        if let Ok(desk) = started {
+            *self.clerk = desk;
+        }
+        Some(start_text(number, refusal))
+    }
+
     fn start_line(&mut self, number: usize, unread: &mut Unread) -> Option<String> {
         let mut lines = Vec::new();
         for _ in 0..unread.byte()? {
@@ -132,11 +174,12 @@ impl Session {
         let outcome = match Preference::from_number(preference) {
             Some(preference) => {
                 let ask = Ask { kind, service, can_keep, preference };
-                self.clerk.ask(identifier, &number_a, &number_b, &ask, &mut self.out)
+                self.clerk.ask(self.count, identifier, &number_a, &number_b, &ask, &mut self.out)
             }
             None => {
                 let (kind, service, can_keep) = (kind.number(), u64::from(service), u64::from(can_keep));
                 self.clerk.ask_numbers(
+                    self.count,
                     identifier,
                     kind,
                     &number_a,
@@ -156,19 +199,19 @@ impl Session {
             let (busy, place) = (unread.listed(0, 1)? == 1, Some(unread.place()?));
             // a block of the bytes' own size, so that a checker sees one that is read too far
             let bytes = unread.counted()?.to_vec().into_boxed_slice();
-            let outcome = self.clerk.receive(place, &bytes, busy, &mut self.out);
+            let outcome = self.clerk.receive(self.count, place, &bytes, busy, &mut self.out);
             return Some(outcome_text(number, &outcome, bytes.len() - outcome.next));
         }
         let name = unread.name()?;
         let outcome = match code {
-            18 => self.clerk.act(name, Act::Accept, &mut self.out),
+            18 => self.clerk.act(self.count, name, Act::Accept, &mut self.out),
             19 => {
                 let act = if unread.listed(0, 1)? == 1 { Act::GoOn } else { Act::Resume };
-                self.clerk.act(name, act, &mut self.out)
+                self.clerk.act(self.count, name, act, &mut self.out)
             }
-            20 => self.clerk.act(name, Act::Cancel, &mut self.out),
-            22 => self.clerk.act(name, Act::Fell, &mut self.out),
-            _ => self.clerk.report(name, Timer::from_number(u64::from(unread.byte()?))?, &mut self.out),
+            20 => self.clerk.act(self.count, name, Act::Cancel, &mut self.out),
+            22 => self.clerk.act(self.count, name, Act::Fell, &mut self.out),
+            _ => self.clerk.report(self.count, name, Timer::from_number(u64::from(unread.byte()?))?, &mut self.out),
         };
         Some(outcome_text(number, &outcome, 0))
     }
@@ -177,21 +220,21 @@ impl Session {
         if code == 32 {
             let place = Some(unread.place()?);
             let bytes = unread.counted()?.to_vec().into_boxed_slice();
-            let outcome = self.line.receive(place, &bytes, &mut self.out);
+            let outcome = self.line.receive(self.count, place, &bytes, &mut self.out);
             return Some(outcome_text(number, &outcome, bytes.len() - outcome.next));
         }
         let outcome = match code {
             33 => {
                 let digits = unread.number()?;
-                self.line.report(&digits, unread.listed(0, 1)? == 1)
+                self.line.report(self.count, &digits, unread.listed(0, 1)? == 1)
             }
-            34 => self.line.look(&unread.number()?, &mut self.out),
+            34 => self.line.look(self.count, &unread.number()?, &mut self.out),
             35 => {
                 let name = unread.name()?;
-                self.line.act(name, LineAct::from_number(u64::from(unread.listed(1, 3)?))?, &mut self.out)
+                self.line.act(self.count, name, LineAct::from_number(u64::from(unread.listed(1, 3)?))?, &mut self.out)
             }
-            37 => self.line.act(unread.name()?, LineAct::Fell, &mut self.out),
-            _ => self.line.guard(unread.name()?, &mut self.out),
+            37 => self.line.act(self.count, unread.name()?, LineAct::Fell, &mut self.out),
+            _ => self.line.guard(self.count, unread.name()?, &mut self.out),
         };
         Some(outcome_text(number, &outcome, 0))
     }
@@ -205,8 +248,20 @@ impl Session {
             let (state, down) = (r.state.number(), u8::from(r.down));
             let _ = writeln!(
                 text,
-                "c {} {} {} {} {} {} {} {} {} {}",
-                id, kind, r.number_a, r.number_b, r.service, can_keep, keep, connection, state, down
+                "c {} {} {} {} {} {} {} {} {} {} {} {} {}",
+                id,
+                kind,
+                r.number_a,
+                r.number_b,
+                r.service,
+                can_keep,
+                keep,
+                connection,
+                state,
+                down,
+                count_text(r.t1),
+                count_text(r.t2),
+                count_text(r.t3)
             );
         }
         text
@@ -223,7 +278,7 @@ impl Session {
             let (state, active, suspended, down) =
                 (r.state.number(), u8::from(r.active), u8::from(r.suspended), u8::from(r.down));
             let _ = write!(text, "r {} {} {} {} {}", id, kind, r.number_a, r.number_b, r.service);
-            let _ = writeln!(text, " {} {} {} {} {} {}", keep, connection, state, active, suspended, down);
+            let _ = writeln!(text, " {} {} {} {} {} {} {}", keep, connection, state, active, suspended, down, r.guard);
         }
         text
     }
@@ -232,11 +287,20 @@ impl Session {
     fn entry(&mut self, number: usize, unread: &mut Unread) -> Option<String> {
         match unread.byte()? {
             1 => self.start_line(number, unread),
-            2 => {
-                *self.clerk = ClerkDesk::start();
+            2 => self.start_clerk(number, unread),
+            3 => {
+                self.count = unread.four()?;
                 Some(start_text(number, None))
             }
             16 => self.ask(number, unread),
+            23 => {
+                let (count, clerk) = (self.count, &mut self.clerk);
+                tick_text(number, unread.room()?, |out| clerk.tick(count, out))
+            }
+            38 => {
+                let (count, line) = (self.count, &mut self.line);
+                tick_text(number, unread.room()?, |out| line.tick(count, out))
+            }
             code @ 17..=22 => self.clerk_entry(code, number, unread),
             code @ 32..=37 => self.line_entry(code, number, unread),
             48 => written_text(number, unread),
@@ -278,8 +342,9 @@ fn main() -> std::io::Result<()> {
     let mut script = Vec::new();
     std::io::stdin().read_to_end(&mut script)?;
     let mut session = Session {
-        clerk: Box::new(ClerkDesk::start()),
+        clerk: Box::new(ClerkDesk::default()),
         line: Box::new(LineDesk::start(&[], false, false).expect("a desk without lines")),
+        count: 0,
         out: vec![0; MESSAGE_MOST].into_boxed_slice(),
         text: String::new(),
     };

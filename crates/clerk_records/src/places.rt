@@ -25,7 +25,7 @@ ghost use lib.ListN.{length, getD};
 ghost use Rattle.lists.specs.Parts.{over};
 ghost use Rattle.store.specs.Rows.{putRow, turnRow};
 ghost use Rattle.terms.specs.Terms.{choicesAt};
-ghost use Rattle.clerk_table.specs.declared.record.Change.the-variants.{Put};
+ghost use Rattle.clerk_table.specs.declared.record.Change.the-variants.{Put, Remove};
 ghost use Rattle.clerk_records.specs.Layout as Layout;
 ghost use Rattle.clerk_records.specs.Records.{recordOf, recordWords, turnedWords, blank, records, place, applied};
 
@@ -135,6 +135,13 @@ pub fn put(words: &mut [u64; WORDS], i: usize, r: Record)
     }
 }
 
+// The record of a place removed: the later ones move up.
+pub fn remove(words: &mut [u64; WORDS], i: usize)
+    ensures { λ r. ⌜ now (words .exit) ≡ applied (now (words .entry)) (Remove i) ⌝ }
+{
+    store::remove(words, WIDTH, PLACES, i);
+}
+
 // A planned change, made in place.
 pub fn apply(words: &mut [u64; WORDS], change: Change)
     ensures { λ r. ⌜ now (words .exit) ≡ applied (now (words .entry)) change ⌝ }
@@ -147,6 +154,6 @@ pub fn apply(words: &mut [u64; WORDS], change: Change)
                 turn_in(words, i, t);
             }
         }
-        Change::Remove(i) => store::remove(words, WIDTH, PLACES, i),
+        Change::Remove(i) => remove(words, i),
     }
 }

@@ -5,3 +5,6 @@ pub mod Refusals
 pub mod Reaching
 pub mod Filling
 pub mod Ticking
+pub mod Lengths
+pub mod Time
+pub mod InTime

@@ -1,42 +1,29 @@
 -- A timer that runs out has its row in the record's state, so its report is taken and the record removed: those before it stay, and those behind it move up to the place that is looked at next.
 use Prim.Native.Nat.{ℕ, zero, suc, _+_, _≤_, _<_}
-use mathlib.Core.Path.{_≡_, refl, sym, ap, _∙_}
-use mathlib.Core.Bool.{Bool, true, false}
+use mathlib.Core.Path.{_≡_, refl, sym, ap, ap₂, _∙_}
+use mathlib.Core.Bool.{false}
 use mathlib.Core.List.{List, _∷_, map}
 use lib.ListN.{length, getD}
 use lib.Dec.{eqb}
 use native.Mathlib.Omega.{arith}
 use borrow.Author.Tests.{ne-eqb}
-use Rattle.lists.specs.Choice.{pick}
 use Rattle.lists.specs.Lists as Lists
-use Rattle.lists.specs.Lists.{without}
-use Rattle.lists.proofs.Choice.{no-true}
-use Rattle.lists.proofs.Lists.{both-parts, getD-without-before}
+use Rattle.lists.specs.declared.Found.the-variants.{At}
+use Rattle.lists.proofs.Lists.{getD-without-before}
 use Rattle.desk.specs.Outcome.{noTimers}
-use Rattle.desk.specs.declared.Connection.{Connection}
-use Rattle.desk.specs.declared.outcome.Notice.the-variants.{Failed}
-use Rattle.desk.specs.declared.outcome.Timers.{Timers}
-use Rattle.desk.specs.declared.sends.Sends.the-variants as Sends
-use Rattle.terms.specs.declared.means.Means.the-variants as Means
+use Rattle.desk.specs.Ticked.{Ticked}
+use Rattle.desk.specs.declared.outcome.Sending.{Sending}
 use Rattle.places.proofs.Staying.{moved-up}
 use Rattle.places.proofs.Passing.{Alike, alike-here, alike-next, alike-gone, to-here, everywhere}
-use Rattle.clerk_table.specs.Table.{inUse, homeOf, holdsIn}
-use Rattle.clerk_table.specs.Inputs.{rowOfTimer}
-use Rattle.clerk_table.specs.Step.{rowTaken}
-use Rattle.clerk_table.specs.declared.table.State.{State}
-use Rattle.clerk_table.specs.declared.table.State.the-variants.{Free, WaitAck, Invoked, WaitAnswer, Ringout, Suspended}
+use Rattle.clerk_table.specs.declared.table.State.the-variants.{Ringout}
 use Rattle.clerk_table.specs.declared.table.Timer.{Timer}
-use Rattle.clerk_table.specs.declared.table.Timer.the-variants.{T1, T2, T3}
 use Rattle.clerk_table.specs.declared.record.Record.{Record}
-use Rattle.clerk_table.specs.declared.record.Change.{Change}
 use Rattle.clerk_table.specs.declared.record.Change.the-variants.{Remove}
-use Rattle.clerk_table.specs.declared.record.Decision.the-variants.{Refuse, Take}
 use Rattle.clerk_table.specs.declared.record.Plan.{Plan}
 use Rattle.clerk_records.specs.Layout as Layout
 use Rattle.clerk_records.specs.Codes.{stateOf}
-use Rattle.clerk_records.specs.Records.{recordOf, blank, records, recordsAfter, applied}
-use Rattle.clerk_records.specs.Meaning.{named}
-use Rattle.clerk_records.specs.Deadlines.{noDeadlines, deadlines, deadlinesAfter, timed, runsOut, expiring, expiringAt}
+use Rattle.clerk_records.specs.Records.{recordOf, blank, records, applied}
+use Rattle.clerk_records.specs.Deadlines.{noDeadlines, deadlines, expiring, expiringAt}
 use Rattle.clerk_records.specs.declared.deadlines.Deadlines.{Deadlines}
 use Rattle.clerk_records.specs.declared.deadlines.Expiring.{Expiring}
 use Rattle.clerk_records.specs.declared.deadlines.Expiring.the-variants.{Nothing, One}
@@ -44,13 +31,15 @@ use Rattle.clerk_records.proofs.RecordsLaws.{record-past}
 use Rattle.clerk_records.proofs.DeadlinesLaws.{timed-none}
 use Rattle.clerk_records.proofs.TimersLaws.{deadlines-applied}
 use Rattle.clerk.proofs.StepsLaws.{made-length, records-made}
-use Rattle.clerk_plan.specs.Plan.{ownFound, decided, planOf, planFor}
+use Rattle.clerk.proofs.TickLaws.{rowCancels, rowEnds, row-ends, none-one, due-plan, due-step}
+use Rattle.clerk_plan.specs.Plan.{planFor}
 use Rattle.clerk.specs.Steps.{made, step}
-use Rattle.clerk.specs.Ticks.{report, byTimer, Ticked, ticking, ticked}
+use Rattle.clerk.specs.Ticks.{report, byTimer, ticking, ticked, sendingsFrom, sendings}
 use Rattle.clerk.specs.declared.Desk.{Desk}
+use Rattle.clerk.specs.declared.steps.Stepped.{Stepped}
 use Rattle.clerk_sound.specs.Sound as S
 use Rattle.clerk_sound.specs.Sound.{Reached}
-use Rattle.clerk_sound.specs.Ticking.{Expires, DueExpires, dueFrom, TickExpires, RingoutStays, NoneDue, TickReached}
+use Rattle.clerk_sound.specs.Ticking.{Expires, DueExpires, dueFrom, TickExpires, TickSends, RingoutStays, NoneDue, TickReached}
 
 -- ---- by the timer that runs out, if one does
 by-elim :
@@ -59,90 +48,23 @@ by-elim :
 by-elim P (One timer) f g = f timer refl
 by-elim P Nothing f g = g refl
 
-abbrev timerOf : Timer → Expiring → Timer
-timerOf otherwise e = byTimer e (λ timer. timer) otherwise
-
-none-one : (timer : Timer) → Nothing ≡ One timer → ⊥
-none-one timer e = no-true (ap (λ (x : Expiring). byTimer x (λ t. true) false) e)
-
--- the one that runs out is one whose test holds
-first-holds :
-    (holds : Timer → Bool) (timer : Timer) (a b c : Bool) → holds T1 ≡ a → holds T2 ≡ b → holds T3 ≡ c →
-    pick a (One T1) (pick b (One T2) (pick c (One T3) Nothing)) ≡ One timer → holds timer ≡ true
-first-holds holds timer true b c p q r e = ap holds (sym (ap (timerOf timer) e)) ∙ p
-first-holds holds timer false true c p q r e = ap holds (sym (ap (timerOf timer) e)) ∙ q
-first-holds holds timer false false true p q r e = ap holds (sym (ap (timerOf timer) e)) ∙ r
-first-holds holds timer false false false p q r e = absurd (none-one timer e)
-
--- ---- the report of a timer that is due
--- a free place has no row
-home-used : (timer : Timer) (s : State) (c : Connection) → holdsIn (homeOf (rowOfTimer timer)) s c ≡ true → inUse s ≡ true
-home-used T1 Free c e = e
-home-used T2 Free c e = e
-home-used T3 Free c e = e
-home-used timer WaitAck c e = refl
-home-used timer Invoked c e = refl
-home-used timer WaitAnswer c e = refl
-home-used timer Ringout c e = refl
-home-used timer Suspended c e = refl
-
-due-holds :
-    (count : ℕ) (r : Record) (d : Deadlines) (timer : Timer) → expiring count r d ≡ One timer →
-    holdsIn (homeOf (rowOfTimer timer)) (r .state) (r .terms .connection) ≡ true
-unfolding expiring
-due-holds count r d timer e =
-    both-parts _ _ (first-holds (runsOut count r d) timer (runsOut count r d T1) (runsOut count r d T2) (runsOut count r d T3) refl refl refl e) .0
-
--- each timer's row ends the record, and starts nothing
-record Ends (plan : Plan) (place : ℕ) : Type 0 where
-  taken : plan .outcome .refusal ≡ 0
-  told : plan .outcome .notice ≡ Failed
-  quiet : plan .outcome .clear ≡ false
-  removes : plan .change ≡ Remove place
-  starts : plan .outcome .starts ≡ noTimers
-
-row-ends : (place : ℕ) (r : Record) (timer : Timer) → Ends (rowTaken place r (rowOfTimer timer)) place
-unfolding rowTaken
-row-ends place r T1 = record { taken = refl; told = refl; quiet = refl; removes = refl; starts = refl }
-row-ends place r T2 = record { taken = refl; told = refl; quiet = refl; removes = refl; starts = refl }
-row-ends place r T3 = record { taken = refl; told = refl; quiet = refl; removes = refl; starts = refl }
-
-module _ (rs : List Record) (i : ℕ) (timer : Timer) (h : holdsIn (homeOf (rowOfTimer timer)) (getD rs i blank .state) (getD rs i blank .terms .connection) ≡ true) where
-  due-decided : decided rs (report i timer) ≡ Take i (rowOfTimer timer)
-  unfolding decided named
-  due-decided =
-      let r = getD rs i blank in
-      ap (λ (b : Bool). ownFound rs (rowOfTimer timer) 9 (pick b (Means.At i) Means.Nothing)) (home-used timer (r .state) (r .terms .connection) h)
-      ∙ ap (λ (b : Bool). pick b (Take i (rowOfTimer timer)) (Refuse 9 Sends.Nothing)) h
-
-  due-plan : planFor rs (report i timer) ≡ rowTaken i (getD rs i blank) (rowOfTimer timer)
-  unfolding planFor planOf
-  due-plan = ap (planOf rs (report i timer)) due-decided
-
-made-ends : (d : Desk) (count i : ℕ) (plan : Plan) → length (d .words) ≡ Layout.words → Ends plan i → deadlines (made d count plan .desk .words) ≡ without noDeadlines (deadlines (d .words)) i
-made-ends d count i plan full ends =
-    let changed = applied (d .words) (plan .change) in
-    ap (λ (t : Timers). deadlines (timed count (plan .outcome .at) t changed)) (ends .starts)
-    ∙ ap deadlines (timed-none changed count (plan .outcome .at))
-    ∙ deadlines-applied (d .words) full (plan .change)
-    ∙ ap (λ (c : Change). deadlinesAfter (deadlines (d .words)) c) (ends .removes)
-
+-- ---- the report of a timer that is due: its row ends the record, and starts nothing
 pub due-expires : DueExpires
-unfolding step
 due-expires d count i timer full e =
     let rs = records (d .words) in
-    let plan = rowTaken i (getD rs i blank) (rowOfTimer timer) in
-    let same = due-plan rs i timer (due-holds count (getD rs i blank) (getD (deadlines (d .words)) i noDeadlines) timer e) in
-    let ends = row-ends i (getD rs i blank) timer in
+    let r = getD rs i blank in
+    let plan = rowEnds i r in
+    let changed = applied (d .words) (Remove i) in
+    let same : step d count (report i timer) ≡ made d count plan = due-step d count i timer e ∙ ap (made d count) (sym (row-ends i r timer)) in
     record {
-      taken = ap (λ (p : Plan). p .outcome .refusal) same ∙ ends .taken;
-      told = ap (λ (p : Plan). p .outcome .notice) same ∙ ends .told;
-      quiet = ap (λ (p : Plan). p .outcome .clear) same ∙ ends .quiet;
-      gone =
-          ap (λ (p : Plan). records (made d count p .desk .words)) same
-          ∙ records-made d full count plan
-          ∙ ap (λ (c : Change). recordsAfter rs c) (ends .removes);
-      forgotten = ap (λ (p : Plan). deadlines (made d count p .desk .words)) same ∙ made-ends d count i plan full ends;
+      taken = ap (λ (s : Stepped). s .outcome .refusal) same;
+      told = ap (λ (s : Stepped). s .outcome .notice) same;
+      quiet = ap (λ (s : Stepped). s .outcome .clear) same;
+      gone = ap (λ (s : Stepped). records (s .desk .words)) same ∙ records-made d full count plan;
+      forgotten =
+          ap (λ (s : Stepped). deadlines (s .desk .words)) same
+          ∙ ap deadlines (timed-none changed count (At i))
+          ∙ deadlines-applied (d .words) full (Remove i);
     }
 
 step-full :
@@ -168,10 +90,12 @@ module _ (d : Desk) (count i : ℕ) (timer : Timer) (gone : Expires d count i ti
       (ap (λ (rs : List Record). getD rs j blank) (gone .gone) ∙ getD-without-before blank (records (d .words)) i j blank h)
       (ap (λ (ds : List Deadlines). getD ds j noDeadlines) (gone .forgotten) ∙ getD-without-before noDeadlines (deadlines (d .words)) i j noDeadlines h)
 
+  record-behind : (j : ℕ) → i ≤ j → getD (records after) j blank ≡ getD (records (d .words)) (j + 1) blank
+  record-behind j h = ap (λ (rs : List Record). getD rs j blank) (gone .gone) ∙ moved-up blank (records (d .words)) i j h
+
   due-behind : (j : ℕ) → i ≤ j → expiringAt count after j ≡ expiringAt count (d .words) (j + 1)
   due-behind j h =
-      same-due j (j + 1)
-      (ap (λ (rs : List Record). getD rs j blank) (gone .gone) ∙ moved-up blank (records (d .words)) i j h)
+      same-due j (j + 1) (record-behind j h)
       (ap (λ (ds : List Deadlines). getD ds j noDeadlines) (gone .forgotten) ∙ moved-up noDeadlines (deadlines (d .words)) i j h)
 
 -- ---- a tick: from place `at` on the desk is due as it was from place i on before the tick
@@ -184,7 +108,7 @@ module _ (count : ℕ) (before : List ℕ) where
   expires-from (suc n) i at d full same =
       let now = expiringAt count (d .words) in
       let here : expiringAt count before i ≡ now at = sym (alike-here now (expiringAt count before) at i same) in
-      by-elim (λ (t : Ticked). map (λ expiry. expiry .place) (t .expired) ≡ dueFrom (suc n) i count before) (now at)
+      by-elim (λ (t : Ticked Desk). map (λ expiry. expiry .place) (t .expired) ≡ dueFrom (suc n) i count before) (now at)
       (λ timer t.
       let next = step d count (report at timer) .desk in
       let gone = due-expires d count at timer full t in
@@ -197,6 +121,49 @@ module _ (count : ℕ) (before : List ℕ) where
 pub tick-expires : TickExpires
 unfolding ticked
 tick-expires d count full = expires-from count (d .words) Layout.places 0 0 d full (λ k. refl)
+
+-- ---- what the report of a timer that is due sends: what its row sends of the record, whatever its place
+due-sends :
+    (d : Desk) (count i : ℕ) (timer : Timer) → expiringAt count (d .words) i ≡ One timer →
+    step d count (report i timer) .outcome .sending ≡ rowCancels (getD (records (d .words)) i blank)
+due-sends d count i timer e =
+    ap (λ (s : Stepped). s .outcome .sending) (due-step d count i timer e)
+    ∙ ap (λ (p : Plan). p .outcome .sending) (sym (row-ends i (getD (records (d .words)) i blank) timer))
+
+abbrev recordAt : Desk → ℕ → Record
+recordAt d i = getD (records (d .words)) i blank
+
+module _ (count : ℕ) (before : Desk) where
+  sends-from :
+      (n i at : ℕ) (d : Desk) → length (d .words) ≡ Layout.words → Alike (expiringAt count (d .words)) at (expiringAt count (before .words)) i →
+      Alike (recordAt d) at (recordAt before) i →
+      map (λ expiry. expiry .outcome .sending) (ticking n i at count d .expired) ≡ sendingsFrom n i count before
+  unfolding ticking sendingsFrom
+  sends-from zero i at d full same alike = refl
+  sends-from (suc n) i at d full same alike =
+      let now = expiringAt count (d .words) in
+      let was = expiringAt count (before .words) in
+      let here : was i ≡ now at = sym (alike-here now was at i same) in
+      by-elim (λ (t : Ticked Desk). map (λ expiry. expiry .outcome .sending) (t .expired) ≡ sendingsFrom (suc n) i count before) (now at)
+      (λ timer t.
+      let next = step d count (report at timer) .desk in
+      let gone = due-expires d count at timer full t in
+      let sent : step d count (report at timer) .outcome .sending ≡ step before count (report i timer) .outcome .sending =
+      due-sends d count at timer t
+      ∙ ap rowCancels (alike-here (recordAt d) (recordAt before) at i alike)
+      ∙ sym (due-sends before count i timer (here ∙ t)) in
+      rw (here ∙ t)
+      (ap₂ (λ (x : Sending) (xs : List Sending). x ∷ xs) sent
+      (sends-from n (suc i) at next (step-full d count at timer full)
+      (alike-gone now (expiringAt count (next .words)) was at i (due-behind d count at timer gone) same)
+      (alike-gone (recordAt d) (recordAt next) (recordAt before) at i (record-behind d count at timer gone) alike))))
+      (λ f.
+      rw (here ∙ f)
+      (sends-from n (suc i) (suc at) d full (alike-next now was at i same) (alike-next (recordAt d) (recordAt before) at i alike)))
+
+pub tick-sends : TickSends
+unfolding ticked sendings
+tick-sends d count full = sends-from count d Layout.places 0 0 d full (λ k. refl) (λ k. refl)
 
 -- ---- a place without a timer that is due is none of those
 not-due :
@@ -226,7 +193,7 @@ none-from :
 unfolding ticking
 none-from count zero i at d full below above j = everywhere (expiringAt count (d .words)) Nothing at below (λ k h. above k (omega (arith, h))) j
 none-from count (suc n) i at d full below above j =
-    by-elim (λ (t : Ticked). expiringAt count (t .desk .words) j ≡ Nothing) (expiringAt count (d .words) at)
+    by-elim (λ (t : Ticked Desk). expiringAt count (t .desk .words) j ≡ Nothing) (expiringAt count (d .words) at)
     (λ timer t.
     let gone = due-expires d count at timer full t in
     none-from count n (suc i) at (step d count (report at timer) .desk) (step-full d count at timer full)
@@ -249,10 +216,18 @@ ticking-reached : (count n i at : ℕ) (d : Desk) → Reached d → Reached (tic
 unfolding ticking
 ticking-reached count zero i at d reached = reached
 ticking-reached count (suc n) i at d reached =
-    by-elim (λ (t : Ticked). Reached (t .desk)) (expiringAt count (d .words) at)
+    by-elim (λ (t : Ticked Desk). Reached (t .desk)) (expiringAt count (d .words) at)
     (λ timer t. ticking-reached count n (suc i) at (step d count (report at timer) .desk) (S.steps count (S.times _ timer) reached))
     (λ f. ticking-reached count n (suc i) (suc at) d reached)
 
 pub tick-reached : TickReached
 unfolding ticked
 tick-reached d reached count = ticking-reached count Layout.places 0 0 d reached
+
+-- ---- the report of a timer that is due plans that its record goes, and starts nothing
+pub due-removes :
+    (count : ℕ) (words : List ℕ) (i : ℕ) (timer : Timer) → expiringAt count words i ≡ One timer →
+    let plan = planFor (records words) (report i timer) in (plan .change ≡ Remove i) × (plan .outcome .starts ≡ noTimers)
+due-removes count words i timer e =
+    let ends = due-plan count words i timer e ∙ sym (row-ends i (getD (records words) i blank) timer) in
+    (ap (λ (p : Plan). p .change) ends, ap (λ (p : Plan). p .outcome .starts) ends)

@@ -1,2 +1,4 @@
 pub mod Sound
 pub mod Ticking
+pub mod Notes
+pub mod Time

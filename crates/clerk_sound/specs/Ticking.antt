@@ -15,7 +15,7 @@ use Rattle.clerk_records.specs.Records.{blank, records}
 use Rattle.clerk_records.specs.Deadlines.{noDeadlines, deadlines, expiringAt}
 use Rattle.clerk_records.specs.declared.deadlines.Expiring.the-variants.{Nothing, One}
 use Rattle.clerk.specs.Steps.{step}
-use Rattle.clerk.specs.Ticks.{report, byTimer, ticked}
+use Rattle.clerk.specs.Ticks.{report, byTimer, ticked, sendings}
 use Rattle.clerk.specs.declared.Desk.{Desk}
 use Rattle.clerk_sound.specs.Sound.{Reached}
 
@@ -44,6 +44,12 @@ placesOf d count = map (λ expiry. expiry .place) (ticked d count .expired)
 
 abbrev pub TickExpires : Type 0
 TickExpires = (d : Desk) (count : ℕ) → length (d .words) ≡ Layout.words → placesOf d count ≡ dueFrom Layout.places 0 count (d .words)
+
+-- what it sends is what the reports send, each by itself on the desk as it is before the tick
+abbrev pub TickSends : Type 0
+TickSends =
+    (d : Desk) (count : ℕ) → length (d .words) ≡ Layout.words →
+    map (λ expiry. expiry .outcome .sending) (ticked d count .expired) ≡ sendings d count
 
 -- T2 runs on in Ringout, and a record does not expire there
 abbrev pub RingoutStays : Type 0

@@ -99,7 +99,7 @@ fn timers_started(starts: Starts) -> Timers
 }
 
 // T1 runs in Wait-Ack, T3 in Wait-Answer, T2 in the last four.
-fn timers_running(state: State) -> Timers
+pub fn timers_running(state: State) -> Timers
     ensures { λ r. ⌜ r ≡ running state ⌝ }
 {
     match state {

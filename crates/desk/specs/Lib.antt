@@ -2,3 +2,4 @@ pub mod Letter
 pub mod Carriers
 pub mod Outcome
 pub mod Sends
+pub mod Ticked

@@ -63,7 +63,7 @@ front-buffer m out ranged room =
 -- the message that an outcome sends is the one of its letter
 sent-front :
     (sending : Sending) (m : Message) (out : List ℕ) → sentBy sending ≡ m ∷ [] →
-    (sentWritten out sending ≡ messageWritten out 0 m) × (sentBuffer out sending ≡ messageBuffer out 0 m)
+    (sentWritten out 0 sending ≡ messageWritten out 0 m) × (sentBuffer out 0 sending ≡ messageBuffer out 0 m)
 unfolding sentWritten sentBuffer
 sent-front Nothing m out e = let z : _≡_ {A = ℕ} 0 1 = cc in absurd (omega (arith, z))
 sent-front (Send l) m out e = let same : messageOf l ≡ m = ap (first m) e in (ap (messageWritten out 0) same, ap (messageBuffer out 0) same)

@@ -3,7 +3,7 @@ use Prim.Native.Nat.{ℕ}
 use mathlib.Core.Path.{_≡_, refl, sym, _∙_, ap, subst}
 use mathlib.Core.Bool.{Bool, true, false, false≢true}
 use mathlib.Core.List.{List, [], _∷_, _++_, map, List·Memᴰ as Noted}
-use lib.ListN.{length, getD}
+use lib.ListN.{length, getD, replicate}
 use lib.Dec.{ltb, eqb}
 use native.Mathlib.Omega.{arith}
 use Rattle.lists.specs.Choice.{pick}
@@ -23,7 +23,9 @@ use Rattle.message.specs.declared.Message.{Message}
 use Rattle.desk.specs.Letter.{identifierOf, identifierWords, numberWords, letterOf, messageOf}
 use Rattle.desk.specs.declared.letter.Identifier.{Identifier}
 use Rattle.desk.specs.declared.letter.Identifier.the-variants.{Absent, Is}
+use Rattle.desk.specs.Outcome.{noTimers, doneWith, refusedWith}
 use Rattle.desk.specs.declared.outcome.Outcome.{Outcome}
+use Rattle.desk.specs.declared.outcome.Sending.the-variants as Sending
 use Rattle.terms.specs.declared.request.Name.{Name}
 use Rattle.terms.specs.declared.request.Names.{Names}
 use Rattle.terms.specs.declared.request.Request.{Request}
@@ -36,9 +38,12 @@ use Rattle.clerk_table.specs.declared.inputs.Act.the-variants as ClerkAct
 use Rattle.clerk_table.specs.declared.inputs.Input.the-variants as AtClerk
 use Rattle.clerk_table.specs.declared.table.Timer.{Timer}
 use Rattle.clerk_table.specs.declared.table.Timer.the-variants.{T1, T2, T3}
+use Rattle.clerk_records.specs.Layout as Layout
 use Rattle.clerk.specs.Entry as ClerkEntry
 use Rattle.clerk.specs.Entry.{askMessage, askNames, askRequest, askEntry}
+use Rattle.clerk.specs.Start as ClerkStart
 use Rattle.clerk.specs.Steps as Clerk
+use Rattle.clerk.specs.declared.start.Lengths.{Lengths}
 use Rattle.clerk.specs.declared.entry.Asking.{Asking}
 use Rattle.clerk.specs.declared.entry.Entry as ClerkEntries
 use Rattle.clerk.specs.declared.entry.Entry.the-variants as ClerkEntered
@@ -58,15 +63,15 @@ use Rattle.line.specs.declared.steps.Stepped as LineStepped
 use Rattle.line.specs.declared.steps.SteppedBytes as LineSteppedBytes
 use Rattle.host_numbers.specs.Identifiers.{isIdentifier, nameGiven}
 use Rattle.host_numbers.specs.Given.{clerkActNamed, clerkActGiven, timerNamed, timerGiven, lineActNamed, lineActGiven, guardGiven, isWord, yes, reportGiven, askWords, askingOf, askGiven, clerkBytesGiven}
-use Rattle.tollherring.specs.Face.{noCount, refusedFace, faced}
-use Rattle.tollherring.specs.Clerk.{clerkEntered, clerkBytes, clerkAsked, clerkReceived, clerkActed, clerkReported}
-use Rattle.tollherring.specs.Line.{startWords, lineStartedWords, lineStartedAnswer, lineEntered, lineBytes, lineReceived, lineStatusReported, lineLooked, lineActed, lineGuarded}
+use Rattle.tollherring.specs.Face.{startWords, refusedFace, faced}
+use Rattle.tollherring.specs.Clerk.{lengthsOf, clerkStartedWords, clerkStartedAnswer, clerkEntered, clerkBytes, clerkAsked, clerkReceived, clerkActed, clerkReported}
+use Rattle.tollherring.specs.Line.{lineStartWords, lineStartedWords, lineStartedAnswer, lineEntered, lineBytes, lineReceived, lineStatusReported, lineLooked, lineActed, lineGuarded}
 use Rattle.tollherring.proofs.Claims.{no-room-nothing}
 use Rattle.line_table.specs.Inputs.{namesOf}
 use Rattle.pair_request.specs.Signal.{Signal, callDied, rejected}
-use Rattle.pair.specs.World.{Of, from, Note, takenUp, World, Event, clerkDoes, lineDoes, clerkIsTold, clerkHears, lineHears, nameOf, newLabel, labelOf, clerkTouched, lineTouched, clerkNotes, lineNotes, sentBy, clerkStepped, lineStepped, clerkHeard, lineHeard, signalLetter, signalEntry, counts, next, Allowed, then, Reached, reached, Any, Once}
+use Rattle.pair.specs.World.{Of, from, Note, takenUp, World, Event, clerkDoes, lineDoes, clerkIsTold, clerkHears, lineHears, nameOf, newLabel, labelOf, clerkTouched, lineTouched, clerkNotes, lineNotes, sentBy, clerkStepped, lineStepped, clerkHeard, lineHeard, signalLetter, signalEntry, next, Allowed, startWorld, Any, Once}
 use Rattle.exported.specs.Calls.{End, carried, clerkEnd, lineEnd, IsStep, done, refused}
-use Rattle.exported.specs.Claims.{ClerkHearsBytes, LineHearsBytes, ClerkCall, LineCall, uncounted, askEvent, FaceIsStep, StartsAsRun}
+use Rattle.exported.specs.Claims.{ClerkHearsBytes, LineHearsBytes, ClerkCall, LineCall, askEvent, FaceIsStep, StartsAsRun}
 use Rattle.exported.proofs.Heard.{heard-as-bytes}
 
 -- ---- a step's face: done, or refused for want of room
@@ -74,9 +79,9 @@ faced-step :
     (before after : End) (out : List ℕ) (outcome : Outcome) (unread : ℕ) → after .wire ≡ before .wire ++ sentBy (outcome .sending) →
     IsStep before after out unread (faced (before .words) (after .words) out outcome unread)
 unfolding faced
-faced-step before after out outcome unread wire = by (sentWritten out (outcome .sending)) refl
+faced-step before after out outcome unread wire = by (sentWritten out 0 (outcome .sending)) refl
   where
-    by : (x : Written) → sentWritten out (outcome .sending) ≡ x → IsStep before after out unread (faced (before .words) (after .words) out outcome unread)
+    by : (x : Written) → sentWritten out 0 (outcome .sending) ≡ x → IsStep before after out unread (faced (before .words) (after .words) out outcome unread)
     by (Wrote n) e = rw e (done outcome n wire e)
     by (Refused number) e =
         subst (IsStep before after out unread) (sym (no-room-nothing (before .words) (after .words) out outcome unread number e)) (refused number Nothing)
@@ -89,7 +94,7 @@ wire-sent (x ∷ xs) o ms = ap (λ (ys : List Message). x .it ∷ ys) (wire-sent
 
 module _ (w : World) (out : List ℕ) where
   -- the end after a step of its desk
-  clerk-after :
+  pub clerk-after :
       (down : List (Of Message)) (given : Of Identifier) (entry : ClerkEntries.Entry) (notes : List (Of Identifier) → List Note) →
       _≡_ {A = End} (record { words = Clerk.entered (w .clerk) (w .count) entry .desk .words; wire = carried (w .up) ++ sentBy (Clerk.entered (w .clerk) (w .count) entry .outcome .sending) })
       (clerkEnd (clerkStepped w down given entry notes))
@@ -97,7 +102,7 @@ module _ (w : World) (out : List ℕ) where
       ap (λ (ms : List Message). record { words = Clerk.entered (w .clerk) (w .count) entry .desk .words; wire = ms })
       (wire-sent (w .up) (getD (clerkTouched w given entry) 0 given .origin) (sentBy (Clerk.entered (w .clerk) (w .count) entry .outcome .sending)))
 
-  line-after :
+  pub line-after :
       (up : List (Of Message)) (given : Of Identifier) (entry : LineEntries.Entry) (notes : List (Of Identifier) → List Note) →
       _≡_ {A = End} (record { words = Line.entered (w .line) (w .count) entry .desk .words; wire = carried (w .down) ++ sentBy (Line.entered (w .line) (w .count) entry .outcome .sending) })
       (lineEnd (lineStepped w up given entry notes))
@@ -354,22 +359,23 @@ clerk-worded w e out unread place bytes busy call =
 
 -- ---- bytes that the reader refuses
 clerk-unread :
-    (words out : List ℕ) (place : ℕ) (bytes : List ℕ) (fault : Fault) (busy : ℕ) → messageAt bytes ≡ Reading.refused fault →
-    clerkReceived words out place bytes busy ≡ pick (isWord busy) (refusedFace words out (fault .number) (At (fault .place))) (refusedFace words out 2 Nothing)
+    (words : List ℕ) (count : ℕ) (out : List ℕ) (place : ℕ) (bytes : List ℕ) (fault : Fault) (busy : ℕ) → messageAt bytes ≡ Reading.refused fault →
+    clerkReceived words count out place bytes busy ≡ pick (isWord busy) (refusedFace words out (fault .number) (At (fault .place))) (refusedFace words out 2 Nothing)
 unfolding clerkReceived clerkBytesGiven ClerkEntry.bytesEntry clerkEntered
-clerk-unread words out place bytes fault busy e = by (isWord busy)
+clerk-unread words count out place bytes fault busy e = by (isWord busy)
   where
     by :
         (worded : Bool) →
-        clerkBytes words noCount out (pick worded (ClerkEntry.bytesEntry bytes (yes busy) place) (record { entry = ClerkEntered.Refused 2; next = 0; fault = Nothing }))
+        clerkBytes words count out (pick worded (ClerkEntry.bytesEntry bytes (yes busy) place) (record { entry = ClerkEntered.Refused 2; next = 0; fault = Nothing }))
         ≡ pick worded (refusedFace words out (fault .number) (At (fault .place))) (refusedFace words out 2 Nothing)
     by true = rw e
     by false = refl
 
 line-unread :
-    (words out : List ℕ) (place : ℕ) (bytes : List ℕ) (fault : Fault) → messageAt bytes ≡ Reading.refused fault → lineReceived words out place bytes ≡ refusedFace words out (fault .number) (At (fault .place))
+    (words : List ℕ) (count : ℕ) (out : List ℕ) (place : ℕ) (bytes : List ℕ) (fault : Fault) → messageAt bytes ≡ Reading.refused fault →
+    lineReceived words count out place bytes ≡ refusedFace words out (fault .number) (At (fault .place))
 unfolding lineReceived LineEntry.bytesEntry lineEntered
-line-unread words out place bytes fault e = rw e
+line-unread words count out place bytes fault e = rw e
 
 -- an ask of values of the code's types
 ask-allowed : (w : World) (a : Asking) → Typed a → askEntry a ≡ ClerkEntered.Given (AtClerk.Ask (askNames a) (askRequest a)) → Allowed w (askEvent a)
@@ -398,23 +404,10 @@ ask-once w a given fresh names q is taken =
       λ o noted. fresh o (subst (λ (n : Names). Noted (takenUp (from o (n .identifier))) (w .history)) (sym name) noted),
     )
 
--- ---- the world at the count of a call is reached too
-uncounted-reached : (w : World) → Reached Any w → Reached Any (uncounted w)
-unfolding next
-uncounted-reached w (reached lengths given keep retain b run) =
-    let allowed : Allowed w (counts noCount) =
-    record {
-      asked = λ names q is. let z : _≡_ {A = ℕ} 0 1 = cc in absurd (omega (arith, z));
-      toClerk = λ l busy place is. let z : _≡_ {A = ℕ} 0 1 = cc in absurd (omega (arith, z));
-      toLine = λ l place is. let z : _≡_ {A = ℕ} 0 1 = cc in absurd (omega (arith, z));
-    } in
-    reached lengths given keep retain b (then run (counts noCount) allowed tt)
-
 pub face-is-step : FaceIsStep
 unfolding clerkAsked clerkReceived clerkActed clerkReported lineReceived lineStatusReported lineLooked lineActed lineGuarded letterOf
-face-is-step before reach out =
-    let w = uncounted before in
-    let heard = heard-as-bytes w (uncounted-reached before reach) in
+face-is-step w reach out =
+    let heard = heard-as-bytes w reach in
     record {
       clerkAsk = asking w out;
       askAllowed = ask-allowed w;
@@ -436,17 +429,40 @@ face-is-step before reach out =
           let m = signalMessage signal identifier in
           clerk-worded w (clerkIsTold signal (toldName signal identifier place) (yes busy)) out (length (messageBytes m)) place (messageBytes m ++ behind) busy
           (clerk-telling w out signal identifier place behind (yes busy));
-      clerkUnread = clerk-unread (w .clerk .words) out;
-      lineUnread = line-unread (w .line .words) out;
+      clerkUnread = clerk-unread (w .clerk .words) (w .count) out;
+      lineUnread = line-unread (w .line .words) (w .count) out;
     }
 
--- ---- the start
-pub starts-as-run : StartsAsRun
+-- ---- the starts
+clerk-starts :
+    (words given : List ℕ) (keep retain : Bool) (t1 t2Ccbs t2Ccnr t3 : ℕ) → clerkStartedAnswer t1 t2Ccbs t2Ccnr t3 ≡ 0 →
+    clerkStartedWords words t1 t2Ccbs t2Ccnr t3 ≡ startWorld (lengthsOf t1 t2Ccbs t2Ccnr t3) given keep retain .clerk .words
+unfolding clerkStartedWords clerkStartedAnswer ClerkStart.started
+clerk-starts words given keep retain t1 t2Ccbs t2Ccnr t3 ok = by (ClerkStart.goodLengths l) ok
+  where
+    l : Lengths
+    l = lengthsOf t1 t2Ccbs t2Ccnr t3
+
+    made : Bool → ClerkStepped.Stepped
+    made good =
+        pick good (record { desk = ClerkStart.startedDesk l; outcome = doneWith Sending.Nothing noTimers noTimers Nothing })
+        (record { desk = record { words = replicate Layout.words 0 }; outcome = refusedWith 2 Sending.Nothing })
+
+    by : (good : Bool) → made good .outcome .refusal ≡ 0 → startWords words (made good .outcome .refusal) (made good .desk .words) ≡ ClerkStart.startedDesk l .words
+    by true e = refl
+    by false e = absurd (omega (arith, e))
+
+line-starts :
+    (lengths : Lengths) (words given : List ℕ) (keep retain : ℕ) → lineStartedAnswer given keep retain ≡ 0 →
+    lineStartedWords words given keep retain ≡ startWorld lengths given (yes keep) (yes retain) .line .words
 unfolding lineStartedWords lineStartedAnswer
-starts-as-run lengths words given keep retain ok = by (both (isWord keep) (isWord retain)) ok
+line-starts lengths words given keep retain ok = by (both (isWord keep) (isWord retain)) ok
   where
     by :
         (b : Bool) → pick b (started given (yes keep) (yes retain) .outcome .refusal) 2 ≡ 0 →
-        pick b (startWords words (started given (yes keep) (yes retain))) words ≡ started given (yes keep) (yes retain) .desk .words
+        pick b (lineStartWords words given (yes keep) (yes retain)) words ≡ started given (yes keep) (yes retain) .desk .words
     by true e = rw e
     by false e = absurd (omega (arith, e))
+
+pub starts-as-run : StartsAsRun
+starts-as-run = record { clerk = clerk-starts; line = line-starts }

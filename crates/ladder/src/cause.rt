@@ -50,7 +50,7 @@ fn put_cause_words(page: Page, entry: usize) -> Page {
  ask: CCBS, can-keep 1
  User A accepts
  User A cancels
- T2 runs out
+
  the connection fell
  the phone rings
  the house withdraws

@@ -44,9 +44,9 @@ pub fn say(number: usize) {
 fn frame(number: usize) {
     print_entry(
         b"
-====================================================================================================
-CLERK'S DESK (User A)         |               THE WIRES              | LINE DESK (User B)
-------------------------------+--------------------------------------+------------------------------
+=============================================================================================================
+CLOCK    CLERK'S DESK (User A)         |               THE WIRES              | LINE DESK (User B)
+---------------------------------------+--------------------------------------+------------------------------
 TOLLHERRING: THREE LESSONS IN SIX SCENES
 A clerk finds a house's line busy and asks to be rung back. #34 is the request for a group of 34.
 A message is sent: o---...   It arrives: ...--->   No desk sent it: ...---?   Its carrier is in [ ].

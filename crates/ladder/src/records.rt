@@ -2,13 +2,13 @@
 use crate::cause::put_placed;
 use crate::cause::put_tag;
 use crate::events::NAMELESS;
+use crate::row::no_clock;
 use crate::row::print_row;
 use crate::row::to_middle;
 use crate::row::to_right;
 use crate::shown::NO_RECORD;
 use crate::words::put_state;
 use printing::Page;
-use printing::blank_page;
 use printing::put_entry;
 
 // What is shown of a record: its tag, the entry of its state (`NO_RECORD` where the place is not used), its keep choice by its code, and 1 where its connection is down.
@@ -45,7 +45,7 @@ fn put_record(page: Page, i: usize, shown: Shown) -> Page {
 
 // The row of one place of both desks: the first one, and behind it only those that a desk uses.
 pub fn show_place(i: usize, atClerk: Shown, atLine: Shown) {
-    let left = put_record(blank_page(), i, atClerk);
+    let left = put_record(no_clock(), i, atClerk);
     let middle = put_entry(to_middle(left), b"              (records)\n", i);
     print_row(left.at, middle.at, put_record(to_right(middle), i, atLine));
 }

@@ -9,11 +9,13 @@ use crate::middle::put_message;
 use crate::middle::put_name;
 use crate::row::either;
 use crate::row::print_rows;
+use crate::words::put_tick;
 use crate::words::put_words;
 use printing::Page;
 use printing::blank_page;
 use printing::part;
 use told::TOLD;
+use told::ticking::TOLD as TICK_TOLD;
 
 // A state is an entry of the table of states: 0 where an event is about no request.
 const NO_REQUEST: usize = 0;
@@ -37,12 +39,13 @@ pub fn no_states() -> States {
 }
 
 // The words stand on the left at the clerk's end, on the right at the line's.
-fn print_block(atLine: bool, words: Page, middle: Page) {
+fn print_block(clock: u32, atLine: bool, words: Page, middle: Page) {
     let text = words.bytes;
     let names = middle.bytes;
     let end = words.at;
     let border = either(atLine, 0, end);
     print_rows(
+        clock,
         part(&text, 0, border),
         part(&names, 0, middle.at),
         part(&text, border, end),
@@ -64,9 +67,22 @@ fn middle_of(atLine: bool, stray: bool, heard: &[u8], sent: &[u8]) -> Page {
 pub fn show(event: Event, told: &[u64; TOLD], states: States, heard: &[u8], sent: &[u8]) {
     if event.seen {
         print_block(
+            event.clock,
             event.atLine,
             put_words(event, told, states),
             middle_of(event.atLine, event.code == STRAY, heard, sent),
+        );
+    }
+}
+
+// A tick at the clerk's end: what its host is told, the tag and the state of the record that expired, and its message. In no scene more than one does.
+pub fn show_tick(event: Event, told: &[u64; TICK_TOLD], tag: u8, state: usize, sent: &[u8]) {
+    if event.seen {
+        print_block(
+            event.clock,
+            false,
+            put_tick(told, tag, state),
+            middle_of(false, false, b"", sent),
         );
     }
 }
@@ -75,6 +91,7 @@ pub fn show(event: Event, told: &[u64; TOLD], states: States, heard: &[u8], sent
 pub fn show_silence(event: Event) {
     if event.seen {
         print_block(
+            event.clock,
             event.atLine,
             blank_page(),
             put_name(blank_page(), event.atLine, b"nothing is under way"),

@@ -1,13 +1,16 @@
 // The words of an event's end, each in a row of its own: a table for each list that docs/STORY.md has, by the number that a host is told.
 use crate::cause::put_cause;
 use crate::cause::put_placed;
+use crate::cause::put_tag;
 use crate::events::Event;
+use crate::shown::NO_RECORD;
 use crate::shown::States;
 use printing::Page;
 use printing::blank_page;
 use printing::put_entry;
 use printing::put_text;
 use told::TOLD;
+use told::ticking::TOLD as TICK_TOLD;
 
 // A row of an entry's words behind a lead; the first entry is none, and takes no row.
 pub fn put_row(page: Page, lead: &[u8], table: &[u8], entry: usize) -> Page {
@@ -138,6 +141,25 @@ fn put_about(page: Page, untold: bool, told: &[u64; TOLD]) -> Page {
         return put_text(put_placed(put_text(page, b"  about "), place), b"\n");
     }
     page
+}
+
+// All rows of a tick in which a record expired, or none.
+pub fn put_tick(told: &[u64; TICK_TOLD], tag: u8, state: usize) -> Page {
+    let expired = told[2] as usize;
+    let caused = put_text(
+        put_entry(
+            blank_page(),
+            b"tick: nothing is due\ntick: 1 expired\n",
+            expired,
+        ),
+        b"\n",
+    );
+    if expired == 0 {
+        return caused;
+    }
+    let whose = put_tag(put_text(caused, b"  "), tag);
+    let ended = put_state(put_state(whose, b" ", state), b" -> ", NO_RECORD);
+    put_notice(put_text(ended, b"\n"), told[4] as usize)
 }
 
 // All rows of an event's end.

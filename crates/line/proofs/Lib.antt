@@ -1,3 +1,4 @@
 pub mod EntryLaws
 pub mod StartLaws
 pub mod StepsLaws
+pub mod TickLaws

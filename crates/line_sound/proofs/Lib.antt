@@ -9,3 +9,4 @@ pub mod Looking
 pub mod Reporting
 pub mod Ticking
 pub mod Time
+pub mod InTime

@@ -1,87 +1,56 @@
 -- A guard that is due belongs to a record in use, so its report is taken and the record removed: those before it stay, and those behind it move up to the place that is looked at next.
 use Prim.Native.Nat.{ℕ, zero, suc, _+_, _≤_, _<_}
-use mathlib.Core.Path.{_≡_, refl, sym, ap, _∙_}
-use mathlib.Core.Bool.{Bool, true, false}
+use mathlib.Core.Path.{_≡_, refl, sym, ap, ap₂, _∙_}
+use mathlib.Core.Bool.{true, false}
 use mathlib.Core.List.{List, _∷_, map}
 use lib.ListN.{length, getD}
 use native.Mathlib.Omega.{arith}
-use Rattle.lists.specs.Choice.{pick}
 use Rattle.lists.specs.declared.Found.the-variants.{At}
 use Rattle.lists.proofs.Choice.{pick-elim}
-use Rattle.lists.proofs.Lists.{both-parts, getD-without-before}
+use Rattle.lists.proofs.Lists.{getD-without-before}
 use Rattle.desk.specs.Outcome.{noTimers}
-use Rattle.desk.specs.declared.Connection.{Connection}
-use Rattle.desk.specs.declared.sends.Sends.the-variants as Sends
-use Rattle.terms.specs.declared.means.Means.the-variants as Means
+use Rattle.desk.specs.Ticked.{Ticked}
+use Rattle.desk.specs.declared.outcome.Sending.{Sending}
 use Rattle.places.proofs.Staying.{moved-up}
 use Rattle.places.proofs.Passing.{Alike, alike-here, alike-next, alike-gone, to-here, everywhere}
-use Rattle.line_table.specs.Table.{inUse, holdsIn}
-use Rattle.line_table.specs.Search.{used}
 use Rattle.line_table.specs.Step.{rowTaken}
-use Rattle.line_table.specs.declared.table.State.{State}
-use Rattle.line_table.specs.declared.table.State.the-variants.{Free, Invoked, Await, Alert}
-use Rattle.line_table.specs.declared.table.Home.the-variants.{Always}
 use Rattle.line_table.specs.declared.table.Row.the-variants.{GuardRunsOut}
 use Rattle.line_table.specs.declared.record.Record.{Record}
 use Rattle.line_table.specs.declared.record.Change.the-variants.{Remove}
-use Rattle.line_table.specs.declared.record.Decision.the-variants.{Refuse, Take}
-use Rattle.line_table.specs.declared.record.Plan.{Plan}
 use Rattle.line_records.specs.Layout as Layout
 use Rattle.line_records.specs.Codes.{stateOf}
 use Rattle.line_records.specs.Records.{recordOf, blank, records}
 use Rattle.line_records.specs.Lines.{lines}
-use Rattle.line_records.specs.Meaning.{named}
 use Rattle.line_records.specs.Change.{applied}
 use Rattle.line_records.specs.Deadlines.{guards, expiring, expiringAt}
 use Rattle.line_records.proofs.RecordsLaws.{record-past}
 use Rattle.line_records.proofs.ChangeLaws.{applied-length}
 use Rattle.line.proofs.StepsLaws.{made-length, records-made, lines-made}
+use Rattle.line.proofs.TickLaws.{due-plan, due-step}
 use Rattle.line_records.proofs.GuardsLaws.{guards-applied, guards-timed}
-use Rattle.line_plan.specs.Decide.{ownMeant, ownDecision, decided}
-use Rattle.line_plan.specs.Plan.{planOf, planFor}
-use Rattle.line.specs.Steps.{made, step}
-use Rattle.line.specs.Ticks.{report, Ticked, ticking, ticked}
+use Rattle.line_table.specs.declared.record.Plan.{Plan}
+use Rattle.line_plan.specs.Plan.{planFor}
+use Rattle.line.specs.Steps.{step}
+use Rattle.line.specs.Ticks.{report, ticking, ticked, sendingsFrom, sendings}
 use Rattle.line.specs.declared.Desk.{Desk}
+use Rattle.line.specs.declared.steps.Stepped.{Stepped}
 use Rattle.line_sound.specs.Sound as S
 use Rattle.line_sound.specs.Sound.{Reached}
-use Rattle.line_sound.specs.Ticking.{Expires, DueExpires, dueFrom, TickExpires, NoneDue, TickReached}
+use Rattle.line_sound.specs.Ticking.{Expires, DueExpires, dueFrom, TickExpires, TickSends, NoneDue, TickReached}
 
 -- ---- the report of a guard that is due
--- the guard runs in every state
-always : (s : State) (c : Connection) → holdsIn Always s c ≡ inUse s
-always Free c = refl
-always Invoked c = refl
-always Await c = refl
-always Alert c = refl
-
-due-used : (count : ℕ) (words : List ℕ) (i : ℕ) → expiringAt count words i ≡ true → used (getD (records words) i blank) ≡ true
-unfolding expiringAt
-due-used count words i t = both-parts _ _ t .0
-
-module _ (words : List ℕ) (i : ℕ) (u : used (getD (records words) i blank) ≡ true) where
-  due-decided : decided words (report i) ≡ Take i GuardRunsOut
-  unfolding decided ownDecision named
-  due-decided =
-      let r = getD (records words) i blank in
-      ap (λ (b : Bool). ownMeant words GuardRunsOut (pick b (Means.At i) Means.Nothing)) u
-      ∙ ap (λ (b : Bool). pick b (Take i GuardRunsOut) (Refuse 7 Sends.Nothing)) (always (r .state) (r .terms .connection) ∙ u)
-
-  due-plan : planFor words (report i) ≡ rowTaken i (getD (records words) i blank) GuardRunsOut
-  unfolding planFor planOf
-  due-plan = ap (planOf words (report i)) due-decided
-
 pub due-expires : DueExpires
-unfolding step rowTaken
+unfolding rowTaken
 due-expires d count i full t =
-    let plan = due-plan (d .words) i (due-used count (d .words) i t) in
+    let same = due-step d count i t in
     record {
-      taken = ap (λ (p : Plan). p .outcome .refusal) plan;
-      gone = ap (λ (p : Plan). records (made d count p .desk .words)) plan ∙ records-made (d .words) (Remove i) full count (At i) noTimers;
+      taken = ap (λ (s : Stepped). s .outcome .refusal) same;
+      gone = ap (λ (s : Stepped). records (s .desk .words)) same ∙ records-made (d .words) (Remove i) full count (At i) noTimers;
       deadlines =
-          ap (λ (p : Plan). guards (made d count p .desk .words)) plan
+          ap (λ (s : Stepped). guards (s .desk .words)) same
           ∙ guards-timed (applied (d .words) (Remove i)) (applied-length (d .words) (Remove i) full) count (At i) noTimers
           ∙ guards-applied (d .words) (Remove i) full;
-      others = ap (λ (p : Plan). lines (made d count p .desk .words)) plan ∙ lines-made (d .words) (Remove i) full count (At i) noTimers;
+      others = ap (λ (s : Stepped). lines (s .desk .words)) same ∙ lines-made (d .words) (Remove i) full count (At i) noTimers;
     }
 
 step-full : (d : Desk) (count i : ℕ) → length (d .words) ≡ Layout.words → length (step d count (report i) .desk .words) ≡ Layout.words
@@ -109,10 +78,12 @@ module _ (d : Desk) (count i : ℕ) (gone : Expires d count i) where
       (ap (λ (rs : List Record). getD rs j blank) (gone .gone) ∙ getD-without-before blank (records (d .words)) i j blank h)
       (ap (λ (gs : List ℕ). getD gs j 0) (gone .deadlines) ∙ getD-without-before 0 (guards (d .words)) i j 0 h)
 
+  record-behind : (j : ℕ) → i ≤ j → getD (records after) j blank ≡ getD (records (d .words)) (j + 1) blank
+  record-behind j h = ap (λ (rs : List Record). getD rs j blank) (gone .gone) ∙ moved-up blank (records (d .words)) i j h
+
   due-behind : (j : ℕ) → i ≤ j → expiringAt count after j ≡ expiringAt count (d .words) (j + 1)
   due-behind j h =
-      same-due j (j + 1)
-      (ap (λ (rs : List Record). getD rs j blank) (gone .gone) ∙ moved-up blank (records (d .words)) i j h)
+      same-due j (j + 1) (record-behind j h)
       (ap (λ (gs : List ℕ). getD gs j 0) (gone .deadlines) ∙ moved-up 0 (guards (d .words)) i j h)
 
 -- ---- a tick: from place `at` on the desk is due as it was from place i on before the tick
@@ -125,7 +96,7 @@ module _ (count : ℕ) (before : List ℕ) where
   expires-from (suc n) i at d full same =
       let now = expiringAt count (d .words) in
       let here : expiringAt count before i ≡ now at = sym (alike-here now (expiringAt count before) at i same) in
-      pick-elim (λ (t : Ticked). map (λ expiry. expiry .place) (t .expired) ≡ dueFrom (suc n) i count before) (now at)
+      pick-elim (λ (t : Ticked Desk). map (λ expiry. expiry .place) (t .expired) ≡ dueFrom (suc n) i count before) (now at)
       (λ t.
       let next = step d count (report at) .desk in
       let gone = due-expires d count at full t in
@@ -139,6 +110,51 @@ pub tick-expires : TickExpires
 unfolding ticked
 tick-expires d count full = expires-from count (d .words) Layout.places 0 0 d full (λ k. refl)
 
+-- ---- what the report of a guard that is due sends: what its row sends of the record, whatever its place
+abbrev rowSends : Record → Sending
+rowSends r = rowTaken 0 r GuardRunsOut .outcome .sending
+
+due-sends :
+    (d : Desk) (count i : ℕ) → expiringAt count (d .words) i ≡ true →
+    step d count (report i) .outcome .sending ≡ rowSends (getD (records (d .words)) i blank)
+unfolding rowTaken
+due-sends d count i t = ap (λ (s : Stepped). s .outcome .sending) (due-step d count i t)
+
+abbrev recordAt : Desk → ℕ → Record
+recordAt d i = getD (records (d .words)) i blank
+
+module _ (count : ℕ) (before : Desk) where
+  sends-from :
+      (n i at : ℕ) (d : Desk) → length (d .words) ≡ Layout.words → Alike (expiringAt count (d .words)) at (expiringAt count (before .words)) i →
+      Alike (recordAt d) at (recordAt before) i →
+      map (λ expiry. expiry .outcome .sending) (ticking n i at count d .expired) ≡ sendingsFrom n i count before
+  unfolding ticking sendingsFrom
+  sends-from zero i at d full same alike = refl
+  sends-from (suc n) i at d full same alike =
+      let now = expiringAt count (d .words) in
+      let was = expiringAt count (before .words) in
+      let here : was i ≡ now at = sym (alike-here now was at i same) in
+      pick-elim (λ (t : Ticked Desk). map (λ expiry. expiry .outcome .sending) (t .expired) ≡ sendingsFrom (suc n) i count before) (now at)
+      (λ t.
+      let next = step d count (report at) .desk in
+      let gone = due-expires d count at full t in
+      let sent : step d count (report at) .outcome .sending ≡ step before count (report i) .outcome .sending =
+      due-sends d count at t
+      ∙ ap rowSends (alike-here (recordAt d) (recordAt before) at i alike)
+      ∙ sym (due-sends before count i (here ∙ t)) in
+      rw (here ∙ t)
+      (ap₂ (λ (x : Sending) (xs : List Sending). x ∷ xs) sent
+      (sends-from n (suc i) at next (step-full d count at full)
+      (alike-gone now (expiringAt count (next .words)) was at i (due-behind d count at gone) same)
+      (alike-gone (recordAt d) (recordAt next) (recordAt before) at i (record-behind d count at gone) alike))))
+      (λ f.
+      rw (here ∙ f)
+      (sends-from n (suc i) (suc at) d full (alike-next now was at i same) (alike-next (recordAt d) (recordAt before) at i alike)))
+
+pub tick-sends : TickSends
+unfolding ticked sendings
+tick-sends d count full = sends-from count d Layout.places 0 0 d full (λ k. refl) (λ k. refl)
+
 -- ---- afterwards: none before place `at` is due, and none behind the n places that are left
 none-from :
     (count n i at : ℕ) (d : Desk) → length (d .words) ≡ Layout.words → ((j : ℕ) → j < at → expiringAt count (d .words) j ≡ false) →
@@ -146,7 +162,7 @@ none-from :
 unfolding ticking
 none-from count zero i at d full below above j = everywhere (expiringAt count (d .words)) false at below (λ k h. above k (omega (arith, h))) j
 none-from count (suc n) i at d full below above j =
-    pick-elim (λ (t : Ticked). expiringAt count (t .desk .words) j ≡ false) (expiringAt count (d .words) at)
+    pick-elim (λ (t : Ticked Desk). expiringAt count (t .desk .words) j ≡ false) (expiringAt count (d .words) at)
     (λ t.
     let gone = due-expires d count at full t in
     none-from count n (suc i) at (step d count (report at) .desk) (step-full d count at full)
@@ -169,10 +185,15 @@ ticking-reached : (count n i at : ℕ) (d : Desk) → Reached d → Reached (tic
 unfolding ticking
 ticking-reached count zero i at d reached = reached
 ticking-reached count (suc n) i at d reached =
-    pick-elim (λ (t : Ticked). Reached (t .desk)) (expiringAt count (d .words) at)
+    pick-elim (λ (t : Ticked Desk). Reached (t .desk)) (expiringAt count (d .words) at)
     (λ t. ticking-reached count n (suc i) at (step d count (report at) .desk) (S.steps count (S.guards _) reached))
     (λ f. ticking-reached count n (suc i) (suc at) d reached)
 
 pub tick-reached : TickReached
 unfolding ticked
 tick-reached d reached count = ticking-reached count Layout.places 0 0 d reached
+
+-- ---- the report of a guard that is due plans that its record goes
+pub due-removes : (count : ℕ) (words : List ℕ) (i : ℕ) → expiringAt count words i ≡ true → planFor words (report i) .change ≡ Remove i
+unfolding rowTaken
+due-removes count words i t = ap (λ (p : Plan). p .change) (due-plan count words i t)

@@ -2,25 +2,21 @@
 use Prim.Native.Nat.{ℕ, _+_, _%_, _≤_, _<_}
 use mathlib.Core.Path.{_≡_, refl, sym, ap, _∙_, subst}
 use mathlib.Core.Bool.{Bool, true, false, false≢true}
-use mathlib.Core.List.{List, map}
-use lib.ListN.{length, getD, set, replicate, length-set, length-map, length-replicate}
+use mathlib.Core.List.{List}
+use lib.ListN.{length, getD, set, length-set, length-map, length-replicate}
 use lib.Seq.{getD-set-same, getD-set-other}
 use lib.Dec.{ltb, eqb}
 use native.Mathlib.Omega.{arith}
-use native.Mathlib.Nat.{mod-add-mod}
 use borrow.Author.Tests.{ltb-true, ltb-false, eqb-true, eqb-false}
-use Rattle.lists.specs.Choice.{pick}
-use Rattle.lists.specs.Lists.{both, without}
+use Rattle.lists.specs.Lists.{without}
 use Rattle.lists.specs.declared.words.Words.{Words}
-use Rattle.lists.specs.declared.Found.{Found}
-use Rattle.lists.specs.declared.Found.the-variants as Found
-use Rattle.lists.proofs.Lists.{both-parts, without-length, getD-without-before, getD-without-behind}
+use Rattle.lists.proofs.Lists.{both-parts, without-length, getD-without-before}
 use Rattle.clock.specs.Clock.{turn, halfTurn, deadlineOf, due}
-use Rattle.clock.specs.Claims.{DueNow}
-use Rattle.clock.proofs.ClockLaws.{never-early, due-in-time}
 use Rattle.store.proofs.Decoded.{decoded-length}
 use Rattle.message.specs.declared.Kind.{Kind}
 use Rattle.message.specs.declared.Kind.the-variants.{Ccbs, Ccnr}
+use Rattle.places.specs.Notes.{Note, unstarted, started, day}
+use Rattle.places.proofs.Noting.{Noted, noted-start, noted-later, noted-early, noted-due, noted-looked}
 use Rattle.places.proofs.Staying.{at-map, place-inside, moved-up}
 use Rattle.line_table.specs.Inputs.{namesOf}
 use Rattle.line_table.specs.Search.{used}
@@ -50,23 +46,20 @@ use Rattle.line_records.proofs.GuardsLaws.{guards-applied, guards-timed}
 use Rattle.line_records.specs.Deadlines.{guardOf}
 use Rattle.line.proofs.StepsLaws.{records-made}
 use Rattle.line_plan.specs.Plan.{newRecord, planOf, planFor}
-use Rattle.line.specs.Steps.{step}
+use Rattle.line.specs.Entry.{bytesEntry}
+use Rattle.line.specs.Steps.{step, entered, receivedBytes}
 use Rattle.line.specs.declared.Desk.{Desk}
+use Rattle.line.specs.declared.entry.Entry.{Entry}
+use Rattle.line.specs.declared.entry.Entry.the-variants.{Refused, Given}
 use Rattle.line_sound.specs.Sound as S
-use Rattle.line_sound.specs.Sound.{lineView, Reached, Fair}
+use Rattle.line_sound.specs.Sound.{lineView, Fair, Reached}
 use Rattle.line_sound.proofs.Changes.{marking-used, marking-blank}
 use Rattle.line_sound.proofs.Decisions.{Good, refuses, denies, takes, stores, reports}
-use Rattle.line_sound.proofs.Reaching.{good-input, reached-sound}
+use Rattle.line_sound.proofs.Reaching.{good-input, FairEntry, bytes-fair, reached-sound}
 use Rattle.line_sound.proofs.Starting.{start-free, blank-unused}
-use Rattle.line_sound.specs.Time.{Note, unstarted, started, notesAfter, day, Lasting, begins, passes, steps, ticks, Passed, NothingEarly, DueInTick}
+use Rattle.line_sound.specs.Time.{notesAfter, notesEntered, Lasting, begins, passes, steps, reads, ticks, NothingEarly, DueInTick}
 
--- ---- a note, and the deadline beside it
-data Noted (now last : ℕ) (note : Note) (guard : ℕ) : Type 0 where
-  noted :
-      (time seconds : ℕ) → note ≡ started time seconds → time ≤ now → seconds ≤ halfTurn → last ≤ time + seconds → guard ≡ (time + seconds) % turn →
-      Noted now last note guard
-
--- every used record has them
+-- ---- every used record has its note, and the deadline beside it
 record Kept (rs : List Record) (gs : List ℕ) (ns : List Note) (now last : ℕ) : Type 0 where
   lr : length rs ≡ Layout.places
   lg : length gs ≡ Layout.places
@@ -80,7 +73,7 @@ short Ccnr = omega arith
 -- ---- what a change does to the three lists
 abbrev guardsChanged : ℕ → List ℕ → Change → List ℕ
 guardsChanged now gs Stay = gs
-guardsChanged now gs (Put i r) = set gs i ((now + guardLength (r .terms .kind)) % turn)
+guardsChanged now gs (Put i r) = set gs i (deadlineOf (now % turn) (guardLength (r .terms .kind)))
 guardsChanged now gs (Turn t i) = gs
 guardsChanged now gs (Remove i) = without 0 gs i
 guardsChanged now gs (Report k number busy) = gs
@@ -100,14 +93,16 @@ module _ {rs : List Record} {gs : List ℕ} {ns : List Note} {now last : ℕ} (o
     where
       by :
           (j : ℕ) (b : Bool) → eqb j i ≡ b → used (getD (set rs i r) j blank) ≡ true →
-          Noted now last (getD (set ns i (started now (guardLength (r .terms .kind)))) j unstarted) (getD (set gs i ((now + guardLength (r .terms .kind)) % turn)) j 0)
+          Noted now last (getD (set ns i (started now (guardLength (r .terms .kind)))) j unstarted) (getD (set gs i (deadlineOf (now % turn) (guardLength (r .terms .kind)))) j 0)
       by j true e u =
-          let same = eqb-true j i e in
-          noted now (guardLength (r .terms .kind)) (rw same (getD-set-same ns i _ unstarted (omega (arith, kept .ln)))) (omega arith) (short (r .terms .kind)) (omega arith)
-          (rw same (getD-set-same gs i _ 0 (omega (arith, kept .lg))))
+          let seconds = guardLength (r .terms .kind) in
+          let note = started now seconds in
+          let end = deadlineOf (now % turn) seconds in
+          rw (eqb-true j i e, getD-set-same ns i note unstarted (omega (arith, kept .ln)), getD-set-same gs i end 0 (omega (arith, kept .lg)))
+          (noted-start now last seconds (short (r .terms .kind)) order)
       by j false e u =
           let other = eqb-false j i e in
-          rw (getD-set-other ns i j (started now (guardLength (r .terms .kind))) unstarted other, getD-set-other gs i j ((now + guardLength (r .terms .kind)) % turn) 0 other)
+          rw (getD-set-other ns i j (started now (guardLength (r .terms .kind))) unstarted other, getD-set-other gs i j (deadlineOf (now % turn) (guardLength (r .terms .kind))) 0 other)
           (kept .each j (rw (getD-set-other rs i j r blank other) at u))
 
   turn-kept : (t : Turned) (i : ℕ) → used (getD rs i blank) ≡ true → After (Turn t i)
@@ -180,7 +175,7 @@ module _ (ws : List ℕ) (full : length ws ≡ Layout.words) {ns : List Note} {n
   row-kept (To state) effect i u = (refl, turn-kept order kept _ i u)
 
   plan-kept : {input : Input} {decision : Decision} → Good ws input decision → Made (planOf ws input decision)
-  unfolding planOf rowTaken deadlineOf place
+  unfolding planOf rowTaken place
   plan-kept {input} (refuses {number = number} {reply}) = made (planOf ws input (Decide.Refuse number reply)) refl kept
   plan-kept {input} (denies {error = error}) = made (planOf ws input (Decide.Deny error)) refl kept
   plan-kept (takes i row u h) = let k = row-kept (effectOf row .next) (effectOf row) i u in made (rowTaken i (getD (records ws) i blank) row) (k .0) (k .1)
@@ -188,8 +183,7 @@ module _ (ws : List ℕ) (full : length ws ≡ Layout.words) {ns : List Note} {n
       let r = newRecord ws (namesOf input) q busy in
       let inside : i < Layout.places = omega (arith, place-inside lineView (records ws) i free, kept .lr) in
       made (planOf ws input (Decide.Store i q busy))
-      (ap (λ (x : Record). set (guards ws) i ((now % turn + guardLength (x .terms .kind)) % turn)) (getD-set-same (records ws) i r blank (omega (arith, kept .lr)))
-      ∙ ap (λ (x : ℕ). set (guards ws) i x) (mod-add-mod now turn (guardLength (r .terms .kind))))
+      (ap (λ (x : Record). set (guards ws) i (deadlineOf (now % turn) (guardLength (x .terms .kind)))) (getD-set-same (records ws) i r blank (omega (arith, kept .lr))))
       (put-kept order kept i r inside)
   plan-kept {input = Input.Report number busy} (reports k) = made (planOf ws (Input.Report number busy) (Decide.Report k busy)) refl (report-kept order kept k number busy)
 
@@ -204,35 +198,45 @@ record Sure (d : Desk) (ns : List Note) (now last : ℕ) : Type 0 where
   kept : Kept (records (d .words)) (guards (d .words)) ns now last
 
 later-kept : {rs : List Record} {gs : List ℕ} {ns : List Note} {now last : ℕ} (later : ℕ) → now ≤ later → Kept rs gs ns now last → Kept rs gs ns later last
-later-kept {ns = ns} {now} {last} later h kept = record { lr = kept .lr; lg = kept .lg; ln = kept .ln; each = λ j u. by (kept .each j u) }
-  where
-    by : {note : Note} {guard : ℕ} → Noted now last note guard → Noted later last note guard
-    by (noted time seconds is before short behind end) = noted time seconds is (omega arith) short behind end
+later-kept later h kept = record { lr = kept .lr; lg = kept .lg; ln = kept .ln; each = λ j u. noted-later later h (kept .each j u) }
 
--- a due guard, over true time
-due-true : (d : Desk) (now j : ℕ) (time seconds : ℕ) → getD (guards (d .words)) j 0 ≡ (time + seconds) % turn → used (getD (records (d .words)) j blank) ≡ true →
-    expiringAt (now % turn) (d .words) j ≡ due (now % turn) (deadlineOf (time % turn) seconds)
-unfolding expiringAt deadlineOf
-due-true d now j time seconds end u = rw (u, end, mod-add-mod time turn seconds)
+-- a used record expires exactly if its guard is due
+due-used : (d : Desk) (count j : ℕ) → used (getD (records (d .words)) j blank) ≡ true → expiringAt count (d .words) j ≡ due count (getD (guards (d .words)) j 0)
+unfolding expiringAt
+due-used d count j u = rw u
 
 -- after a tick what is left ends later
 ticked-kept :
-    (d : Desk) {ns : List Note} {now last : ℕ} → last ≤ now → now ≤ last + day → ((place : ℕ) → expiringAt (now % turn) (d .words) place ≡ false) →
+    (d : Desk) {ns : List Note} {now last : ℕ} → now ≤ last + day → ((place : ℕ) → expiringAt (now % turn) (d .words) place ≡ false) →
     Kept (records (d .words)) (guards (d .words)) ns now last → Kept (records (d .words)) (guards (d .words)) ns now now
-ticked-kept d {ns} {now} {last} order soon none kept = record { lr = kept .lr; lg = kept .lg; ln = kept .ln; each = λ j u. by j u (kept .each j u) }
-  where
-    by : (j : ℕ) → used (getD (records (d .words)) j blank) ≡ true → Noted now last (getD ns j unstarted) (getD (guards (d .words)) j 0) → Noted now now (getD ns j unstarted) (getD (guards (d .words)) j 0)
-    by j u (noted time seconds is before short behind end) = noted time seconds is before short (to (ltb now (time + seconds)) refl) end
-      where
-        to : (b : Bool) → ltb now (time + seconds) ≡ b → now ≤ time + seconds
-        to true e = omega (arith, ltb-true now (time + seconds) e)
-        to false e =
-            let passed = ltb-false now (time + seconds) e in
-            let is-due = due-in-time time seconds now passed (omega (arith, soon, behind)) in
-            absurd (false≢true (sym (none j) ∙ due-true d now j time seconds end u ∙ is-due))
+ticked-kept d {ns} {now} soon none kept =
+    record {
+      lr = kept .lr;
+      lg = kept .lg;
+      ln = kept .ln;
+      each = λ j u. noted-looked (omega (arith, soon)) (sym (due-used d (now % turn) j u) ∙ none j) (kept .each j u);
+    }
+
+step-sure :
+    (d : Desk) {ns : List Note} {now last : ℕ} → Sure d ns now last → {input : Input} → Fair input →
+    Sure (step d (now % turn) input .desk) (notesAfter (planFor (d .words) input .change) now ns) now last
+unfolding step planFor
+step-sure d {now = now} s fair =
+    record {
+      reached = S.steps (now % turn) fair (s .reached);
+      order = s .order;
+      kept = plan-kept (d .words) (reached-sound d (s .reached) .full) (s .order) (s .kept) (good-input (d .words) fair);
+    }
+
+entered-sure :
+    (d : Desk) {ns : List Note} {now last : ℕ} → Sure d ns now last → (entry : Entry) → FairEntry entry →
+    Sure (entered d (now % turn) entry .desk) (notesEntered d entry now ns) now last
+unfolding entered
+entered-sure d s (Refused number) fair = s
+entered-sure d s (Given input) fair = step-sure d s (fair input refl)
 
 lasting : {d : Desk} {ns : List Note} {now last : ℕ} → Lasting d ns now last → Sure d ns now last
-unfolding step planFor
+unfolding receivedBytes
 lasting (begins given keep retain b now) =
     record {
       reached = S.starts given keep retain b;
@@ -245,35 +249,21 @@ lasting (begins given keep retain b now) =
       };
     }
 lasting (passes later h run) = let s = lasting run in record { reached = s .reached; order = omega (arith, s .order); kept = later-kept later h (s .kept) }
-lasting (steps {d} {ns} {now} {last} fair run) =
-    let s = lasting run in
-    record {
-      reached = S.steps (now % turn) fair (s .reached);
-      order = s .order;
-      kept = plan-kept (d .words) (reached-sound d (s .reached) .full) (s .order) (s .kept) (good-input (d .words) fair);
-    }
-lasting (ticks {d} soon none run) = let s = lasting run in record { reached = s .reached; order = omega arith; kept = ticked-kept d (s .order) soon none (s .kept) }
+lasting (steps {d} fair run) = step-sure d (lasting run) fair
+lasting (reads {d} bytes place b run) = entered-sure d (lasting run) (bytesEntry bytes place .entry) (bytes-fair bytes place b)
+lasting (ticks {d} soon none run) = let s = lasting run in record { reached = s .reached; order = omega arith; kept = ticked-kept d soon none (s .kept) }
 
-expiring-used : (count : ℕ) (d : Desk) (j : ℕ) → expiringAt count (d .words) j ≡ true → used (getD (records (d .words)) j blank) ≡ true
+pub expiring-used : (count : ℕ) (d : Desk) (j : ℕ) → expiringAt count (d .words) j ≡ true → used (getD (records (d .words)) j blank) ≡ true
 unfolding expiringAt
 expiring-used count d j t = both-parts _ _ t .0
 
 pub nothing-early : NothingEarly
-nothing-early d ns now last run j t = by (lasting run .kept .each j u)
-  where
-    u : used (getD (records (d .words)) j blank) ≡ true
-    u = expiring-used (now % turn) d j t
-
-    by : Noted now last (getD ns j unstarted) (getD (guards (d .words)) j 0) → Passed (getD ns j unstarted) now
-    by (noted time seconds is before short behind end) =
-        record { time = time; seconds = seconds; noted = is; passed = never-early time seconds now before short (sym (due-true d now j time seconds end u) ∙ t) }
+nothing-early d ns now last run j t =
+    let u = expiring-used (now % turn) d j t in
+    noted-early (lasting run .kept .each j u) (sym (due-used d (now % turn) j u) ∙ t)
 
 pub due-in-tick : DueInTick
-due-in-tick d ns now last run soon j u passed = by (lasting run .kept .each j u)
-  where
-    by : Noted now last (getD ns j unstarted) (getD (guards (d .words)) j 0) → expiringAt (now % turn) (d .words) j ≡ true
-    by (noted time seconds is before short behind end) =
-        let same : started (passed .time) (passed .seconds) ≡ started time seconds = sym (passed .noted) ∙ is in
-        let t : passed .time ≡ time = cc in
-        let s : passed .seconds ≡ seconds = cc in
-        due-true d now j time seconds end u ∙ due-in-time time seconds now (omega (arith, passed .passed, t, s)) (omega (arith, soon, behind))
+due-in-tick d ns now last run soon j u passed = due-used d (now % turn) j u ∙ noted-due (omega (arith, soon)) (lasting run .kept .each j u) passed
+
+pub lasting-full : {d : Desk} {ns : List Note} {now last : ℕ} → Lasting d ns now last → length (d .words) ≡ Layout.words
+lasting-full {d} run = reached-sound d (lasting run .reached) .full

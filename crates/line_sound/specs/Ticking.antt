@@ -11,7 +11,7 @@ use Rattle.line_records.specs.Records.{blank, records}
 use Rattle.line_records.specs.Lines.{lines}
 use Rattle.line_records.specs.Deadlines.{guards, expiringAt}
 use Rattle.line.specs.Steps.{step}
-use Rattle.line.specs.Ticks.{report, ticked}
+use Rattle.line.specs.Ticks.{report, ticked, sendings}
 use Rattle.line.specs.declared.Desk.{Desk}
 use Rattle.line_sound.specs.Sound.{Reached}
 
@@ -32,10 +32,18 @@ unfoldable pub dueFrom : ℕ → ℕ → ℕ → List ℕ → List ℕ
 dueFrom zero i count words = []
 dueFrom (suc n) i count words = pick (expiringAt count words i) (i ∷ dueFrom n (suc i) count words) (dueFrom n (suc i) count words)
 
+-- of those that expire in a tick, as they were before it
+abbrev pub placesOf : Desk → ℕ → List ℕ
+placesOf d count = map (λ expiry. expiry .place) (ticked d count .expired)
+
 abbrev pub TickExpires : Type 0
-TickExpires =
+TickExpires = (d : Desk) (count : ℕ) → length (d .words) ≡ Layout.words → placesOf d count ≡ dueFrom Layout.places 0 count (d .words)
+
+-- what it sends is what the reports send, each by itself on the desk as it is before the tick
+abbrev pub TickSends : Type 0
+TickSends =
     (d : Desk) (count : ℕ) → length (d .words) ≡ Layout.words →
-    map (λ expiry. expiry .place) (ticked d count .expired) ≡ dueFrom Layout.places 0 count (d .words)
+    map (λ expiry. expiry .outcome .sending) (ticked d count .expired) ≡ sendings d count
 
 -- afterwards none is due
 abbrev pub NoneDue : Type 0

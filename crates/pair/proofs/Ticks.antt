@@ -6,6 +6,7 @@ use mathlib.Core.List.{List, [], _∷_, _++_, map, append-assoc, append-nil}
 use native.Mathlib.Omega.{arith}
 use Rattle.lists.specs.Choice.{pick}
 use Rattle.message.specs.declared.Message.{Message}
+use Rattle.desk.specs.Ticked.{expiredAt, Ticked, noted}
 use Rattle.desk.specs.declared.outcome.Outcome.{Outcome}
 use Rattle.clerk_table.specs.declared.table.Timer.{Timer}
 use Rattle.clerk_records.specs.Layout as ClerkLayout
@@ -14,10 +15,12 @@ use Rattle.clerk_records.specs.declared.deadlines.Expiring.{Expiring}
 use Rattle.clerk_records.specs.declared.deadlines.Expiring.the-variants as Expiring
 use Rattle.clerk.specs.Steps as ClerkSteps
 use Rattle.clerk.specs.Ticks as Clerk
+use Rattle.clerk.specs.declared.Desk.{Desk as ClerkDesk}
 use Rattle.line_records.specs.Layout as LineLayout
 use Rattle.line_records.specs.Deadlines as LineDeadlines
 use Rattle.line.specs.Steps as LineSteps
 use Rattle.line.specs.Ticks as Line
+use Rattle.line.specs.declared.Desk.{Desk as LineDesk}
 use Rattle.pair.specs.World.{Of, from, World, Event, clerkDoes, lineDoes, sentBy, next, Allowed, Run, then, Any, Once, Apart}
 use Rattle.pair.specs.Ticks.{Report, none, one, whether, ticking, clerkReport, lineReport, sentOf, carried, TickIsReports, RunsOverTicks}
 
@@ -31,13 +34,13 @@ wire-on :
     (xs : List (Of Message)) (o : ℕ) (own rest whole : List Message) → whole ≡ carried (xs ++ map (from o) own) ++ rest → whole ≡ carried xs ++ (own ++ rest)
 wire-on xs o own rest whole e = e ∙ ap (λ (ms : List Message). ms ++ rest) (wire-sent xs o own) ∙ append-assoc (carried xs) own rest
 
--- ---- the clerk's end: what is to be shown of the places that are left
-abbrev clerkOutcomes : Clerk.Ticked → List Outcome
-clerkOutcomes t = map (λ e. e .outcome) (t .expired)
+abbrev outcomes : {Desk : Type 0} → Ticked Desk → List Outcome
+outcomes t = map (λ e. e .outcome) (t .expired)
 
-record ClerkSame (w after : World) (t : Clerk.Ticked) : Type 0 where
+-- ---- the clerk's end: what is to be shown of the places that are left
+record ClerkSame (w after : World) (t : Ticked ClerkDesk) : Type 0 where
   desk : after .clerk ≡ t .desk
-  sent : carried (after .up) ≡ carried (w .up) ++ sentOf (clerkOutcomes t)
+  sent : carried (after .up) ≡ carried (w .up) ++ sentOf (outcomes t)
   line : after .line ≡ w .line
   down : after .down ≡ w .down
 
@@ -58,7 +61,7 @@ clerk-same (suc n) i at w =
         (whether (Clerk.byTimer x (λ timer. one (clerkDoes (Clerk.report at timer))) none) (ticking clerkReport n (suc at) w) (λ e. ticking clerkReport n at (next w e)))
         (Clerk.byTimer x
         (λ timer.
-        Clerk.noted (Clerk.expiredAt i (ClerkSteps.step (w .clerk) (w .count) (Clerk.report at timer)))
+        noted (expiredAt i (ClerkSteps.step (w .clerk) (w .count) (Clerk.report at timer) .outcome))
         (Clerk.ticking n (suc i) at (w .count) (ClerkSteps.step (w .clerk) (w .count) (Clerk.report at timer) .desk)))
         (Clerk.ticking n (suc i) (suc at) (w .count) (w .clerk)))
     by (Expiring.One timer) gone on =
@@ -72,12 +75,9 @@ clerk-same (suc n) i at w =
     by Expiring.Nothing gone on = on
 
 -- ---- the line's end
-abbrev lineOutcomes : Line.Ticked → List Outcome
-lineOutcomes t = map (λ e. e .outcome) (t .expired)
-
-record LineSame (w after : World) (t : Line.Ticked) : Type 0 where
+record LineSame (w after : World) (t : Ticked LineDesk) : Type 0 where
   desk : after .line ≡ t .desk
-  sent : carried (after .down) ≡ carried (w .down) ++ sentOf (lineOutcomes t)
+  sent : carried (after .down) ≡ carried (w .down) ++ sentOf (outcomes t)
   clerk : after .clerk ≡ w .clerk
   up : after .up ≡ w .up
 
@@ -95,7 +95,7 @@ line-same (suc n) i at w =
         LineSame w
         (whether (pick b (one (lineDoes (Line.report at))) none) (ticking lineReport n (suc at) w) (λ e. ticking lineReport n at (next w e)))
         (pick b
-        (Line.noted (Line.expiredAt i (LineSteps.step (w .line) (w .count) (Line.report at)))
+        (noted (expiredAt i (LineSteps.step (w .line) (w .count) (Line.report at) .outcome))
         (Line.ticking n (suc i) at (w .count) (LineSteps.step (w .line) (w .count) (Line.report at) .desk)))
         (Line.ticking n (suc i) (suc at) (w .count) (w .line)))
     by true gone on =

@@ -1,3 +1,4 @@
 pub mod Allowed
 pub mod Refuted
 pub mod Runs
+pub mod Turn

@@ -84,7 +84,7 @@ pub record Seen : Type 0 where
   pub runOut : ℕ
   pub guarded : ℕ
 
-abbrev sees : ℕ → ℕ → ℕ → ℕ → ℕ → ℕ → ℕ → ℕ → ℕ → ℕ → ℕ → Seen
+abbrev pub sees : ℕ → ℕ → ℕ → ℕ → ℕ → ℕ → ℕ → ℕ → ℕ → ℕ → ℕ → Seen
 sees clerk line active suspended clerkKeep lineKeep up down dropped runOut guarded =
     record {
       clerk = clerk;
@@ -214,7 +214,7 @@ abbrev pub acknowledged : List Event
 acknowledged = stored ++ (clerkGets false ∷ [])
 
 -- a Look, and ccExecPossible is heard: User A is not busy, or busy and ccSuspend is heard
-abbrev recalled : List Event
+abbrev pub recalled : List Event
 recalled = lineLooks ∷ clerkGets false ∷ []
 
 abbrev suspends : List Event

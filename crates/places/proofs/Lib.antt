@@ -5,3 +5,4 @@ pub mod Ordering
 pub mod Holding
 pub mod Moving
 pub mod Passing
+pub mod Noting

@@ -1,6 +1,5 @@
 // The clerk's codes: an entry of the script is read as what the desk's door takes, and that is played on the desk's words and printed.
 use crate::clerk_lines::print_clerk;
-use crate::defaults::COUNT;
 use crate::defaults::default_lengths;
 use crate::fields::behind;
 use crate::fields::behind_identifier;
@@ -12,12 +11,15 @@ use crate::fields::identifier_at;
 use crate::fields::identifier_bytes;
 use crate::fields::is_identified;
 use crate::fields::left_of;
+use crate::fields::lengths_at;
 use crate::fields::pair_at;
 use crate::outcome_line::print_outcome;
-use crate::outcome_line::print_started;
 use crate::script::Next;
 use crate::script::RunRead;
 use crate::script::run_at;
+use crate::tick_line::MOST_ROOM;
+use crate::tick_line::UNTOUCHED;
+use crate::tick_line::print_tick;
 use clerk::entry::Asking;
 use clerk::entry::Entry;
 use clerk::entry::ask_entry;
@@ -31,10 +33,18 @@ use host_numbers::identifiers::BYTES;
 use lists::Found;
 use message::Kind;
 use printing::part;
+use ticks::clerk_tick::clerk_tick;
+use told::ticking::TOLD;
 
 // What the desk is given. The next entry is told.
-fn play_given(entry: Entry, next: usize, number: usize, words: &mut [u64; WORDS]) -> Next {
-    let outcome = step(words, COUNT, entry);
+fn play_given(
+    entry: Entry,
+    next: usize,
+    number: usize,
+    count: u32,
+    words: &mut [u64; WORDS],
+) -> Next {
+    let outcome = step(words, count, entry);
     print_outcome(number, outcome, 0, Found::Nothing);
     Next::At(next)
 }
@@ -101,13 +111,13 @@ fn ask_listed(kind: u8, canKeep: u8) -> bool {
 }
 
 // Code 16.
-fn play_ask(script: &[u8], at: usize, number: usize, words: &mut [u64; WORDS]) -> Next {
+fn play_ask(script: &[u8], at: usize, number: usize, count: u32, words: &mut [u64; WORDS]) -> Next {
     match ask_places(script, at) {
         AskRead::Ended => Next::Stop,
         AskRead::Places(a, b, rest, next) => {
             if ask_listed(byte_before(script, a), byte_in(script, rest, 2)) {
                 let entry = ask_entry(asking(script, at, a, b, rest));
-                return play_given(entry, next, number, words);
+                return play_given(entry, next, number, count, words);
             }
             Next::Stop
         }
@@ -120,19 +130,26 @@ fn play_heard(
     place: u8,
     next: usize,
     number: usize,
+    count: u32,
     words: &mut [u64; WORDS],
 ) -> Next {
     let read = bytes_entry(bytes, busy, place as usize);
     let entry = read.entry;
     let fault = read.fault;
     let left = left_of(bytes.len(), read.next);
-    let outcome = step(words, COUNT, entry);
+    let outcome = step(words, count, entry);
     print_outcome(number, outcome, left, fault);
     Next::At(next)
 }
 
 // Code 17: User A's word, a place, and then a run.
-fn play_bytes(script: &[u8], at: usize, number: usize, words: &mut [u64; WORDS]) -> Next {
+fn play_bytes(
+    script: &[u8],
+    at: usize,
+    number: usize,
+    count: u32,
+    words: &mut [u64; WORDS],
+) -> Next {
     match behind(script, at, 2) {
         Next::Stop => Next::Stop,
         Next::At(run) => match run_at(script, run) {
@@ -149,6 +166,7 @@ fn play_bytes(script: &[u8], at: usize, number: usize, words: &mut [u64; WORDS])
                     place,
                     next,
                     number,
+                    count,
                     words,
                 )
             }
@@ -194,6 +212,7 @@ fn play_choice(
     at: usize,
     end: usize,
     number: usize,
+    count: u32,
     words: &mut [u64; WORDS],
 ) -> Next {
     match behind(script, end, choice_size(code)) {
@@ -204,33 +223,82 @@ fn play_choice(
             let entry = named_entry(code, choice, identifier_at(script, at), place);
             match entry {
                 Entry::Refused(_) => Next::Stop,
-                Entry::Given(_) => play_given(entry, next, number, words),
+                Entry::Given(_) => play_given(entry, next, number, count, words),
             }
         }
     }
 }
 
 // Codes 18 to 22.
-fn play_named(code: u8, script: &[u8], at: usize, number: usize, words: &mut [u64; WORDS]) -> Next {
+fn play_named(
+    code: u8,
+    script: &[u8],
+    at: usize,
+    number: usize,
+    count: u32,
+    words: &mut [u64; WORDS],
+) -> Next {
     match behind_name(script, at) {
         Next::Stop => Next::Stop,
-        Next::At(end) => play_choice(code, script, at, end, number, words),
+        Next::At(end) => play_choice(code, script, at, end, number, count, words),
     }
 }
 
-// The words of the program's start, and of each start by a script. The default lengths are in range, so that it is never refused.
+// The words of the program's start. The default lengths are in range, so that it is never refused.
 pub fn first_words() -> [u64; WORDS] {
     let step = start(default_lengths());
     let d = step.desk;
     d.words
 }
 
-// Code 2.
-fn play_start(next: usize, number: usize, words: &mut [u64; WORDS]) -> Next {
-    let kept = first_words();
-    *words = kept;
-    print_started(number);
-    Next::At(next)
+// Code 2: the lengths of the timers. A refused start leaves the desk as it was.
+fn play_start(script: &[u8], at: usize, number: usize, words: &mut [u64; WORDS]) -> Next {
+    match behind(script, at, 16) {
+        Next::Stop => Next::Stop,
+        Next::At(next) => {
+            let step = start(lengths_at(script, at));
+            let outcome = step.outcome;
+            print_outcome(number, outcome, 0, Found::Nothing);
+            if outcome.refusal == 0 {
+                let d = step.desk;
+                let kept = d.words;
+                *words = kept;
+            }
+            Next::At(next)
+        }
+    }
+}
+
+// A tick that is lent the last bytes of a buffer, and what is told of it.
+fn tick_in(out: &mut [u8], room: usize, number: usize, count: u32, words: &mut [u64; WORDS]) {
+    if room <= out.len() {
+        let from = out.len() - room;
+        let mut told = [0u64; TOLD];
+        clerk_tick(words, count, &mut out[from..], &mut told);
+        print_tick(number, told, part(out, from, out.len()));
+    }
+}
+
+// Code 23.
+fn play_tick(
+    script: &[u8],
+    at: usize,
+    number: usize,
+    count: u32,
+    words: &mut [u64; WORDS],
+) -> Next {
+    match behind(script, at, 2) {
+        Next::Stop => Next::Stop,
+        Next::At(next) => {
+            let room = pair_at(script, at) as usize;
+            if MOST_ROOM < room {
+                return Next::Stop;
+            }
+            let mut out = [UNTOUCHED; MOST_ROOM];
+            tick_in(&mut out, room, number, count, words);
+            Next::At(next)
+        }
+    }
 }
 
 // The entry behind its code.
@@ -239,13 +307,15 @@ pub fn play_clerk(
     script: &[u8],
     at: usize,
     number: usize,
+    count: u32,
     words: &mut [u64; WORDS],
 ) -> Next {
     match code {
-        2 => play_start(at, number, words),
-        16 => play_ask(script, at, number, words),
-        17 => play_bytes(script, at, number, words),
-        18..=22 => play_named(code, script, at, number, words),
+        2 => play_start(script, at, number, words),
+        16 => play_ask(script, at, number, count, words),
+        17 => play_bytes(script, at, number, count, words),
+        18..=22 => play_named(code, script, at, number, count, words),
+        23 => play_tick(script, at, number, count, words),
         64 => {
             print_clerk(number, words);
             Next::At(at)

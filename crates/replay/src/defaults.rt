@@ -1,7 +1,6 @@
-// What no entry of a script says yet: a replay begins with these lengths of the clerk's timers and this count of seconds, and keeps them (REPLAY-02.md, "Request 6").
+// What a script begins with: these lengths of the clerk's timers and this count of seconds.
 use clerk::start::Lengths;
 
-// Every step is at this count.
 pub const COUNT: u32 = 0;
 
 // In seconds.

@@ -3,6 +3,7 @@
 use crate::script::Next;
 use crate::script::RunRead;
 use crate::script::run_at;
+use clerk::start::Lengths;
 use host_numbers::identifiers::BYTES;
 ghost use Prim.Native.Nat.{_<_};
 
@@ -154,7 +155,56 @@ fn wide(byte: u8) -> u16
     byte as u16
 }
 
+fn pair_of(low: u8, high: u8) -> u16 {
+    wide(low) + 256 * wide(high)
+}
+
 // A number of two bytes, the low one first.
 pub fn pair_at(script: &[u8], at: usize) -> u16 {
-    wide(byte_in(script, at, 0)) + 256 * wide(byte_in(script, at, 1))
+    pair_of(byte_in(script, at, 0), byte_in(script, at, 1))
+}
+
+fn whole(pair: u16) -> u32
+    ensures { λ r. ⌜ r < 65536 ⌝ }
+{
+    pair as u32
+}
+
+fn four_of(first: u8, second: u8, third: u8, fourth: u8) -> u32 {
+    whole(pair_of(first, second)) + 65536 * whole(pair_of(third, fourth))
+}
+
+// A number of four bytes, the lowest first.
+pub fn four_at(script: &[u8], at: usize) -> u32 {
+    four_of(
+        byte_in(script, at, 0),
+        byte_in(script, at, 1),
+        byte_in(script, at, 2),
+        byte_in(script, at, 3),
+    )
+}
+
+// Four such numbers: the lengths of T1, of T2 for CCBS and for CCNR, and of T3.
+pub fn lengths_at(script: &[u8], at: usize) -> Lengths {
+    Lengths {
+        t1: four_at(script, at),
+        t2Ccbs: four_of(
+            byte_in(script, at, 4),
+            byte_in(script, at, 5),
+            byte_in(script, at, 6),
+            byte_in(script, at, 7),
+        ),
+        t2Ccnr: four_of(
+            byte_in(script, at, 8),
+            byte_in(script, at, 9),
+            byte_in(script, at, 10),
+            byte_in(script, at, 11),
+        ),
+        t3: four_of(
+            byte_in(script, at, 12),
+            byte_in(script, at, 13),
+            byte_in(script, at, 14),
+            byte_in(script, at, 15),
+        ),
+    }
 }

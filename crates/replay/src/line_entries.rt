@@ -1,5 +1,4 @@
 // The line desk's codes: an entry of the script is read as what the desk's door takes, and that is played on the desk's words and printed.
-use crate::defaults::COUNT;
 use crate::fields::behind;
 use crate::fields::behind_name;
 use crate::fields::behind_run;
@@ -8,12 +7,16 @@ use crate::fields::byte_in;
 use crate::fields::digits_at;
 use crate::fields::identifier_at;
 use crate::fields::left_of;
+use crate::fields::pair_at;
 use crate::line_lines::print_line_desk;
 use crate::lines_given::take_lines;
 use crate::outcome_line::print_outcome;
 use crate::script::Next;
 use crate::script::RunRead;
 use crate::script::run_at;
+use crate::tick_line::MOST_ROOM;
+use crate::tick_line::UNTOUCHED;
+use crate::tick_line::print_tick;
 use host_numbers::given::guard_given;
 use host_numbers::given::line_act_given;
 use host_numbers::identifiers::BYTES;
@@ -26,10 +29,18 @@ use line::start::start;
 use line_records::WORDS;
 use lists::Found;
 use printing::part;
+use ticks::line_tick::line_tick;
+use told::ticking::TOLD;
 
 // What the desk is given. The next entry is told.
-fn play_given(entry: Entry, next: usize, number: usize, words: &mut [u64; WORDS]) -> Next {
-    let outcome = step(words, COUNT, entry);
+fn play_given(
+    entry: Entry,
+    next: usize,
+    number: usize,
+    count: u32,
+    words: &mut [u64; WORDS],
+) -> Next {
+    let outcome = step(words, count, entry);
     print_outcome(number, outcome, 0, Found::Nothing);
     Next::At(next)
 }
@@ -39,33 +50,46 @@ fn play_heard(
     place: u8,
     next: usize,
     number: usize,
+    count: u32,
     words: &mut [u64; WORDS],
 ) -> Next {
     let read = bytes_entry(bytes, place as usize);
     let entry = read.entry;
     let fault = read.fault;
     let left = left_of(bytes.len(), read.next);
-    let outcome = step(words, COUNT, entry);
+    let outcome = step(words, count, entry);
     print_outcome(number, outcome, left, fault);
     Next::At(next)
 }
 
 // Code 32: a place, and then a run.
-fn play_bytes(script: &[u8], at: usize, number: usize, words: &mut [u64; WORDS]) -> Next {
+fn play_bytes(
+    script: &[u8],
+    at: usize,
+    number: usize,
+    count: u32,
+    words: &mut [u64; WORDS],
+) -> Next {
     match behind(script, at, 1) {
         Next::Stop => Next::Stop,
         Next::At(run) => match run_at(script, run) {
             RunRead::Ended => Next::Stop,
             RunRead::Run(first, next) => {
                 let place = byte_in(script, at, 0);
-                play_heard(part(script, first, next), place, next, number, words)
+                play_heard(part(script, first, next), place, next, number, count, words)
             }
         },
     }
 }
 
 // Code 33: the entry's last byte is the line's status.
-fn play_report(script: &[u8], at: usize, number: usize, words: &mut [u64; WORDS]) -> Next {
+fn play_report(
+    script: &[u8],
+    at: usize,
+    number: usize,
+    count: u32,
+    words: &mut [u64; WORDS],
+) -> Next {
     match behind_run(script, at, 1) {
         Next::Stop => Next::Stop,
         Next::At(next) => {
@@ -74,16 +98,28 @@ fn play_report(script: &[u8], at: usize, number: usize, words: &mut [u64; WORDS]
                 return Next::Stop;
             }
             let entry = report_entry(digits_at(script, at), status == 1);
-            play_given(entry, next, number, words)
+            play_given(entry, next, number, count, words)
         }
     }
 }
 
 // Code 34.
-fn play_look(script: &[u8], at: usize, number: usize, words: &mut [u64; WORDS]) -> Next {
+fn play_look(
+    script: &[u8],
+    at: usize,
+    number: usize,
+    count: u32,
+    words: &mut [u64; WORDS],
+) -> Next {
     match behind_run(script, at, 0) {
         Next::Stop => Next::Stop,
-        Next::At(next) => play_given(look_entry(digits_at(script, at)), next, number, words),
+        Next::At(next) => play_given(
+            look_entry(digits_at(script, at)),
+            next,
+            number,
+            count,
+            words,
+        ),
     }
 }
 
@@ -123,6 +159,7 @@ fn play_choice(
     at: usize,
     end: usize,
     number: usize,
+    count: u32,
     words: &mut [u64; WORDS],
 ) -> Next {
     match behind(script, end, choice_size(code)) {
@@ -133,17 +170,24 @@ fn play_choice(
             let entry = named_entry(code, choice, identifier_at(script, at), place);
             match entry {
                 Entry::Refused(_) => Next::Stop,
-                Entry::Given(_) => play_given(entry, next, number, words),
+                Entry::Given(_) => play_given(entry, next, number, count, words),
             }
         }
     }
 }
 
 // Codes 35 to 37.
-fn play_named(code: u8, script: &[u8], at: usize, number: usize, words: &mut [u64; WORDS]) -> Next {
+fn play_named(
+    code: u8,
+    script: &[u8],
+    at: usize,
+    number: usize,
+    count: u32,
+    words: &mut [u64; WORDS],
+) -> Next {
     match behind_name(script, at) {
         Next::Stop => Next::Stop,
-        Next::At(end) => play_choice(code, script, at, end, number, words),
+        Next::At(end) => play_choice(code, script, at, end, number, count, words),
     }
 }
 
@@ -192,20 +236,54 @@ fn play_start(script: &[u8], at: usize, number: usize, words: &mut [u64; WORDS])
     }
 }
 
+// A tick that is lent the last bytes of a buffer, and what is told of it.
+fn tick_in(out: &mut [u8], room: usize, number: usize, count: u32, words: &mut [u64; WORDS]) {
+    if room <= out.len() {
+        let from = out.len() - room;
+        let mut told = [0u64; TOLD];
+        line_tick(words, count, &mut out[from..], &mut told);
+        print_tick(number, told, part(out, from, out.len()));
+    }
+}
+
+// Code 38.
+fn play_tick(
+    script: &[u8],
+    at: usize,
+    number: usize,
+    count: u32,
+    words: &mut [u64; WORDS],
+) -> Next {
+    match behind(script, at, 2) {
+        Next::Stop => Next::Stop,
+        Next::At(next) => {
+            let room = pair_at(script, at) as usize;
+            if MOST_ROOM < room {
+                return Next::Stop;
+            }
+            let mut out = [UNTOUCHED; MOST_ROOM];
+            tick_in(&mut out, room, number, count, words);
+            Next::At(next)
+        }
+    }
+}
+
 // The entry behind its code.
 pub fn play_line(
     code: u8,
     script: &[u8],
     at: usize,
     number: usize,
+    count: u32,
     words: &mut [u64; WORDS],
 ) -> Next {
     match code {
         1 => play_start(script, at, number, words),
-        32 => play_bytes(script, at, number, words),
-        33 => play_report(script, at, number, words),
-        34 => play_look(script, at, number, words),
-        35..=37 => play_named(code, script, at, number, words),
+        32 => play_bytes(script, at, number, count, words),
+        33 => play_report(script, at, number, count, words),
+        34 => play_look(script, at, number, count, words),
+        35..=37 => play_named(code, script, at, number, count, words),
+        38 => play_tick(script, at, number, count, words),
         65 => {
             print_line_desk(number, words);
             Next::At(at)

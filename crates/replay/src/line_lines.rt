@@ -4,6 +4,7 @@ use crate::output::put_digits;
 use crate::output::put_numbers;
 use crate::record_lines::connection_number;
 use crate::record_lines::count_used;
+use crate::record_lines::deadline_number;
 use crate::record_lines::keep_number;
 use crate::record_lines::put_terms;
 use host_numbers::shown::kinds_number;
@@ -11,6 +12,7 @@ use line_records::LINES;
 use line_records::PLACES;
 use line_records::WORDS;
 use line_records::codes::state_code;
+use line_records::deadlines::guard_of;
 use line_records::lines::find_line;
 use line_records::lines::load_line;
 use line_records::places::find_place;
@@ -40,15 +42,16 @@ fn put_phase(page: Page, r: Record) -> Page {
     put_numbers(page, &numbers)
 }
 
-fn print_record(r: Record) {
-    let page = put_terms(put_text(blank_page(), b" r"), r.terms);
-    print_line(put_phase(page, r));
+// The guard runs for every record.
+fn print_record(r: Record, guard: u32) {
+    let page = put_phase(put_terms(put_text(blank_page(), b" r"), r.terms), r);
+    print_line(put_numbers(page, &[deadline_number(true, guard)]));
 }
 
 fn print_records(words: &[u64; WORDS], count: usize) {
     let mut i = 0;
     while i < count {
-        print_record(load(words, i));
+        print_record(load(words, i), guard_of(words, i));
         i += 1;
     }
 }

@@ -12,11 +12,16 @@ mod outcome_line;
 mod output;
 mod record_lines;
 mod script;
+mod tick_line;
 
 use crate::clerk_entries::play_clerk;
 use crate::codec::play_write;
+use crate::defaults::COUNT;
+use crate::fields::behind;
 use crate::fields::byte_in;
+use crate::fields::four_at;
 use crate::line_entries::play_line;
+use crate::outcome_line::print_nothing;
 use crate::output::print_line;
 use crate::output::put_numbers;
 use crate::script::Next;
@@ -25,19 +30,33 @@ use printing::blank_page;
 use printing::part;
 use printing::put_text;
 
+// Code 3: the count of every step and tick from here on.
+fn play_count(script: &[u8], at: usize, number: usize, count: &mut u32) -> Next {
+    match behind(script, at, 4) {
+        Next::Stop => Next::Stop,
+        Next::At(next) => {
+            *count = four_at(script, at);
+            print_nothing(number);
+            Next::At(next)
+        }
+    }
+}
+
 // The entry behind its code, on the desk that the code names.
 fn play_entry(
     code: u8,
     script: &[u8],
     at: usize,
     number: usize,
+    count: &mut u32,
     clerkWords: &mut [u64; clerk_records::WORDS],
     lineWords: &mut [u64; line_records::WORDS],
 ) -> Next {
     match code {
-        1 | 32..=37 | 65 => play_line(code, script, at, number, lineWords),
+        1 | 32..=38 | 65 => play_line(code, script, at, number, *count, lineWords),
+        3 => play_count(script, at, number, count),
         48 => play_write(script, at, number),
-        _ => play_clerk(code, script, at, number, clerkWords),
+        _ => play_clerk(code, script, at, number, *count, clerkWords),
     }
 }
 
@@ -58,6 +77,7 @@ fn play_at(
     script: &[u8],
     at: usize,
     number: usize,
+    count: &mut u32,
     clerkWords: &mut [u64; clerk_records::WORDS],
     lineWords: &mut [u64; line_records::WORDS],
 ) -> usize {
@@ -65,7 +85,7 @@ fn play_at(
         return at;
     }
     let code = byte_in(script, at, 0);
-    let next = play_entry(code, script, at + 1, number, clerkWords, lineWords);
+    let next = play_entry(code, script, at + 1, number, count, clerkWords, lineWords);
     place_after(next, number, script.len())
 }
 
@@ -73,10 +93,18 @@ fn play_at(
 fn play(script: &[u8]) {
     let mut clerkWords = clerk_entries::first_words();
     let mut lineWords = line_entries::first_words();
+    let mut count = COUNT;
     let mut at = 0;
     let mut number = 0;
     while number < script.len() {
-        at = play_at(script, at, number, &mut clerkWords, &mut lineWords);
+        at = play_at(
+            script,
+            at,
+            number,
+            &mut count,
+            &mut clerkWords,
+            &mut lineWords,
+        );
         number += 1;
     }
 }

@@ -21,7 +21,7 @@ use writer::Written;
 // What is sent, in the byte form, or `-`. No message is longer than 54 bytes. A desk sends nothing that the writer refuses: if it did, the line would say so.
 fn put_sending(page: Page, sending: Sending) -> Page {
     let mut bytes = [0u8; 64];
-    match send(&mut bytes, sending) {
+    match send(&mut bytes, 0, sending) {
         Written::Refused(_) => put_text(page, b" unwritten"),
         Written::Wrote(length) => put_hex(page, part(&bytes, 0, length)),
     }
@@ -61,8 +61,8 @@ pub fn print_outcome(number: usize, outcome: Outcome, left: usize, fault: Found)
     print_line(put_told(put_sending(page, sending), outcome, left, fault));
 }
 
-// The line of a step that only starts a desk.
-pub fn print_started(number: usize) {
+// The line of an entry that is no step of a desk: nothing in it.
+pub fn print_nothing(number: usize) {
     let none = no_timers();
     print_outcome(
         number,

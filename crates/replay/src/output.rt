@@ -11,7 +11,7 @@ ghost use Prim.Native.Nat.{_≤_};
 // The number that stands for nothing: no field has one as large.
 pub const NOTHING: u64 = 18446744073709551615;
 
-fn put_decimal(page: Page, number: u64) -> Page {
+pub fn put_number(page: Page, number: u64) -> Page {
     let mut digits = [0u8; 20];
     let count = io::decimal(number, &mut digits);
     put_text(page, &digits[..count])
@@ -22,7 +22,7 @@ fn put_field(page: Page, number: u64) -> Page {
     if number == NOTHING {
         return put_text(page, b" -");
     }
-    put_decimal(put_text(page, b" "), number)
+    put_number(put_text(page, b" "), number)
 }
 
 pub fn put_numbers(page: Page, numbers: &[u64]) -> Page {
@@ -44,7 +44,7 @@ fn hex_digit(number: u8) -> u8 {
     b'a' - 10 + low
 }
 
-fn least(a: usize, b: usize) -> usize
+pub fn least(a: usize, b: usize) -> usize
     ensures { λ r. ⌜ (r ≤ a) × (r ≤ b) ⌝ }
 {
     if a < b {
@@ -91,9 +91,13 @@ pub fn put_digits(page: Page, number: Words) -> Page {
     put_text(page, part(&text, 0, count + 1))
 }
 
+// What is on a page goes out, without its first space.
+pub fn print_part(page: Page) {
+    let bytes = page.bytes;
+    io::write_all(STDOUT_FILENO, part(&bytes, 1, page.at));
+}
+
 // The line's end, and the line goes out.
 pub fn print_line(page: Page) {
-    let ended = put_text(page, b"\n");
-    let bytes = ended.bytes;
-    io::write_all(STDOUT_FILENO, part(&bytes, 1, ended.at));
+    print_part(put_text(page, b"\n"));
 }

@@ -37,6 +37,14 @@ pub fn connection_number(connection: Connection) -> u64 {
     }
 }
 
+// The deadline of a timer that runs.
+pub fn deadline_number(runs: bool, deadline: u32) -> u64 {
+    if runs {
+        return deadline as u64;
+    }
+    NOTHING
+}
+
 // An identifier, or `-`.
 fn put_identifier(page: Page, identifier: Identifier) -> Page {
     match identifier {

@@ -1,4 +1,5 @@
 // Events at the clerk's end: each is played on the clerk's desk and shown, and what it sends goes onto the wire to the line.
+use crate::records::tag_of;
 use crate::requests::asking;
 use crate::wire::about_of;
 use crate::wire::finish;
@@ -9,13 +10,11 @@ use crate::wire::name_about;
 use crate::wire::name_of;
 use crate::wire::place_named;
 use crate::wire::sent_of;
-use crate::world::COUNT;
 use crate::world::World;
 use clerk::entry::Entry;
 use clerk::entry::act_entry;
 use clerk::entry::ask_entry;
 use clerk::entry::bytes_entry;
-use clerk::entry::timer_entry;
 use clerk::on_words::step;
 use clerk_records::WORDS;
 use clerk_records::meaning::find_meant;
@@ -24,7 +23,6 @@ use clerk_records::places::load;
 use clerk_table::inputs::Act;
 use clerk_table::inputs::Input;
 use clerk_table::table::State;
-use clerk_table::table::Timer;
 use ladder::events::ACCEPT;
 use ladder::events::ASK;
 use ladder::events::CANCEL;
@@ -32,16 +30,20 @@ use ladder::events::CLERK_FELL;
 use ladder::events::CLERK_HEARS;
 use ladder::events::Event;
 use ladder::events::NAMELESS;
-use ladder::events::T2;
+use ladder::events::TICK;
 use ladder::shown::NO_RECORD;
 use ladder::shown::States;
 use ladder::shown::no_states;
 use ladder::shown::show_silence;
+use ladder::shown::show_tick;
 use printing::part;
+use printing::put_text;
 use terms::means::Means;
 use terms::request::Name;
+use ticks::clerk_tick::clerk_tick;
 use told::TOLD;
 use told::tell;
+use told::ticking::TOLD as TICK_TOLD;
 
 // The entry of the ladder's table of states.
 pub fn state_entry(state: State) -> usize {
@@ -92,7 +94,7 @@ fn stepped(w: World, event: Event, entry: Entry, heard: &[u8]) -> World {
     let before = w.clerk;
     let wire = w.toLine;
     let mut clerk = before;
-    let outcome = step(&mut clerk, COUNT, entry);
+    let outcome = step(&mut clerk, w.clock, entry);
     let sending = outcome.sending;
     let sent = sent_of(sending);
     let tag = about_of(event, heard, sent);
@@ -107,7 +109,7 @@ fn stepped(w: World, event: Event, entry: Entry, heard: &[u8]) -> World {
     after
 }
 
-// User A's ask or act, T2 that ran out, a connection that fell, or what is heard. User A is never busy in a scene.
+// User A's ask or act, a connection that fell, or what is heard. User A is never busy in a scene.
 fn entry_of(event: Event, preference: u8, heard: &[u8]) -> Entry {
     let code = event.code;
     match code {
@@ -115,7 +117,6 @@ fn entry_of(event: Event, preference: u8, heard: &[u8]) -> Entry {
         ACCEPT => act_entry(name_of(event), Act::Accept),
         CANCEL => act_entry(name_of(event), Act::Cancel),
         CLERK_FELL => act_entry(name_of(event), Act::Fell),
-        T2 => timer_entry(name_of(event), Timer::T2),
         _ => {
             let read = bytes_entry(heard, false, place_named(event));
             read.entry
@@ -123,7 +124,30 @@ fn entry_of(event: Event, preference: u8, heard: &[u8]) -> Entry {
     }
 }
 
+// A tick. In no scene more than one record expires in it, so that its message is all that is written.
+fn ticked(w: World, event: Event) -> World {
+    let before = w.clerk;
+    let wire = w.toLine;
+    let mut clerk = before;
+    let mut out = [0u8; 64];
+    let mut told = [0u64; TICK_TOLD];
+    clerk_tick(&mut clerk, w.clock, &mut out, &mut told);
+    let r = load(&before, told[3] as usize);
+    let agreed = r.terms;
+    let identifier = agreed.identifier;
+    let state = r.state;
+    let sent = part(&out, 0, told[1] as usize);
+    show_tick(event, &told, tag_of(identifier), state_entry(state), sent);
+    let mut after = w;
+    after.clerk = clerk;
+    after.toLine = put_text(wire, sent);
+    after
+}
+
 pub fn clerk_event(w: World, event: Event) -> World {
+    if event.code == TICK {
+        return ticked(w, event);
+    }
     let wire = w.toClerk;
     let bytes = wire.bytes;
     let listens = event.code == CLERK_HEARS;

@@ -11,7 +11,6 @@ use crate::wire::name_of;
 use crate::wire::place_named;
 use crate::wire::promised;
 use crate::wire::sent_of;
-use crate::world::COUNT;
 use crate::world::World;
 use ladder::events::ALERTED;
 use ladder::events::BUSY;
@@ -91,7 +90,7 @@ fn stepped(w: World, event: Event, entry: Entry, heard: &[u8]) -> World {
     let before = w.line;
     let wire = w.toClerk;
     let mut line = before;
-    let outcome = step(&mut line, COUNT, entry);
+    let outcome = step(&mut line, w.clock, entry);
     let sending = outcome.sending;
     let sent = promised(w.wrong, sent_of(sending));
     let tag = about_of(event, heard, sent);

@@ -4,6 +4,7 @@ use crate::line_end::line_event;
 use crate::line_end::stray;
 use crate::records::show_records;
 use crate::script::event_at;
+use crate::world::SIX;
 use crate::world::World;
 use crate::world::start_world;
 use ladder::events::Event;
@@ -11,16 +12,46 @@ use ladder::events::NOTHING;
 use ladder::events::RECORDS;
 use ladder::events::SAY;
 use ladder::events::STRAY;
+use ladder::events::UNTIL;
 use ladder::narration::close_scene;
 use ladder::narration::open_scene;
 use ladder::narration::say;
 
-// What an end does or hears.
+// The world a second later, and the event at that time.
+fn later(w: World) -> World {
+    let mut after = w;
+    after.clock = w.clock % 86400 + 1;
+    after
+}
+
+fn at_clock(event: Event, clock: u32) -> Event {
+    let mut timed = event;
+    timed.clock = clock;
+    timed
+}
+
+// What an end does or hears, or a message that no desk sent.
 fn play_at(w: World, event: Event) -> World {
+    if event.code == STRAY {
+        return stray(w, event);
+    }
     if event.atLine {
         return line_event(w, event);
     }
     clerk_event(w, event)
+}
+
+// A second after the event before.
+fn play_later(w: World, event: Event) -> World {
+    let now = later(w);
+    play_at(now, at_clock(event, now.clock))
+}
+
+// So many minutes past six.
+fn set_clock(w: World, minutes: u8) -> World {
+    let mut after = w;
+    after.clock = SIX + 60 * (minutes as u32);
+    after
 }
 
 // One event, and the world afterwards.
@@ -28,7 +59,7 @@ fn play_event(w: World, event: Event) -> World {
     let code = event.code;
     match code {
         NOTHING => w,
-        STRAY => stray(w, event),
+        UNTIL => set_clock(w, event.about),
         RECORDS => {
             show_records(w);
             w
@@ -37,7 +68,7 @@ fn play_event(w: World, event: Event) -> World {
             say(event.about as usize);
             w
         }
-        _ => play_at(w, event),
+        _ => play_later(w, event),
     }
 }
 

@@ -12,7 +12,7 @@ use terms::codes::flag_code;
 use terms::codes::keep_code;
 
 // The tag of an identifier.
-fn tag_of(identifier: Identifier) -> u8 {
+pub fn tag_of(identifier: Identifier) -> u8 {
     match identifier {
         Identifier::Absent => NAMELESS,
         Identifier::Is(words) => {

@@ -1,6 +1,6 @@
 // The scenes as a script: what is done and heard, in order (docs/STORY.md, "The scenes"). What comes of it is the desks' word. An event is a line: the scenes that
 // it is played in (the evening of the 34 in two), or a scene and a dot for an event of its prelude, which is not seen; two digits for what it is about,
-// or dashes; the place that the host names with it (a digit, or a dash for none), or a blank; and its name.
+// or dashes (of `until` the minutes past six); the place that the host names with it (a digit, or a dash for none), or a blank; and its name.
 use ladder::events::ACCEPT;
 use ladder::events::ALERTED;
 use ladder::events::ASK;
@@ -17,7 +17,8 @@ use ladder::events::NOTHING;
 use ladder::events::RECORDS;
 use ladder::events::SAY;
 use ladder::events::STRAY;
-use ladder::events::T2;
+use ladder::events::TICK;
+use ladder::events::UNTIL;
 use ladder::events::WITHDRAW;
 use printing::Page;
 use printing::blank_page;
@@ -48,7 +49,8 @@ fn code_of(first: u8, second: u8) -> u8 {
         },
         b'C' => CLERK_FELL,
         b'L' => LINE_FELL,
-        b'T' => T2,
+        b't' => TICK,
+        b'u' => UNTIL,
         b'w' => WITHDRAW,
         _ => NOTHING,
     }
@@ -74,7 +76,7 @@ fn line_at(step: usize) -> Page {
           12 02 say\n12 41 free\n12 41 look\n12 -- clerk hears\n12 41 busy\n\
           12 34 accept\n12 -- line hears\n12 -- clerk hears\n12 03 say\n12 -- records\n\
           12 04 say\n12 41 free\n12 41 look\n12 -- clerk hears\n\
-          1  05 say\n1  34 T2\n1  -- line hears\n1  -- records\n\
+          1  05 say\n1  10 until\n1  -- tick\n1  20 until\n1  -- tick\n1  -- line hears\n1  -- records\n\
           2  06 say\n2  34 accept\n2  -- line hears\n2  34 alerted\n2  -- clerk hears\n\
           2  -- records\n\
           3. 41 busy\n3. 34 ask\n3. -- line hears\n3. -- clerk hears\n\
@@ -116,6 +118,7 @@ fn event_of(code: u8, about: u8, place: u8, seen: bool) -> Event {
         place,
         atLine: ALERTED <= code && code != CLERK_HEARS,
         seen,
+        clock: 0,
     }
 }
 

@@ -27,7 +27,7 @@ pub struct Sent {
 
 pub fn sent_of(sending: Sending) -> Sent {
     let mut bytes = [0u8; 64];
-    match told::send(&mut bytes, sending) {
+    match told::send(&mut bytes, 0, sending) {
         Written::Refused(_) => Sent { bytes, length: 0 },
         Written::Wrote(length) => Sent { bytes, length },
     }

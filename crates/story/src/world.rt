@@ -13,10 +13,11 @@ pub struct World {
     pub lineHeard: usize,
     pub wrong: bool,
     pub preference: u8,
+    pub clock: u32,
 }
 
-// No time passes in a scene: every step is at this count of seconds.
-pub const COUNT: u32 = 0;
+// Every scene begins at six in the evening. The clock, in seconds since midnight, is the count that both desks are given.
+pub const SIX: u32 = 64800;
 
 // The lengths of the clerk's timers, in seconds, are those that a replay begins with (REPLAY-02.md, "Request 6").
 fn clerk_words() -> [u64; clerk_records::WORDS] {
@@ -59,5 +60,6 @@ pub fn start_world(scene: u8) -> World {
         lineHeard: 0,
         wrong: scene == 1,
         preference: preference_of(scene),
+        clock: SIX,
     }
 }

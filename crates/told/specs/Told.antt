@@ -33,14 +33,14 @@ noticeNumber BusyAgainEnded = 8
 noticeNumber Cancelled = 9
 noticeNumber BusyAgainWaiting = 10
 
--- ---- the message sent, written at the front: the writer's answer, and no bytes where nothing is sent
-unfoldable pub sentWritten : List ℕ → Sending → Written
-sentWritten out Nothing = Wrote 0
-sentWritten out (Send l) = messageWritten out 0 (messageOf l)
+-- ---- the message sent, written at a place: the writer's answer, and no bytes where nothing is sent
+unfoldable pub sentWritten : List ℕ → ℕ → Sending → Written
+sentWritten out place Nothing = Wrote 0
+sentWritten out place (Send l) = messageWritten out place (messageOf l)
 
-unfoldable pub sentBuffer : List ℕ → Sending → List ℕ
-sentBuffer out Nothing = out
-sentBuffer out (Send l) = messageBuffer out 0 (messageOf l)
+unfoldable pub sentBuffer : List ℕ → ℕ → Sending → List ℕ
+sentBuffer out place Nothing = out
+sentBuffer out place (Send l) = messageBuffer out place (messageOf l)
 
 -- ---- a place as two numbers: 1 and the place, or 0 and 0 where there is none
 abbrev pub isPlace : Found → ℕ

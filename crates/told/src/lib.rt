@@ -2,6 +2,8 @@
 // message written, 0 for none; the first unread place; timers started; timers stopped; the notice; whether to clear the call; whether bytes could not be read, and then
 // the place of the fault; whether the step was about a record, and then the record's place. An inner room of the library's face and of the programs: its functions are
 // no public operations.
+pub mod ticking;
+
 use desk::letter::message_of;
 use desk::outcome::Notice;
 use desk::outcome::Outcome;
@@ -78,15 +80,15 @@ pub fn place_number(found: Found) -> u64
     }
 }
 
-// What is sent, at the front of a buffer: how many bytes, 0 where nothing is sent; or the writer's refusal, and the buffer stays as it was.
-pub fn send(out: &mut [u8], sending: Sending) -> Written
-    ensures { λ r. ⌜ (r ≡ sentWritten (now (out .entry)) sending) × (now (out .exit) ≡ sentBuffer (now (out .entry)) sending) ⌝ }
+// What is sent, at a place of a buffer: how many bytes, 0 where nothing is sent; or the writer's refusal, and the buffer stays as it was.
+pub fn send(out: &mut [u8], place: usize, sending: Sending) -> Written
+    ensures { λ r. ⌜ (r ≡ sentWritten (now (out .entry)) place sending) × (now (out .exit) ≡ sentBuffer (now (out .entry)) place sending) ⌝ }
 {
     match sending {
         Sending::Nothing => Written::Wrote(0),
         Sending::Send(l) => {
             let m = message_of(l);
-            writer::write(out, 0, m)
+            writer::write(out, place, m)
         }
     }
 }

@@ -21,7 +21,7 @@ refused-stays true true length put out number e = let z : _≡_ {A = ℕ} 0 1 = 
 refused-stays true false length put out number e = refl
 refused-stays false roomy length put out number e = refl
 
-sent-stays : (out : List ℕ) (sending : Sending) (number : ℕ) → sentWritten out sending ≡ Refused number → sentBuffer out sending ≡ out
+sent-stays : (out : List ℕ) (sending : Sending) (number : ℕ) → sentWritten out 0 sending ≡ Refused number → sentBuffer out 0 sending ≡ out
 unfolding sentWritten sentBuffer messageWritten messageBuffer
 sent-stays out Nothing number e = let z : _≡_ {A = ℕ} 0 1 = cc in absurd (omega arith)
 sent-stays out (Send l) number e = refused-stays (writable (messageOf l)) (room out 0 (messageBytes (messageOf l))) _ _ out number e

@@ -3,7 +3,7 @@ use mathlib.Core.Path.{_≡_, sym, _∙_, ap}
 use mathlib.Core.List.{List}
 use Prim.Native.Nat.{ℕ}
 use Rattle.host_numbers.specs.Messages.{WriteFace, writeFace}
-use Rattle.tollherring.specs.Face.{Face, face}
+use Rattle.told.specs.Face.{Face, face}
 use Rattle.tollherring.specs.Shown.{Shown, shown, ShownLine, shownLine}
 use Rattle.tollherring.specs.Messages.{ReadFace, readFace}
 

@@ -13,7 +13,7 @@ use Rattle.tollherring.specs.Face.{refusedFace, faced}
 -- 12, "All return the number and change nothing": a message that has no room leaves the desk and the whole buffer as they were, whatever the step would have done
 abbrev pub NoRoomNothing : Type 0
 NoRoomNothing =
-    (words after out : List ℕ) (outcome : Outcome) (next number : ℕ) → sentWritten out (outcome .sending) ≡ Refused number
+    (words after out : List ℕ) (outcome : Outcome) (next number : ℕ) → sentWritten out 0 (outcome .sending) ≡ Refused number
     → faced words after out outcome next ≡ refusedFace words out number Nothing
 
 -- a refusal of a desk (`RefusedSame` in clerk_sound and line_sound) is told as its number, the bytes of its reply and what was read: no timer, no notice, no word to clear the call, no record

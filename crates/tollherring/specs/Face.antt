@@ -1,27 +1,20 @@
--- What stands in the host's memory after a call, and the number that the call answers.
+-- A call of a step: what stands in the host's memory afterwards, and the number that the call answers.
 use Prim.Native.Nat.{ℕ}
 use mathlib.Core.Path.{_≡_}
 use mathlib.Core.List.{List}
+use lib.Dec.{eqb}
+use Rattle.lists.specs.Choice.{pick}
 use Rattle.lists.specs.declared.Found.{Found}
 use Rattle.lists.specs.declared.Found.the-variants.{Nothing}
 use Rattle.desk.specs.declared.outcome.Outcome.{Outcome}
 use Rattle.writer.specs.declared.Written.{Written}
 use Rattle.writer.specs.declared.Written.the-variants.{Wrote, Refused}
+use Rattle.told.specs.Face.{Face, face}
 use Rattle.told.specs.Told.{sentWritten, sentBuffer, toldOf, toldRefused}
 
--- a call gives no count of seconds: its step is one at count 0
-abbrev pub noCount : ℕ
-noCount = 0
-
--- the desk's words, the buffer for the message that is sent, the outcome's eleven numbers, and the answer: the refusal's number or 0
-pub record Face : Type 0 where
-  pub words : List ℕ
-  pub out : List ℕ
-  pub told : List ℕ
-  pub answer : ℕ
-
-abbrev pub face : List ℕ → List ℕ → List ℕ → ℕ → Face
-face words out told answer = record { words = words; out = out; told = told; answer = answer }
+-- a refused start makes no desk: the words stay as they were
+abbrev pub startWords : List ℕ → ℕ → List ℕ → List ℕ
+startWords words refusal made = pick (eqb refusal 0) made words
 
 -- refused by the face itself: the desk and the buffer stay as they were. Of bytes that cannot be read there is the place of the fault
 abbrev pub refusedFace : List ℕ → List ℕ → ℕ → Found → Face
@@ -34,7 +27,7 @@ written (Refused number) words after out outcome next = refusedFace words out nu
 
 -- a step that makes of `words` the words `after`
 unfoldable pub faced : List ℕ → List ℕ → List ℕ → Outcome → ℕ → Face
-faced words after out outcome next = written (sentWritten out (outcome .sending)) words after (sentBuffer out (outcome .sending)) outcome next
+faced words after out outcome next = written (sentWritten out 0 (outcome .sending)) words after (sentBuffer out 0 (outcome .sending)) outcome next
 
 -- a step that changes no word: whatever the desk's words are, they stay
 abbrev pub WordsStay : List ℕ → List ℕ → ℕ → List ℕ → Outcome → ℕ → Type 0

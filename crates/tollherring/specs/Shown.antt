@@ -9,16 +9,19 @@ use Rattle.terms.specs.Codes.{flagCode}
 use Rattle.clerk_table.specs.declared.record.Record as ClerkRecord
 use Rattle.clerk_records.specs.Codes as ClerkCodes
 use Rattle.clerk_records.specs.Records as ClerkRecords
+use Rattle.clerk_records.specs.Deadlines as ClerkDeadlines
+use Rattle.clerk_records.specs.declared.deadlines.Deadlines.{Deadlines}
 use Rattle.line_table.specs.declared.record.Record as LineRecord
 use Rattle.line_table.specs.declared.line.Line.{Line}
 use Rattle.line_records.specs.Codes as LineCodes
 use Rattle.line_records.specs.Records as LineRecords
+use Rattle.line_records.specs.Deadlines.{guards}
 use Rattle.line_records.specs.Lines.{lines, noLine}
 use Rattle.desk.specs.Sends.{noNumber}
 use Rattle.host_numbers.specs.Identifiers.{identifierShown}
 use Rattle.host_numbers.specs.Shown.{clerkNumbers, lineNumbers, kindsNumber}
 
--- identifier, a length and sixteen bytes, numberA, numberB, the nine numbers, and the answer
+-- identifier, a length and sixteen bytes, numberA, numberB, the fourteen numbers, and the answer
 pub record Shown : Type 0 where
   pub identifier : List ℕ
   pub numberA : List ℕ
@@ -30,19 +33,22 @@ abbrev pub shown : List ℕ → List ℕ → List ℕ → List ℕ → ℕ → S
 shown identifier numberA numberB numbers answer = record { identifier = identifier; numberA = numberA; numberB = numberB; numbers = numbers; answer = answer }
 
 -- ---- the record at a place; a place whose record has no state has none
-abbrev pub clerkRecordShown : ClerkRecord.Record → Shown → Shown
-clerkRecordShown r none =
-    pick (eqb (ClerkCodes.stateCode (r .state)) 0) none (shown (identifierShown (r .terms .identifier)) (bytesOf (r .terms .numberA)) (bytesOf (r .terms .numberB)) (clerkNumbers r) 0)
+abbrev pub clerkRecordShown : ClerkRecord.Record → Deadlines → Shown → Shown
+clerkRecordShown r deadlines none =
+    pick (eqb (ClerkCodes.stateCode (r .state)) 0) none (shown (identifierShown (r .terms .identifier)) (bytesOf (r .terms .numberA)) (bytesOf (r .terms .numberB)) (clerkNumbers r deadlines) 0)
 
 unfoldable pub clerkShown : List ℕ → ℕ → List ℕ → List ℕ → List ℕ → List ℕ → Shown
-clerkShown words place identifier numberA numberB numbers = clerkRecordShown (getD (ClerkRecords.records words) place ClerkRecords.blank) (shown identifier numberA numberB numbers 6)
+clerkShown words place identifier numberA numberB numbers =
+    clerkRecordShown (getD (ClerkRecords.records words) place ClerkRecords.blank) (getD (ClerkDeadlines.deadlines words) place ClerkDeadlines.noDeadlines)
+    (shown identifier numberA numberB numbers 6)
 
-abbrev pub lineRecordShown : LineRecord.Record → Shown → Shown
-lineRecordShown r none =
-    pick (eqb (LineCodes.stateCode (r .state)) 0) none (shown (identifierShown (r .terms .identifier)) (bytesOf (r .terms .numberA)) (bytesOf (r .terms .numberB)) (lineNumbers r) 0)
+abbrev pub lineRecordShown : LineRecord.Record → ℕ → Shown → Shown
+lineRecordShown r guard none =
+    pick (eqb (LineCodes.stateCode (r .state)) 0) none (shown (identifierShown (r .terms .identifier)) (bytesOf (r .terms .numberA)) (bytesOf (r .terms .numberB)) (lineNumbers r guard) 0)
 
 unfoldable pub lineShown : List ℕ → ℕ → List ℕ → List ℕ → List ℕ → List ℕ → Shown
-lineShown words place identifier numberA numberB numbers = lineRecordShown (getD (LineRecords.records words) place LineRecords.blank) (shown identifier numberA numberB numbers 6)
+lineShown words place identifier numberA numberB numbers =
+    lineRecordShown (getD (LineRecords.records words) place LineRecords.blank) (getD (guards words) place 0) (shown identifier numberA numberB numbers 6)
 
 -- ---- the line at a place: its number, kinds (1 CCBS + 2 CCNR) and status; a place without a number has none
 pub record ShownLine : Type 0 where

@@ -29,7 +29,8 @@ ghost use Rattle.clerk_table.specs.Inputs.{namesOf};
 ghost use Rattle.clerk_records.specs.Records.{records};
 ghost use Rattle.clerk_plan.specs.Plan.{takenPlan, storedPlan};
 ghost use Rattle.clerk.specs.Steps.{deskOf, made, step};
-ghost use Rattle.tollherring.specs.Face.{face, faced, WordsStay};
+ghost use Rattle.told.specs.Face.{face};
+ghost use Rattle.tollherring.specs.Face.{faced, WordsStay};
 
 // A refusal, with its reply: whatever the desk's words are, they stay.
 fn refuse_in(
@@ -45,7 +46,7 @@ fn refuse_in(
     let plan = plan_refused(input, refusal, reply);
     let outcome = plan.outcome;
     let sending = outcome.sending;
-    match send(out, sending) {
+    match send(out, 0, sending) {
         Written::Wrote(length) => {
             tell(told, outcome, length, next);
             outcome.refusal as u64
@@ -70,7 +71,7 @@ fn take_in(
     let plan = plan_taken(words, input, place, row);
     let outcome = plan.outcome;
     let sending = outcome.sending;
-    match send(out, sending) {
+    match send(out, 0, sending) {
         Written::Wrote(length) => {
             let change = plan.change;
             let at = outcome.at;
@@ -101,7 +102,7 @@ fn store_in(
     let plan = plan_stored(place, names, q);
     let outcome = plan.outcome;
     let sending = outcome.sending;
-    match send(out, sending) {
+    match send(out, 0, sending) {
         Written::Wrote(length) => {
             let at = outcome.at;
             let starts = outcome.starts;

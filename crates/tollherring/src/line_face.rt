@@ -10,15 +10,18 @@ use line::entry::look_entry;
 use line::start::start;
 use line_records::WORDS;
 use lists::Found;
+use ticks::line_tick::line_tick;
 use told::TOLD;
 use told::refuse;
+use told::ticking;
 ghost use mathlib.Core.Path.{_≡_};
 ghost use Rattle.line.specs.Start.{started};
-ghost use Rattle.tollherring.specs.Face.{face};
-ghost use Rattle.tollherring.specs.Line.{startWords, lineStartedWords, lineStartedAnswer, lineEntered, lineReceived, lineStatusReported, lineLooked, lineActed, lineGuarded};
+ghost use Rattle.told.specs.Face.{face};
+ghost use Rattle.ticks.specs.Line.{lineTicked};
+ghost use Rattle.tollherring.specs.Line.{lineStartWords, lineStartedWords, lineStartedAnswer, lineEntered, lineReceived, lineStatusReported, lineLooked, lineActed, lineGuarded};
 
 fn start_in(words: &mut [u64; WORDS], given: &[u8], keep: bool, retain: bool) -> u64
-    ensures { λ r. ⌜ (r ≡ started (now (given .entry)) keep retain .outcome .refusal) × (now (words .exit) ≡ startWords (now (words .entry)) (started (now (given .entry)) keep retain)) ⌝ }
+    ensures { λ r. ⌜ (r ≡ started (now (given .entry)) keep retain .outcome .refusal) × (now (words .exit) ≡ lineStartWords (now (words .entry)) (now (given .entry)) keep retain) ⌝ }
 {
     let step = start(given, keep, retain);
     let outcome = step.outcome;
@@ -54,19 +57,20 @@ pub extern "C" fn tollherring_line_start(
 #[no_mangle]
 pub extern "C" fn tollherring_line_receive(
     words: &mut [u64; WORDS],
+    count: u32,
     place: u64,
     bytes: &[u8],
     out: &mut [u8],
     told: &mut [u64; TOLD],
 ) -> u64
-    ensures { λ r. ⌜ face (now (words .exit)) (now (out .exit)) (now (told .exit)) r ≡ lineReceived (now (words .entry)) (now (out .entry)) place (now (bytes .entry)) ⌝ }
+    ensures { λ r. ⌜ face (now (words .exit)) (now (out .exit)) (now (told .exit)) r ≡ lineReceived (now (words .entry)) count (now (out .entry)) place (now (bytes .entry)) ⌝ }
 {
     let read = bytes_entry(bytes, place as usize);
     let entry = read.entry;
     let fault = read.fault;
     match entry {
         Entry::Refused(number) => refuse(told, number, fault),
-        Entry::Given(input) => step_in(words, 0, input, read.next, out, told),
+        Entry::Given(input) => step_in(words, count, input, read.next, out, told),
     }
 }
 
@@ -74,17 +78,18 @@ pub extern "C" fn tollherring_line_receive(
 #[no_mangle]
 pub extern "C" fn tollherring_line_report(
     words: &mut [u64; WORDS],
+    count: u32,
     digits: &[u8; 16],
     busy: u64,
     out: &mut [u8],
     told: &mut [u64; TOLD],
 ) -> u64
-    ensures { λ r. ⌜ face (now (words .exit)) (now (out .exit)) (now (told .exit)) r ≡ lineStatusReported (now (words .entry)) (now (out .entry)) (now (digits .entry)) busy ⌝ }
+    ensures { λ r. ⌜ face (now (words .exit)) (now (out .exit)) (now (told .exit)) r ≡ lineStatusReported (now (words .entry)) count (now (out .entry)) (now (digits .entry)) busy ⌝ }
 {
     let entry = report_given(*digits, busy);
     match entry {
         Entry::Refused(number) => refuse(told, number, Found::Nothing),
-        Entry::Given(input) => step_in(words, 0, input, 0, out, told),
+        Entry::Given(input) => step_in(words, count, input, 0, out, told),
     }
 }
 
@@ -92,16 +97,17 @@ pub extern "C" fn tollherring_line_report(
 #[no_mangle]
 pub extern "C" fn tollherring_line_look(
     words: &mut [u64; WORDS],
+    count: u32,
     digits: &[u8; 16],
     out: &mut [u8],
     told: &mut [u64; TOLD],
 ) -> u64
-    ensures { λ r. ⌜ face (now (words .exit)) (now (out .exit)) (now (told .exit)) r ≡ lineLooked (now (words .entry)) (now (out .entry)) (now (digits .entry)) ⌝ }
+    ensures { λ r. ⌜ face (now (words .exit)) (now (out .exit)) (now (told .exit)) r ≡ lineLooked (now (words .entry)) count (now (out .entry)) (now (digits .entry)) ⌝ }
 {
     let entry = look_entry(*digits);
     match entry {
         Entry::Refused(number) => refuse(told, number, Found::Nothing),
-        Entry::Given(input) => step_in(words, 0, input, 0, out, told),
+        Entry::Given(input) => step_in(words, count, input, 0, out, told),
     }
 }
 
@@ -109,18 +115,19 @@ pub extern "C" fn tollherring_line_look(
 #[no_mangle]
 pub extern "C" fn tollherring_line_act(
     words: &mut [u64; WORDS],
+    count: u32,
     place: u64,
     identifier: &[u8; BYTES],
     act: u64,
     out: &mut [u8],
     told: &mut [u64; TOLD],
 ) -> u64
-    ensures { λ r. ⌜ face (now (words .exit)) (now (out .exit)) (now (told .exit)) r ≡ lineActed (now (words .entry)) (now (out .entry)) place (now (identifier .entry)) act ⌝ }
+    ensures { λ r. ⌜ face (now (words .exit)) (now (out .exit)) (now (told .exit)) r ≡ lineActed (now (words .entry)) count (now (out .entry)) place (now (identifier .entry)) act ⌝ }
 {
     let entry = line_act_given(*identifier, place, act);
     match entry {
         Entry::Refused(number) => refuse(told, number, Found::Nothing),
-        Entry::Given(input) => step_in(words, 0, input, 0, out, told),
+        Entry::Given(input) => step_in(words, count, input, 0, out, told),
     }
 }
 
@@ -128,16 +135,30 @@ pub extern "C" fn tollherring_line_act(
 #[no_mangle]
 pub extern "C" fn tollherring_line_guard(
     words: &mut [u64; WORDS],
+    count: u32,
     place: u64,
     identifier: &[u8; BYTES],
     out: &mut [u8],
     told: &mut [u64; TOLD],
 ) -> u64
-    ensures { λ r. ⌜ face (now (words .exit)) (now (out .exit)) (now (told .exit)) r ≡ lineGuarded (now (words .entry)) (now (out .entry)) place (now (identifier .entry)) ⌝ }
+    ensures { λ r. ⌜ face (now (words .exit)) (now (out .exit)) (now (told .exit)) r ≡ lineGuarded (now (words .entry)) count (now (out .entry)) place (now (identifier .entry)) ⌝ }
 {
     let entry = guard_given(*identifier, place);
     match entry {
         Entry::Refused(number) => refuse(told, number, Found::Nothing),
-        Entry::Given(input) => step_in(words, 0, input, 0, out, told),
+        Entry::Given(input) => step_in(words, count, input, 0, out, told),
     }
+}
+
+// Every record whose guard is due expires: 12, and then nothing changes.
+#[no_mangle]
+pub extern "C" fn tollherring_line_tick(
+    words: &mut [u64; WORDS],
+    count: u32,
+    out: &mut [u8],
+    told: &mut [u64; ticking::TOLD],
+) -> u64
+    ensures { λ r. ⌜ face (now (words .exit)) (now (out .exit)) (now (told .exit)) r ≡ lineTicked (now (words .entry)) count (now (out .entry)) ⌝ }
+{
+    line_tick(words, count, out, told)
 }

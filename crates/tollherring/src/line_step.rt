@@ -37,7 +37,8 @@ ghost use Rattle.line_records.specs.Records.{blank, records};
 ghost use Rattle.line_records.specs.Change.{applied};
 ghost use Rattle.line_plan.specs.Plan.{deniedPlan, newRecord, storedPlan, reportedPlan};
 ghost use Rattle.line.specs.Steps.{deskOf, made, step};
-ghost use Rattle.tollherring.specs.Face.{face, faced, WordsStay, OutStays};
+ghost use Rattle.told.specs.Face.{face};
+ghost use Rattle.tollherring.specs.Face.{faced, WordsStay, OutStays};
 
 // A refusal, with its reply: whatever the desk's words are, they stay.
 fn refuse_in(
@@ -55,7 +56,7 @@ fn refuse_in(
     let plan = refused_plan(refusal, answer_with(identifier, reply));
     let outcome = plan.outcome;
     let sending = outcome.sending;
-    match send(out, sending) {
+    match send(out, 0, sending) {
         Written::Wrote(length) => {
             tell(told, outcome, length, next);
             outcome.refusal as u64
@@ -73,7 +74,7 @@ fn deny_in(input: Input, error: u8, next: usize, out: &mut [u8], told: &mut [u64
     let plan = denied_plan(identifier, error);
     let outcome = plan.outcome;
     let sending = outcome.sending;
-    match send(out, sending) {
+    match send(out, 0, sending) {
         Written::Wrote(length) => {
             tell(told, outcome, length, next);
             outcome.refusal as u64
@@ -96,7 +97,7 @@ fn take_in(
     let plan = take_row(place, load(words, place), row);
     let outcome = plan.outcome;
     let sending = outcome.sending;
-    match send(out, sending) {
+    match send(out, 0, sending) {
         Written::Wrote(length) => {
             let change = plan.change;
             apply(words, change);
@@ -125,7 +126,7 @@ fn store_in(
     let plan = stored_plan(place, record);
     let outcome = plan.outcome;
     let sending = outcome.sending;
-    match send(out, sending) {
+    match send(out, 0, sending) {
         Written::Wrote(length) => {
             let at = outcome.at;
             let starts = outcome.starts;

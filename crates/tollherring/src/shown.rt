@@ -1,5 +1,6 @@
-// What a desk holds, for hosts that show it: the record or line of a place, as bytes and plain numbers.
+// What a desk holds, for hosts that show it: the record of a place, with the deadlines of its timers, or the line, as bytes and plain numbers.
 use clerk_records::codes::state_code as clerk_state_code;
+use clerk_records::deadlines::deadlines_at;
 use clerk_records::places::load as load_clerk;
 use host_numbers::identifiers::BYTES;
 use host_numbers::shown::NUMBERS;
@@ -8,6 +9,7 @@ use host_numbers::shown::kinds_number;
 use host_numbers::shown::line_numbers;
 use host_numbers::shown::show_names;
 use line_records::codes::state_code as line_state_code;
+use line_records::deadlines::guard_of;
 use line_records::lines::load_line;
 use line_records::places::load as load_record;
 use lists::words::Words;
@@ -29,14 +31,16 @@ pub extern "C" fn tollherring_clerk_record(
 ) -> u64
     ensures { λ r. ⌜ shown (now (identifier .exit)) (now (numberA .exit)) (now (numberB .exit)) (now (numbers .exit)) r ≡ clerkShown (now (words .entry)) place (now (identifier .entry)) (now (numberA .entry)) (now (numberB .entry)) (now (numbers .entry)) ⌝ }
 {
-    let r = load_clerk(words, place as usize);
+    let i = place as usize;
+    let r = load_clerk(words, i);
     let state = r.state;
     if clerk_state_code(state) == 0 {
         return 6;
     }
     let terms = r.terms;
+    let deadlines = deadlines_at(words, i);
     show_names(identifier, numberA, numberB, terms);
-    *numbers = clerk_numbers(r);
+    *numbers = clerk_numbers(r, deadlines);
     0
 }
 
@@ -52,14 +56,16 @@ pub extern "C" fn tollherring_line_record(
 ) -> u64
     ensures { λ r. ⌜ shown (now (identifier .exit)) (now (numberA .exit)) (now (numberB .exit)) (now (numbers .exit)) r ≡ lineShown (now (words .entry)) place (now (identifier .entry)) (now (numberA .entry)) (now (numberB .entry)) (now (numbers .entry)) ⌝ }
 {
-    let r = load_record(words, place as usize);
+    let i = place as usize;
+    let r = load_record(words, i);
     let state = r.state;
     if line_state_code(state) == 0 {
         return 6;
     }
     let terms = r.terms;
+    let guard = guard_of(words, i);
     show_names(identifier, numberA, numberB, terms);
-    *numbers = line_numbers(r);
+    *numbers = line_numbers(r, guard);
     0
 }
 

@@ -8,9 +8,7 @@ use lib.Seq.{take-at, drop-at, drop-drop, length-take-le, drop-append-seam}
 use lib.Dec.{ltb, leb}
 use native.Mathlib.Omega.{arith}
 use native.Mathlib.Numerals.{add-one}
-use borrow.Author.Tests.{leb-true}
 use Rattle.lists.specs.Words.{Bytes}
-use Rattle.lists.proofs.Choice.{no-true, pick-then}
 use Rattle.message.specs.Reading.{Read, took, refused}
 use Rattle.message.specs.Number.{digitsBytes, sixteen}
 use Rattle.message.specs.Format.{hasElements, writable, requestInRange, fieldsInRange, identifierBytes, fieldBytes, requestBytes, elementBytes, fieldsOf, messageBytes}
@@ -19,11 +17,10 @@ use Rattle.message.specs.Wire.{messageAt}
 use Rattle.message.specs.declared.Body.{Body}
 use Rattle.message.specs.declared.Body.the-variants.{CcbsRequest, CcnrRequest, RequestResult, RequestError, CcExecPossible, CcRingout, RingoutError, CcSuspend, CcResume, CcCancel, CallAlerts, CallFailed}
 use Rattle.message.specs.declared.Message.{Message}
-use Rattle.message.proofs.RangeLaws.{request-ranged, elements-few, writable-elements, writable-fields, fields-most, identifier-few, message-length}
-use Rattle.writer.specs.Write.{putAt, room, messageWritten, messageBuffer}
+use Rattle.message.proofs.RangeLaws.{request-ranged, elements-few, writable-elements, writable-fields, identifier-few, message-length}
+use Rattle.writer.specs.Write.{putAt, messageWritten, messageBuffer}
 use Rattle.writer.specs.Claims.{Back, WrittenReadsBack, Canonical, ReadIsWritten, SameByBytes, BytesOfSame}
-use Rattle.writer.specs.declared.Written.{Written}
-use Rattle.writer.specs.declared.Written.the-variants.{Wrote, Refused}
+use Rattle.writer.proofs.WriteLaws.{took-place, message-most}
 use Rattle.writer.proofs.RoundTrip.{round-trip}
 use Rattle.writer.proofs.CanonicalLaws.{Whole, canonical}
 
@@ -193,24 +190,6 @@ put-back : (buffer bytes : List ℕ) (place : ℕ) → place + length bytes ≤ 
 put-back buffer bytes place h =
     drop-at (take place buffer) _ place (length-take-le place buffer (omega arith)) ∙ ap (λ (t : List ℕ). bytes ++ t) (drop-drop (length bytes) place buffer)
 
-no-wrote : {x n : ℕ} → Refused x ≡ Wrote n → ⊥
-no-wrote e = let z : _≡_ {A = ℕ} 0 1 = cc in omega arith
-
--- what a taken write says
-record Took-place (buffer : List ℕ) (place : ℕ) (m : Message) (n : ℕ) : Type 0 where
-  ranged : writable m ≡ true
-  fits : place + length (messageBytes m) ≤ length buffer
-  size : length (messageBytes m) ≡ n
-  after : messageBuffer buffer place m ≡ putAt buffer place (messageBytes m)
-
-took-place : (buffer : List ℕ) (place : ℕ) (m : Message) (n : ℕ) → messageWritten buffer place m ≡ Wrote n → Took-place buffer place m n
-unfolding messageWritten messageBuffer
-took-place buffer place m n e =
-    let p = pick-then (writable m) _ (Refused 2) (Wrote n) no-wrote e in
-    let q = pick-then (room buffer place (messageBytes m)) _ (Refused 12) (Wrote n) no-wrote (p .1) in
-    let k = q .1 in
-    record { ranged = p .0; fits = leb-true _ _ (q .0); size = cc; after = rw (p .0, q .0) }
-
 pub written-reads-back : WrittenReadsBack
 written-reads-back buffer place m n f e =
     let t = took-place buffer place m n e in
@@ -219,13 +198,12 @@ written-reads-back buffer place m n f e =
     let size : length bytes ≡ n = t .size in
     let stands : drop place (messageBuffer buffer place m) ≡ bytes ++ drop (place + length bytes) buffer = ap (λ (d : List ℕ). drop place d) (t .after) ∙ put-back buffer bytes place fits in
     let long = message-length m (f .identifier) in
-    let few = fields-most m (f .numberA) (f .numberB) (t .ranged) in
     let head = identifier-few (m .identified) in
     record {
       read = rw stands (round-trip m (drop (place + length bytes) buffer) f (t .ranged) ∙ ap (λ (k : ℕ). took (normal m) k) size);
       equal = same-normal m f (t .ranged);
       least = omega (arith, long, size, head);
-      most = omega (arith, long, size, few, head);
+      most = omega (arith, size, message-most m f (t .ranged));
       within = omega (arith, fits, size);
       before = rw (t .after) (take-at (take place buffer) _ place (length-take-le place buffer (omega arith)));
       behind = sym (drop-drop n place (messageBuffer buffer place m)) ∙ rw (stands, ← size) (drop-append-seam bytes (drop (place + length bytes) buffer));

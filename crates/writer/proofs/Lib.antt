@@ -1,3 +1,4 @@
+pub mod WriteLaws
 pub mod RoundTrip
 pub mod CanonicalLaws
 pub mod Claims

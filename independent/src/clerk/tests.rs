@@ -33,7 +33,7 @@ fn at(place: usize) -> Name {
 /// Hands a message in, the place absent, User A not busy; and the record is
 /// the first, unless the message is refused.
 fn takes(desk: &mut ClerkDesk, message: &Message) -> Outcome {
-    desk.take(message, 255, false)
+    desk.take(message, 255, false, 0)
 }
 
 fn done() -> Outcome {
@@ -42,7 +42,7 @@ fn done() -> Outcome {
 
 fn invoked(carrier: Carrier, can_keep: bool, keep: u32) -> ClerkDesk {
     let mut desk = ClerkDesk::default();
-    desk.ask(&an_ask(ID, can_keep));
+    desk.ask(&an_ask(ID, can_keep), 0);
     takes(&mut desk, &message(carrier, ID, Content::RequestResult { keep }));
     desk
 }
@@ -62,7 +62,7 @@ fn busy_again() -> Message {
 #[test]
 fn example_10_ret_ccexecpossible_user_a_busy_ccsuspend_in_facility() {
     let mut desk = invoked(Carrier::Connect, true, 1);
-    let outcome = desk.take(&message(Carrier::Facility, ID, Content::CcExecPossible), 255, true);
+    let outcome = desk.take(&message(Carrier::Facility, ID, Content::CcExecPossible), 255, true, 0);
     let expected = done().sending(message(Carrier::Facility, ID, Content::CcSuspend));
     assert_eq!(outcome, expected);
     assert_eq!(desk.records[0].state, State::Suspended);
@@ -82,7 +82,7 @@ fn example_11_busy_again_in_ringout_keep_chosen_invoked_not_chosen_gone() {
 #[test]
 fn request_5_a_ccnr_record_met_busy_again_becomes_ccbs_once() {
     let mut desk = ClerkDesk::default();
-    desk.ask(&Ask { kind: Kind::Ccnr, ..an_ask(ID, true) });
+    desk.ask(&Ask { kind: Kind::Ccnr, ..an_ask(ID, true) }, 0);
     takes(&mut desk, &message(Carrier::Connect, ID, Content::RequestResult { keep: 1 }));
     for notice in [Notice::NowWaitingForFree, Notice::BusyAgainKept, Notice::BusyAgainKept] {
         takes(&mut desk, &message(Carrier::Facility, ID, Content::CcExecPossible));
@@ -100,7 +100,7 @@ fn request_5_a_ccnr_record_met_busy_again_becomes_ccbs_once() {
 #[test]
 fn example_12_t3_reported_in_suspended_9() {
     let mut desk = invoked(Carrier::Connect, true, 1);
-    desk.take(&message(Carrier::Facility, ID, Content::CcExecPossible), 255, true);
+    desk.take(&message(Carrier::Facility, ID, Content::CcExecPossible), 255, true, 0);
     assert_eq!(desk.timer_runs_out(&NAME, Timer::T3), Outcome::refused(Refusal::TimerNotRunning));
 }
 
@@ -155,7 +155,7 @@ fn m3_ccexecpossible_in_setup_is_answered_on_7_and_never_refused_with_8() {
 fn request_11_refusals_of_the_report() {
     let mut desk = ClerkDesk::default();
     assert_eq!(desk.connection_fell(&NAME), Outcome::refused(Refusal::NoRecord));
-    desk.ask(&an_ask(ID, true));
+    desk.ask(&an_ask(ID, true), 0);
     assert_eq!(desk.connection_fell(&NAME), Outcome::refused(Refusal::NoRow));
     let mut desk = invoked(Carrier::ReleaseComplete, true, 1);
     assert_eq!(desk.connection_fell(&NAME), Outcome::refused(Refusal::NoRow));
@@ -170,11 +170,11 @@ fn request_11_a_marked_record_sends_by_the_rls_carriers() {
     assert_eq!(desk.connection_fell(&NAME), done());
     assert_eq!(desk, marked);
     assert_eq!(desk.records[0].connection, Some(Connection::Ret));
-    let outcome = desk.take(&message(Carrier::Setup, ID, Content::CcExecPossible), 255, true);
+    let outcome = desk.take(&message(Carrier::Setup, ID, Content::CcExecPossible), 255, true, 0);
     let suspend = message(Carrier::ReleaseComplete, ID, Content::CcSuspend);
     assert_eq!(outcome, done().sending(suspend));
     let resume = message(Carrier::Setup, ID, Content::CcResume);
-    assert_eq!(desk.user_a_free(&NAME, FreeChoice::Resume), done().sending(resume));
+    assert_eq!(desk.user_a_free(&NAME, FreeChoice::Resume, 0), done().sending(resume));
     // "Nothing clears the mark; a resume and busy again do not."
     assert!(desk.records[0].down);
     takes(&mut desk, &message(Carrier::Facility, ID, Content::CcExecPossible));
@@ -202,11 +202,11 @@ fn m4_cccancel_in_ringout_clears_the_call() {
 fn sixteen_against_seventeen_asks() {
     let mut desk = ClerkDesk::default();
     for n in 0..16 {
-        assert_eq!(desk.ask(&an_ask([n; 16], true)).refusal, None);
+        assert_eq!(desk.ask(&an_ask([n; 16], true), 0).refusal, None);
     }
-    assert_eq!(desk.ask(&an_ask([16; 16], true)), Outcome::refused(Refusal::ClerkFull));
+    assert_eq!(desk.ask(&an_ask([16; 16], true), 0), Outcome::refused(Refusal::ClerkFull));
     // READINGS 8: "A live identifier at a full desk is 4."
-    assert_eq!(desk.ask(&an_ask([0; 16], true)), Outcome::refused(Refusal::IdentifierLive));
+    assert_eq!(desk.ask(&an_ask([0; 16], true), 0), Outcome::refused(Refusal::IdentifierLive));
 }
 
 #[test]
@@ -221,10 +221,10 @@ fn reading_7_2_before_3() {
 fn nameless_desk(states: &[State]) -> ClerkDesk {
     let mut desk = ClerkDesk::default();
     for (place, state) in states.iter().enumerate() {
-        let outcome = desk.ask(&Ask { identifier: None, ..an_ask(ID, true) });
+        let outcome = desk.ask(&Ask { identifier: None, ..an_ask(ID, true) }, 0);
         assert_eq!((outcome.refusal, outcome.at), (None, Some(place)));
         if *state != State::WaitAck {
-            desk.take(&message(Carrier::Connect, None, Content::RequestResult { keep: 1 }), place, false);
+            desk.take(&message(Carrier::Connect, None, Content::RequestResult { keep: 1 }), place, false, 0);
             desk.records[place].state = *state;
         }
     }
@@ -235,30 +235,30 @@ fn nameless_desk(states: &[State]) -> ClerkDesk {
 fn request_1_ccexecpossible_is_fitted_to_the_oldest_in_invoked() {
     let exec = message(Carrier::Setup, None, Content::CcExecPossible);
     let mut desk = nameless_desk(&[State::WaitAck, State::Ringout, State::Invoked, State::Invoked]);
-    assert_eq!(desk.take(&exec, 0, false), Outcome::done().starting(T3).telling(Notice::Recall).about(2));
-    assert_eq!(desk.take(&exec, 0, false).at, Some(3));
+    assert_eq!(desk.take(&exec, 0, false, 0), Outcome::done().starting(T3).telling(Notice::Recall).about(2));
+    assert_eq!(desk.take(&exec, 0, false, 0).at, Some(3));
     // "7 on type 5 and 6 on type 5 the ccCancel of mend M3".
     let reply = message(Carrier::ReleaseComplete, None, Content::CcCancel);
-    assert_eq!(desk.take(&exec, 2, false), Outcome::refused(Refusal::NoRow).sending(reply.clone()));
+    assert_eq!(desk.take(&exec, 2, false, 0), Outcome::refused(Refusal::NoRow).sending(reply.clone()));
     let other = Elements { service: 10, ..elements() };
     let exec = exec.with_elements(&other);
-    assert_eq!(desk.take(&exec, 2, false), Outcome::refused(Refusal::NoRecord).sending(reply));
+    assert_eq!(desk.take(&exec, 2, false, 0), Outcome::refused(Refusal::NoRecord).sending(reply));
 }
 
 #[test]
 fn request_1_what_is_not_in_setup_goes_by_place() {
     let mut desk = nameless_desk(&[State::Ringout, State::WaitAck]);
     let result = message(Carrier::Connect, None, Content::RequestResult { keep: 1 });
-    assert_eq!(desk.take(&result, 0, false), Outcome::refused(Refusal::NoRow));
+    assert_eq!(desk.take(&result, 0, false, 0), Outcome::refused(Refusal::NoRow));
     let reply = message(Carrier::ReleaseComplete, None, Content::CcCancel);
-    assert_eq!(desk.take(&result, 2, false), Outcome::refused(Refusal::NoRecord).sending(reply));
-    assert_eq!(desk.take(&result, 1, false).at, Some(1));
+    assert_eq!(desk.take(&result, 2, false, 0), Outcome::refused(Refusal::NoRecord).sending(reply));
+    assert_eq!(desk.take(&result, 1, false, 0).at, Some(1));
     // "`at` is .. where it stands now, or stood until this step ended it".
-    let again = desk.ask(&Ask { identifier: None, ..an_ask(ID, true) });
+    let again = desk.ask(&Ask { identifier: None, ..an_ask(ID, true) }, 0);
     assert_eq!(again.at, Some(2));
     let error = message(Carrier::ReleaseComplete, None, Content::RequestError { error: SHORT });
     let denied = Outcome::done().stopping(T1).telling(Notice::DeniedShort).about(2);
-    assert_eq!(desk.take(&error, 2, false), denied);
+    assert_eq!(desk.take(&error, 2, false, 0), denied);
     assert_eq!(desk.timer_runs_out(&at(0), Timer::T2), Outcome::refused(Refusal::TimerNotRunning));
     assert_eq!(desk.timer_runs_out(&at(1), Timer::T2).at, Some(1));
     assert_eq!(desk.user_cancels(&at(1)), Outcome::refused(Refusal::NoRecord));
@@ -273,7 +273,7 @@ fn request_1_what_is_sent_in_setup_has_the_records_elements() {
     let sent = desk.accept(&at(0)).message.unwrap();
     let withheld = Elements { number_a: vec![], ..elements() };
     assert_eq!(sent, message(Carrier::Setup, None, Content::CcRingout).with_elements(&withheld));
-    let sent = desk.user_a_free(&at(1), FreeChoice::Resume).message.unwrap();
+    let sent = desk.user_a_free(&at(1), FreeChoice::Resume, 0).message.unwrap();
     assert_eq!(sent, message(Carrier::Setup, None, Content::CcResume));
     let sent = desk.user_cancels(&at(0)).message.unwrap();
     assert_eq!((sent.carrier, sent.elements), (Carrier::ReleaseComplete, None));
@@ -284,5 +284,5 @@ fn request_1_a_full_desk_of_asks_without_identifiers() {
     // "An ask without an identifier is never 4."
     let mut desk = nameless_desk(&[State::WaitAck; 16]);
     let ask = Ask { identifier: None, ..an_ask(ID, true) };
-    assert_eq!(desk.ask(&ask), Outcome::refused(Refusal::ClerkFull));
+    assert_eq!(desk.ask(&ask, 0), Outcome::refused(Refusal::ClerkFull));
 }

@@ -16,15 +16,15 @@ fn done(state: &str, input: &str, outcome: &str) -> Done {
 
 /// The carriers that hang on the connection choice and, request 11, on the mark
 /// "connection down": what is sent and what is taken.
-struct Choice {
-    name: &'static str,
+pub struct Choice {
+    pub name: &'static str,
     offer_sent: &'static str,
     offer_taken: &'static [&'static str],
     suspend_sent: &'static str,
     suspend_taken: &'static [&'static str],
     resume_sent: &'static str,
     resume_taken: &'static [&'static str],
-    cancel: &'static str,
+    pub cancel: &'static str,
     /// The choice's name when the connection has fallen; none for RLS.
     fallen: Option<&'static str>,
 }
@@ -62,7 +62,7 @@ const RLS: Choice = Choice {
     fallen: None,
 };
 
-const CHOICES: [Choice; 3] = [RET, RET_DOWN, RLS];
+pub const CHOICES: [Choice; 3] = [RET, RET_DOWN, RLS];
 
 const CARRIERS: [&str; 5] = ["Setup", "Connect", "Facility", "Release Complete", "Alerting"];
 
@@ -613,7 +613,6 @@ fn start_rows(names: &mut Vec<String>) {
 /// All rows of both desks.
 pub fn rows() -> Vec<String> {
     let mut names = Vec::new();
-    names.push("clerk: start".to_string());
     ask_rows(&mut names);
     let rows = clerk_done();
     clerk_message_rows(&mut names, &rows);

@@ -64,8 +64,9 @@ pub fn of_name(views: &[View], identifier: Option<Identifier>, place: usize) -> 
 
 /// Why a record does not fit a message; all reasons.
 pub fn misfits(view: &View, message: &Message) -> Vec<&'static str> {
-    let Some(told) = &message.elements else {
-        return vec!["no elements"];
+    let told = match &message.elements {
+        Some(told) => told,
+        None => return vec!["no elements"],
     };
     let held = &view.elements;
     let both_given = !held.number_a.is_empty() && !told.number_a.is_empty();

@@ -1,6 +1,6 @@
 //! Names the rows that one played entry reached.
 
-use super::{observed_clerk, observed_codec, observed_line, observed_meant};
+use super::{observed_clerk, observed_codec, observed_line, observed_meant, observed_ticks};
 use crate::codec::{read_message, Message};
 use crate::outcome::{Outcome, GUARD, T1, T2, T3};
 use crate::script::{Answer, Entry, Session};
@@ -10,31 +10,51 @@ pub fn names(before: &Session, entry: &Entry, answer: &Answer, after: &Session) 
     if let Entry::Write { bytes, place, size } = entry {
         return observed_codec::names(bytes, *place, *size, answer);
     }
-    let Answer::Step { outcome, left, fault_place } = answer else {
-        return Vec::new();
-    };
+    if let Entry::Count(count) = entry {
+        return vec![format!("count: {}", observed_ticks::count_name(before.count, *count))];
+    }
     let desk = if is_at_clerk(entry) { "clerk" } else { "line" };
+    let names = match answer {
+        Answer::Step { outcome, left, fault_place } => step_names(before, entry, outcome, *left, *fault_place, after),
+        Answer::Ticked { told, buffer } => observed_ticks::tick_names(before, entry, told, buffer, after),
+        _ => return Vec::new(),
+    };
+    names.iter().map(|name| format!("{desk}: {name}")).collect()
+}
+
+fn step_names(
+    before: &Session,
+    entry: &Entry,
+    outcome: &Outcome,
+    left: usize,
+    fault_place: Option<usize>,
+    after: &Session,
+) -> Vec<String> {
     let mut names = match refused_bytes(entry) {
-        Some(bytes) => vec![refused_bytes_name(bytes, outcome, *fault_place)],
+        Some(bytes) => vec![refused_bytes_name(bytes, outcome, fault_place)],
         None if is_at_clerk(entry) => observed_clerk::names(&before.clerk, entry, outcome, &after.clerk),
         None => observed_line::names(&before.line, entry, outcome, &after.line),
     };
     if fault_place.is_some() && refused_bytes(entry).is_none() {
         names.push("a place, and no bytes were refused".to_string());
     }
+    if let Entry::StartClerk(lengths) = entry {
+        names.extend(observed_ticks::start_names(before, lengths, outcome, after));
+    }
     names.extend(observed_meant::names(before, entry, outcome, after));
-    names.extend(left_names(entry, outcome, *left));
+    names.extend(observed_ticks::step_names(before, entry, outcome, after));
+    names.extend(left_names(entry, outcome, left));
     names.extend(deletion_name(before, entry, outcome, after));
     if let Some(refusal) = outcome.refusal {
         names.push(format!("refusal {}", refusal.number()));
     }
-    names.iter().map(|name| format!("{desk}: {name}")).collect()
+    names
 }
 
 pub fn is_at_clerk(entry: &Entry) -> bool {
     matches!(
         entry,
-        Entry::StartClerk
+        Entry::StartClerk(_)
             | Entry::Ask(_)
             | Entry::ToClerk { .. }
             | Entry::Accept(_)
@@ -42,6 +62,7 @@ pub fn is_at_clerk(entry: &Entry) -> bool {
             | Entry::UserCancels(_)
             | Entry::TimerRunsOut(_, _)
             | Entry::FellAtClerk(_)
+            | Entry::TickAtClerk { .. }
     )
 }
 
@@ -93,7 +114,7 @@ fn is_gone<R: Clone + PartialEq>(old: &[R], new: &[R], place: usize) -> bool {
 /// Where the record stood that is gone: a delete has to close the gap, and to leave
 /// all others as they were.
 fn deletion_name(before: &Session, entry: &Entry, outcome: &Outcome, after: &Session) -> Option<String> {
-    if matches!(entry, Entry::StartClerk | Entry::StartLine { .. }) {
+    if matches!(entry, Entry::StartClerk(_) | Entry::StartLine { .. }) {
         return None;
     }
     let (old, new) = match is_at_clerk(entry) {

@@ -9,8 +9,9 @@ use crate::outcome::Outcome;
 use crate::script::Entry;
 
 fn state(desk: &ClerkDesk, about: Option<usize>) -> String {
-    let Some(record) = about.and_then(|place| desk.records.get(place)) else {
-        return "no record".to_string();
+    let record = match about.and_then(|place| desk.records.get(place)) {
+        Some(record) => record,
+        None => return "no record".to_string(),
     };
     match record.connection {
         Some(choice) => format!("{} {}{}", record.state.name(), choice.name(), down_mark(record.down)),
@@ -31,8 +32,9 @@ impl Seen<'_> {
     /// "busy again" the kind.
     fn state_after(&self, content: Option<&Content>) -> String {
         let record = self.meaning.about.and_then(|place| self.after.records.get(place));
-        let Some(record) = record.filter(|_| self.after.records.len() == self.before.records.len()) else {
-            return "deleted".to_string();
+        let record = match record.filter(|_| self.after.records.len() == self.before.records.len()) {
+            Some(record) => record,
+            None => return "deleted".to_string(),
         };
         let state = state(self.after, self.meaning.about);
         match (content, record.keep) {
@@ -95,7 +97,6 @@ pub fn names(before: &ClerkDesk, entry: &Entry, outcome: &Outcome, after: &Clerk
         return vec![seen(meaning).name(&input, "", None)];
     }
     match entry {
-        Entry::StartClerk => vec!["start".to_string()],
         Entry::Ask(ask) => {
             let mut names = vec![ask_name(before, ask, outcome)];
             names.extend(ask_edges(before, ask, outcome));

@@ -202,8 +202,9 @@ fn element_names(name: &str, elements: &Elements) -> Vec<String> {
 }
 
 fn written_names(bytes: &[u8], name: &str) -> Vec<String> {
-    let Ok((message, rest)) = read_message(bytes) else {
-        return vec!["written and not read".to_string()];
+    let (message, rest) = match read_message(bytes) {
+        Ok((message, rest)) => (message, rest),
+        _ => return vec!["written and not read".to_string()],
     };
     let named = if message.identifier.is_some() { "an identifier" } else { "no identifier" };
     let mut names = vec![format!("{} in {}, {named}", message.content.name(), message.carrier.name())];
@@ -220,8 +221,9 @@ fn written_names(bytes: &[u8], name: &str) -> Vec<String> {
 }
 
 fn room_names(name: &str, length: usize, place: usize, size: usize) -> Vec<String> {
-    let Some(room) = size.checked_sub(place) else {
-        return vec![format!("{name}: place past the end")];
+    let room = match size.checked_sub(place) {
+        Some(room) => room,
+        None => return vec![format!("{name}: place past the end")],
     };
     let at = if place == 0 { "at place 0" } else { "at a later place" };
     let mut names = vec![match room {
@@ -239,8 +241,9 @@ fn room_names(name: &str, length: usize, place: usize, size: usize) -> Vec<Strin
 
 /// The rows of bytes that were written, or had no room.
 fn message_names(bytes: &[u8], name: &str, rooms: Vec<String>, answer: &Answer) -> Vec<String> {
-    let Answer::Written { refusal, fault_place, .. } = answer else {
-        return Vec::new();
+    let (refusal, fault_place) = match answer {
+        Answer::Written { refusal, fault_place, .. } => (refusal, fault_place),
+        _ => return Vec::new(),
     };
     let mut names = rooms;
     if *refusal == 0 {
@@ -253,8 +256,9 @@ fn message_names(bytes: &[u8], name: &str, rooms: Vec<String>, answer: &Answer) 
 
 /// The rows of bytes that hold no message.
 fn refused_names(bytes: &[u8], room: Option<usize>, answer: &Answer) -> Vec<String> {
-    let Answer::Written { refusal, fault_place, .. } = answer else {
-        return Vec::new();
+    let (refusal, fault_place) = match answer {
+        Answer::Written { refusal, fault_place, .. } => (refusal, fault_place),
+        _ => return Vec::new(),
     };
     let mut names = vec![fault_name(bytes, *refusal, *fault_place)];
     match room {

@@ -9,8 +9,9 @@ use crate::outcome::{Kind, Outcome};
 use crate::script::Entry;
 
 fn state(desk: &LineDesk, about: Option<usize>) -> String {
-    let Some(record) = about.and_then(|place| desk.records.get(place)) else {
-        return "no record".to_string();
+    let record = match about.and_then(|place| desk.records.get(place)) {
+        Some(record) => record,
+        None => return "no record".to_string(),
     };
     let suspended = if record.suspended { " suspended" } else { "" };
     format!("{} {}{}{}", record.state.name(), record.connection.name(), down_mark(record.down), suspended)
@@ -161,7 +162,7 @@ fn start_edge(lines: &[line::Line], outcome: &Outcome) -> Option<String> {
     let first_fault = lines.iter().find(|l| digits_fault(&l.digits, 1).is_some());
     let met = match outcome.refusal {
         None => longest == 15,
-        Some(_) => lines.len() <= 16 && first_fault.is_some_and(|l| l.digits.len() == 16),
+        Some(_) => lines.len() <= 16 && first_fault.map_or(false, |l| l.digits.len() == 16),
     };
     met.then(|| format!("start: a line of {longest} digits: {}", edge_outcome(outcome)))
 }
@@ -314,15 +315,19 @@ fn look_names(before: &LineDesk, digits: &[u8], outcome: &Outcome) -> Vec<String
         return vec![format!("Look: {}: {}", unknown_digits(digits), outcome_text(outcome, ""))];
     }
     let records: Vec<&line::Record> = before.records.iter().filter(|r| r.number_b == digits).collect();
-    let Some(offered) = outcome.at.and_then(|place| before.records.get(place)) else {
-        let reason = nothing_reason(&records, before.line_busy(digits));
-        return vec![format!("Look: {reason}: {}", outcome_text(outcome, ""))];
+    let offered = match outcome.at.and_then(|place| before.records.get(place)) {
+        Some(offered) => offered,
+        None => {
+            let reason = nothing_reason(&records, before.line_busy(digits));
+            return vec![format!("Look: {reason}: {}", outcome_text(outcome, ""))];
+        }
     };
-    let Some(place) = records.iter().position(|r| std::ptr::eq(*r, offered)) else {
-        return vec!["Look: offers a record of another line".to_string()];
+    let place = match records.iter().position(|r| std::ptr::eq(*r, offered)) {
+        Some(place) => place,
+        None => return vec!["Look: offers a record of another line".to_string()],
     };
     let mut names = offer_names(&records, place, outcome);
-    if records.get(place).is_some_and(|record| is_converted(before, record)) {
+    if records.get(place).map_or(false, |record| is_converted(before, record)) {
         names.push("a record made CCBS: Look: offered".to_string());
     }
     names
@@ -330,8 +335,9 @@ fn look_names(before: &LineDesk, digits: &[u8], outcome: &Outcome) -> Vec<String
 
 fn offer_names(records: &[&line::Record], place: usize, outcome: &Outcome) -> Vec<String> {
     let (older, rest) = records.split_at(place);
-    let Some((record, younger)) = rest.split_first() else {
-        return Vec::new();
+    let (record, younger) = match rest.split_first() {
+        Some((record, younger)) => (record, younger),
+        None => return Vec::new(),
     };
     let kind = record.kind.name();
     let choice = format!("{}{}", record.connection.name(), down_mark(record.down));

@@ -149,7 +149,7 @@ fn expected_at(
 fn alters_others(before: &Session, entry: &Entry, outcome: &Outcome, after: &Session) -> bool {
     let at = outcome.at.unwrap_or(usize::MAX);
     match entry {
-        Entry::Report { .. } | Entry::StartLine { .. } | Entry::StartClerk => false,
+        Entry::Report { .. } | Entry::StartLine { .. } | Entry::StartClerk(_) => false,
         _ if is_at_clerk(entry) => differ_beside(&before.clerk.records, &after.clerk.records, at),
         _ => differ_beside(&before.line.records, &after.line.records, at),
     }
@@ -199,7 +199,7 @@ fn naming_name(desk: &Desk, label: &str, meaning: &Meaning, place: usize, outcom
     let place_text = desk.place_text(meaning.about, place);
     match (meaning.how, meaning.about, refusal) {
         (BY_PLACE, Some(about), None) => {
-            let named = desk.views.get(about).is_some_and(|view| view.identifier.is_some());
+            let named = desk.views.get(about).map_or(false, |view| view.identifier.is_some());
             let which = if named { "with an identifier" } else { "without an identifier" };
             Some(format!("{label} by place: of a record {which}: taken"))
         }
@@ -240,8 +240,9 @@ fn judged(outcome: &Outcome) -> String {
 }
 
 fn fit_names(desk: &Desk, message: &Message, told: &Elements, meaning: &Meaning, outcome: &Outcome) -> Vec<String> {
-    let Some((about, view)) = meaning.about.and_then(|about| Some((about, desk.views.get(about)?))) else {
-        return Vec::new();
+    let (about, view) = match meaning.about.and_then(|about| Some((about, desk.views.get(about)?))) {
+        Some((about, view)) => (about, view),
+        None => return Vec::new(),
     };
     let content = message.content.name();
     let identifiers = match (message.identifier, view.identifier) {
@@ -291,8 +292,9 @@ fn missed_names(desk: &Desk, message: &Message, outcome: &Outcome) -> Vec<String
 
 /// "that one, whatever its elements and state".
 fn by_identifier_names(desk: &Desk, message: &Message, meaning: &Meaning, outcome: &Outcome) -> Vec<String> {
-    let Some((about, view)) = meaning.about.and_then(|about| Some((about, desk.views.get(about)?))) else {
-        return Vec::new();
+    let (about, view) = match meaning.about.and_then(|about| Some((about, desk.views.get(about)?))) {
+        Some((about, view)) => (about, view),
+        None => return Vec::new(),
     };
     let (content, judged) = (message.content.name(), judged(outcome));
     let reasons = misfits(view, message).into_iter().filter(|reason| *reason != "the identifier");
@@ -323,8 +325,9 @@ fn relation(identifier: Option<Identifier>, fields: &RequestFields, view: &View)
 /// A request that reached the test of duplicates, against each live record, or
 /// against the first that makes it one.
 fn request_names(desk: &Desk, message: &Message, place: usize, outcome: &Outcome) -> Vec<String> {
-    let (Content::CcbsRequest(fields) | Content::CcnrRequest(fields)) = &message.content else {
-        return Vec::new();
+    let fields = match &message.content {
+        Content::CcbsRequest(fields) | Content::CcnrRequest(fields) => fields,
+        _ => return Vec::new(),
     };
     let mut relations = desk.views.iter().map(|view| relation(message.identifier, fields, view));
     if outcome.starts != 0 {
@@ -336,7 +339,7 @@ fn request_names(desk: &Desk, message: &Message, place: usize, outcome: &Outcome
         return names;
     }
     let short = |sent: &Message| sent.content == Content::RequestError { error: SHORT };
-    if !outcome.message.as_ref().is_some_and(short) {
+    if !outcome.message.as_ref().map_or(false, short) {
         return Vec::new();
     }
     let first = relations.find(|(_, duplicate)| *duplicate);

@@ -16,13 +16,19 @@ enum Field {
     Choice(&'static str, u8, u8),
     /// "count C, C times (digits, kinds ..)".
     Lines,
+    /// A number of four bytes, of any value.
+    Four,
+    /// "room, two bytes, 0 to 2048 (more is a choice that is not listed)".
+    Room,
 }
 
-use Field::{Byte, Choice, Counted, Identifier, Lines};
+use Field::{Byte, Choice, Counted, Four, Identifier, Lines, Room};
 
 /// The codes of entries that have fields.
-const LAYOUTS: [(u8, &[Field]); 15] = [
+const LAYOUTS: [(u8, &[Field]); 19] = [
     (1, &[Lines, Choice("settings", 0, 3)]),
+    (2, &[Four, Four, Four, Four]),
+    (3, &[Four]),
     (16, &[Identifier, Choice("kind", 1, 2), Counted, Counted, Byte, Byte, Choice("can-keep", 0, 1), Byte]),
     (17, &[Choice("User A busy", 0, 1), Byte, Counted]),
     (18, &[Identifier, Byte]),
@@ -30,24 +36,28 @@ const LAYOUTS: [(u8, &[Field]); 15] = [
     (20, &[Identifier, Byte]),
     (21, &[Identifier, Byte, Choice("timer", 1, 3)]),
     (22, &[Identifier, Byte]),
+    (23, &[Room]),
     (32, &[Byte, Counted]),
     (33, &[Counted, Choice("busy or free", 0, 1)]),
     (34, &[Counted]),
     (35, &[Identifier, Byte, Choice("act", 1, 3)]),
     (36, &[Identifier, Byte]),
     (37, &[Identifier, Byte]),
+    (38, &[Room]),
     (48, &[Counted, Byte, Byte]),
 ];
 
 const KINDS: &str = "kinds";
 const LENGTH: &str = "identifier's length";
+const ROOM: &str = "room";
 
 fn choice_of(field: &Field) -> Option<&'static str> {
     match field {
         Identifier => Some(LENGTH),
         Choice(name, _, _) => Some(name),
         Lines => Some(KINDS),
-        Byte | Counted => None,
+        Room => Some(ROOM),
+        Byte | Counted | Four => None,
     }
 }
 
@@ -91,6 +101,14 @@ fn walk(field: Field, bytes: &[u8]) -> Result<&[u8], Stop> {
             }
             Ok(rest)
         }
+        Four => skip(rest, 3),
+        Room => {
+            let (high, rest) = first(rest)?;
+            match (high, value) {
+                (0..=7, _) | (8, 0) => Ok(rest),
+                _ => Err(Stop::NotListed(ROOM)),
+            }
+        }
     }
 }
 
@@ -98,8 +116,9 @@ fn walk(field: Field, bytes: &[u8]) -> Result<&[u8], Stop> {
 /// makes a name that is not listed.
 pub fn name(rest: &[u8]) -> String {
     let code = rest.first().copied().unwrap_or(0);
-    let Some((_, fields)) = LAYOUTS.iter().find(|(listed, _)| *listed == code) else {
-        return "stop: code not listed".to_string();
+    let fields = match LAYOUTS.iter().find(|(listed, _)| *listed == code) {
+        Some((_, fields)) => fields,
+        None => return "stop: code not listed".to_string(),
     };
     let mut bytes = rest.get(1..).unwrap_or(&[]);
     for field in *fields {

@@ -5,7 +5,8 @@
 //! no message changes, so that every entry stands for itself; `bad_bytes` of
 //! clerk.rs and line.rs has a record live that the bytes speak of.
 
-use super::{codec, start_line, to_clerk, to_line, Scripts, PRINT_CLERK, PRINT_LINE, START_CLERK};
+use super::{codec, start_clerk, start_line, to_clerk, to_line, Scripts, PRINT_CLERK, PRINT_LINE};
+use crate::timers::Lengths;
 
 /// A desk that holds nothing: how it is started, handed bytes and printed.
 struct EmptyDesk {
@@ -41,7 +42,7 @@ impl EmptyDesk {
 
 pub fn at_clerk(scripts: &mut Scripts) {
     let hand_in = |bytes: &[u8]| to_clerk(false, 0, bytes);
-    EmptyDesk { start: vec![START_CLERK], hand_in, print: PRINT_CLERK }.add_all(scripts);
+    EmptyDesk { start: start_clerk(Lengths::default()), hand_in, print: PRINT_CLERK }.add_all(scripts);
 }
 
 /// Without lines every request gets a long error, which stores nothing.

@@ -1,9 +1,9 @@
 //! Directed scripts for the clerk's desk.
 
 use super::{
-    bad_input, bytes_of, clerk_meant, contents_without_requests, damaged, elements, request_content, requests_on_edges,
-    spread_identifier, to_clerk, with_choice, with_name, AskEntry, Case, Scripts, Who, ACCEPT, FELL_AT_CLERK, TIMER,
-    USER_A_FREE, USER_CANCELS,
+    bad_input, bytes_of, clerk_meant, clerk_ticks, contents_without_requests, damaged, elements, request_content,
+    requests_on_edges, spread_identifier, to_clerk, with_choice, with_name, AskEntry, Case, Scripts, Who, ACCEPT,
+    FELL_AT_CLERK, TIMER, USER_A_FREE, USER_CANCELS,
 };
 use crate::codec::{Carrier, Content, Identifier};
 use crate::outcome::{Connection, Kind};
@@ -23,7 +23,7 @@ pub enum Road {
     Suspended,
 }
 
-const ACKNOWLEDGED_ROADS: [Road; 8] = [
+pub const ACKNOWLEDGED_ROADS: [Road; 8] = [
     Road::Invoked,
     Road::InvokedAfterResume,
     Road::InvokedAfterBusyAgain,
@@ -60,7 +60,7 @@ pub const NUMBER_A: [u8; 3] = [2, 0, 1];
 pub const NUMBER_B: [u8; 2] = [7, 5];
 pub const SERVICE: u16 = 300;
 
-fn ask(who: Who, choices: Choices) -> Vec<u8> {
+pub fn ask(who: Who, choices: Choices) -> Vec<u8> {
     let withheld = choices.keep == 1 && choices.connection == Connection::Rls;
     AskEntry {
         identifier: who.identifier,
@@ -92,7 +92,7 @@ pub fn result(who: Who, choices: Choices) -> Vec<u8> {
 }
 
 /// In the carrier that the other end sends by, which has seen the fall too.
-fn offer(who: Who, choices: Choices, user_a_busy: bool) -> Vec<u8> {
+pub fn offer(who: Who, choices: Choices, user_a_busy: bool) -> Vec<u8> {
     let carrier = choices.connection.for_sending(choices.down).facility_or_setup();
     to_clerk(user_a_busy, who.place, &message(carrier, who, Content::CcExecPossible))
 }
@@ -601,5 +601,6 @@ pub fn scripts() -> Scripts {
     refused_in_a_row(&mut scripts, Who::seed(40));
     refused_in_a_row(&mut scripts, Who::at(0));
     clerk_meant::add(&mut scripts);
+    clerk_ticks::add(&mut scripts);
     scripts
 }

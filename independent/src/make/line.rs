@@ -1,16 +1,16 @@
 //! Directed scripts for the line desk.
 
 use super::{
-    bad_input, bytes_of, contents_without_requests, damaged, elements, line_meant, look, report, request_content,
-    requests_on_edges, start_line, to_line, with_choice, with_name, Case, Scripts, Who, ACT, FELL_AT_LINE,
-    GUARD_RUNS_OUT,
+    bad_input, bytes_of, contents_without_requests, damaged, elements, line_meant, line_ticks, look, report,
+    request_content, requests_on_edges, start_line, to_line, with_choice, with_name, Case, Scripts, Who, ACT,
+    FELL_AT_LINE, GUARD_RUNS_OUT,
 };
 use crate::codec::{Carrier, Content};
 use crate::outcome::{Connection, Kind};
 
 pub const ONE: [u8; 1] = [1];
 pub const TWO: [u8; 2] = [1, 2];
-const NUMBER_A: [u8; 3] = [4, 0, 4];
+pub const NUMBER_A: [u8; 3] = [4, 0, 4];
 pub const SERVICE: u32 = 300;
 
 /// Both lines allow both kinds; the number of one begins the other's.
@@ -33,7 +33,7 @@ pub fn request(who: Who, kind: Kind, number_a: &[u8], number_b: &[u8], flags: u3
 
 /// How a record comes to its state: each state, by each road that leads there.
 #[derive(Clone, Copy, PartialEq)]
-enum Road {
+pub enum Road {
     NoRecord,
     Invoked,
     InvokedActive,
@@ -45,7 +45,7 @@ enum Road {
     AlertFromSuspended,
 }
 
-const ROADS: [Road; 9] = [
+pub const ROADS: [Road; 9] = [
     Road::NoRecord,
     Road::Invoked,
     Road::InvokedActive,
@@ -59,14 +59,14 @@ const ROADS: [Road; 9] = [
 
 /// What is chosen for a record; whether the connection falls behind the answer.
 #[derive(Clone, Copy)]
-struct Choices {
-    kind: Kind,
-    keep: bool,
-    connection: Connection,
-    down: bool,
+pub struct Choices {
+    pub kind: Kind,
+    pub keep: bool,
+    pub connection: Connection,
+    pub down: bool,
 }
 
-fn all_choices() -> Vec<Choices> {
+pub fn all_choices() -> Vec<Choices> {
     let mut choices = Vec::new();
     for kind in [Kind::Ccbs, Kind::Ccnr].iter() {
         for keep in [false, true].iter() {
@@ -80,7 +80,7 @@ fn all_choices() -> Vec<Choices> {
 
 /// The desk's settings: it keeps where keep is chosen, and its default is the
 /// other connection, so that the preference is what decides.
-fn settings(choices: Choices) -> u8 {
+pub fn settings(choices: Choices) -> u8 {
     let default = match choices.connection {
         Connection::Ret => 0,
         Connection::Rls => 2,
@@ -88,7 +88,7 @@ fn settings(choices: Choices) -> u8 {
     u8::from(choices.keep) + default
 }
 
-fn flags(choices: Choices) -> u32 {
+pub fn flags(choices: Choices) -> u32 {
     1 + 2 * choices.connection.number()
 }
 
@@ -120,6 +120,11 @@ fn drive(case: &mut Case, road: Road, who: Who, choices: Choices) {
         return;
     }
     case.step(&request(who, choices.kind, &NUMBER_A, &ONE, flags(choices)));
+    behind_the_request(case, road, who, choices);
+}
+
+/// The steps behind the accepted request that make up a road.
+pub fn behind_the_request(case: &mut Case, road: Road, who: Who, choices: Choices) {
     if choices.down {
         case.step(&with_name(FELL_AT_LINE, who));
     }
@@ -274,7 +279,7 @@ fn every_state_nameless(scripts: &mut Scripts) {
 }
 
 /// Both kinds, keep and not, of records whose connection has fallen.
-fn fallen_choices() -> Vec<Choices> {
+pub fn fallen_choices() -> Vec<Choices> {
     let retained = all_choices().into_iter().filter(|c| c.connection == Connection::Ret);
     retained.map(|choices| Choices { down: true, ..choices }).collect()
 }
@@ -507,7 +512,7 @@ fn remove(case: &mut Case, who: Who, which: u8) {
 }
 
 /// Sixteen lines; the last allows CCBS alone, the last but one CCNR alone.
-fn sixteen_lines() -> Vec<(Vec<u8>, u8)> {
+pub fn sixteen_lines() -> Vec<(Vec<u8>, u8)> {
     let kinds = |n: u8| match n {
         14 => 2,
         15 => 1,
@@ -516,7 +521,7 @@ fn sixteen_lines() -> Vec<(Vec<u8>, u8)> {
     (0..16).map(|n| (line_digits(n).to_vec(), kinds(n))).collect()
 }
 
-fn line_digits(n: u8) -> [u8; 2] {
+pub fn line_digits(n: u8) -> [u8; 2] {
     [n / 10, n % 10]
 }
 
@@ -770,5 +775,6 @@ pub fn scripts() -> Scripts {
     refused_in_a_row(&mut scripts, Who::seed(40));
     refused_in_a_row(&mut scripts, Who::at(0));
     line_meant::add(&mut scripts);
+    line_ticks::add(&mut scripts);
     scripts
 }

@@ -1,6 +1,7 @@
 //! Random scripts: two desks over two wires, played inside the generator, so
 //! that deep states are reached.
 
+mod clock;
 mod dice;
 mod host;
 #[cfg(test)]
@@ -12,7 +13,7 @@ use super::codec::FORMS;
 use super::{
     bytes_of, contents_without_requests, look, report, request_content, start_line, to_clerk, to_line, with_choice,
     with_name, write_entry, AskEntry, Scripts, ACCEPT, ACT, FELL_AT_CLERK, FELL_AT_LINE, GUARD_RUNS_OUT, PRINT_CLERK,
-    PRINT_LINE, START_CLERK, TIMER, USER_A_FREE, USER_CANCELS,
+    PRINT_LINE, TIMER, USER_A_FREE, USER_CANCELS,
 };
 use crate::clerk;
 use crate::codec::{message_bytes, Carrier, Content, Identifier};
@@ -49,11 +50,14 @@ enum Move {
     BadNumber,
     BadBytes,
     Restart,
+    Clock,
+    TickAtClerk,
+    TickAtLine,
     Write,
     Print,
 }
 
-const MOVES: [(Move, [usize; 3]); 19] = [
+const MOVES: [(Move, [usize; 3]); 22] = [
     (Move::Ask, [16, 40, 14]),
     (Move::DeliverToLine, [80, 60, 50]),
     (Move::DeliverToClerk, [80, 60, 50]),
@@ -71,6 +75,9 @@ const MOVES: [(Move, [usize; 3]); 19] = [
     (Move::BadNumber, [1, 1, 2]),
     (Move::BadBytes, [2, 2, 12]),
     (Move::Restart, [0, 0, 1]),
+    (Move::Clock, [22, 16, 26]),
+    (Move::TickAtClerk, [5, 3, 7]),
+    (Move::TickAtLine, [5, 3, 6]),
     (Move::Write, [1, 1, 3]),
     (Move::Print, [25, 25, 25]),
 ];
@@ -149,22 +156,35 @@ impl Player {
         }
         if !self.scripts.has_room(entry.len()) {
             self.new_file();
-        }
-        self.left -= usize::from(self.left > 0);
-        self.scripts.add(entry);
-        let Some((parsed, _)) = take_entry(entry) else {
-            return;
-        };
-        let Answer::Step { outcome, .. } = self.session.play(&parsed) else {
-            return;
-        };
-        let origin = self.origins.follow(&self.session, &parsed, &outcome, origin);
-        if let Some(message) = outcome.message {
-            let wire = if host::is_at_line(&parsed) { &mut self.wire_to_clerk } else { &mut self.wire_to_line };
-            wire.push(Parcel { bytes: message_bytes(&message), origin });
-            if wire.len() > MOST_ON_WIRE {
-                wire.remove(0);
+            if self.left == 0 {
+                return;
             }
+        }
+        self.left -= 1;
+        self.scripts.add(entry);
+        let parsed = match take_entry(entry) {
+            Some((parsed, _)) => parsed,
+            None => return,
+        };
+        let line_end = host::is_at_line(&parsed);
+        match self.session.play(&parsed) {
+            Answer::Step { outcome, .. } => {
+                let origin = self.origins.follow(&self.session, &parsed, &outcome, origin);
+                if let Some(message) = outcome.message {
+                    self.put_on_wire(line_end, Parcel { bytes: message_bytes(&message), origin });
+                }
+            }
+            Answer::Ticked { told: Ok(ticked), buffer } => self.follow_tick(line_end, &ticked, &buffer),
+            _ => {}
+        }
+    }
+
+    /// What one end sends goes behind the last message of the wire to the other.
+    fn put_on_wire(&mut self, line_end: bool, parcel: Parcel) {
+        let wire = if line_end { &mut self.wire_to_clerk } else { &mut self.wire_to_line };
+        wire.push(parcel);
+        if wire.len() > MOST_ON_WIRE {
+            wire.remove(0);
         }
     }
 
@@ -175,8 +195,10 @@ impl Player {
         self.origins = Origins::default();
         self.wire_to_line.clear();
         self.wire_to_clerk.clear();
-        let start = self.some_start();
-        self.put(&start);
+        let starts = [self.some_start(), self.first_count(), self.some_start_of_clerk()];
+        for start in starts {
+            self.put(&start);
+        }
     }
 
     /// A start of the line desk, mostly a good one.
@@ -319,7 +341,7 @@ impl Player {
             Mood::Crowd => (10, Some(10)),
             Mood::Storm => (6, Some(3)),
         };
-        let any = shuffle.is_some_and(|times| self.dice.once_in(times));
+        let any = shuffle.map_or(false, |times| self.dice.once_in(times));
         let lost = self.dice.once_in(drop);
         let doubled = shuffle.is_some() && self.dice.once_in(25);
         let length = if to_the_line { self.wire_to_line.len() } else { self.wire_to_clerk.len() };
@@ -375,8 +397,9 @@ impl Player {
             Some(0) => bytes.get(3..),
             _ => None,
         };
-        let (Some(head), Some(behind)) = (bytes.get(..2), behind) else {
-            return bytes;
+        let (head, behind) = match (bytes.get(..2), behind) {
+            (Some(head), Some(behind)) => (head, behind),
+            _ => return bytes,
         };
         let identifier = if self.dice.once_in(3) { None } else { Some(self.some_identifier()) };
         [head, &super::id_bytes(&identifier), behind].concat()
@@ -384,8 +407,9 @@ impl Player {
 
     /// The host names the place of the message's own record, mostly.
     fn deliver(&mut self, to_the_line: bool) {
-        let Some(Parcel { bytes, origin }) = self.take_off(to_the_line) else {
-            return;
+        let (bytes, origin) = match self.take_off(to_the_line) {
+            Some(Parcel { bytes, origin }) => (bytes, origin),
+            _ => return,
         };
         let bytes = self.weather(bytes);
         let place = self.place_for(to_the_line, origin);
@@ -406,8 +430,9 @@ impl Player {
         }
         let at_clerk = self.origins.place(false, origin).and_then(|place| self.session.clerk.records.get(place));
         let at_line = self.origins.place(true, origin).and_then(|place| self.session.line.records.get(place));
-        let (Some(here), Some(there)) = (at_clerk, at_line) else {
-            return true;
+        let (here, there) = match (at_clerk, at_line) {
+            (Some(here), Some(there)) => (here, there),
+            _ => return true,
         };
         match here.state {
             clerk::State::WaitAck => true,
@@ -423,8 +448,9 @@ impl Player {
     /// others; M1: "a CC call that dies silently is handed in as type 12".
     fn sensible_clerk_act(&mut self) {
         let place = self.dice.below(self.session.clerk.records.len());
-        let Some(record) = self.session.clerk.records.get(place) else {
-            return;
+        let record = match self.session.clerk.records.get(place) {
+            Some(record) => record,
+            None => return,
         };
         let (state, stuck) = (record.state, self.is_stuck(self.origins.of(false, place)));
         let id = self.who_at(false, place);
@@ -450,8 +476,9 @@ impl Player {
 
     fn sensible_line_act(&mut self) {
         let place = self.dice.below(self.session.line.records.len());
-        let Some(record) = self.session.line.records.get(place) else {
-            return;
+        let record = match self.session.line.records.get(place) {
+            Some(record) => record,
+            None => return,
         };
         let (state, stuck) = (record.state, self.is_stuck(self.origins.of(true, place)));
         let id = self.who_at(true, place);
@@ -633,11 +660,11 @@ impl Player {
         self.put(&entry);
     }
 
-    /// A desk is started anew, the line desk sometimes in vain.
+    /// A desk is started anew, sometimes in vain.
     fn restart(&mut self) {
         let nothing: [(Vec<u8>, u8); 0] = [];
         let entry = match self.dice.below(24) {
-            0..=3 => vec![START_CLERK],
+            0..=3 => self.some_start_of_clerk(),
             4..=7 => self.some_start(),
             8 => start_line(&nothing, 3),
             9..=12 => start_line(&[([1, 1], 3), ([1, 10], 3)], 0),
@@ -721,6 +748,9 @@ impl Player {
             Move::BadNumber => self.bad_number(),
             Move::BadBytes => self.bad_bytes(),
             Move::Restart => self.restart(),
+            Move::Clock => self.clock(),
+            Move::TickAtClerk => self.tick(false),
+            Move::TickAtLine => self.tick(true),
             Move::Write => self.write(),
             Move::Print => self.print(),
         }

@@ -3,12 +3,14 @@
 //! the play, so each stands in a file of its own.
 
 use super::{
-    bytes_of, elements, look, report, spread_identifier, start_line, to_clerk, to_line, with_choice, with_name,
-    write_entry, AskEntry, Scripts, Who, ACCEPT, ACT, FELL_AT_CLERK, FELL_AT_LINE, GUARD_RUNS_OUT, PRINT_CLERK,
-    PRINT_LINE, START_CLERK, TIMER, USER_A_FREE, USER_CANCELS,
+    bytes_of, count, elements, look, report, spread_identifier, start_clerk, start_line, tick, to_clerk, to_line,
+    with_choice, with_name, write_entry, AskEntry, Scripts, Who, ACCEPT, ACT, FELL_AT_CLERK, FELL_AT_LINE,
+    GUARD_RUNS_OUT, PRINT_CLERK, PRINT_LINE, TICK_AT_CLERK, TICK_AT_LINE, TIMER, USER_A_FREE, USER_CANCELS,
 };
 use crate::codec::{Carrier, Content};
 use crate::outcome::Kind;
+use crate::script::MOST_ROOM;
+use crate::timers::Lengths;
 
 fn an_ask() -> AskEntry<'static> {
     AskEntry {
@@ -41,6 +43,10 @@ fn samples() -> Vec<Vec<u8>> {
     let identifier = Some(spread_identifier(1));
     let message = bytes_of(Carrier::ReleaseComplete, identifier, Content::CcCancel, &elements(&[], &[3], 0));
     let mut samples = vec![
+        start_clerk(Lengths::default()),
+        count(0x0403_0201),
+        tick(TICK_AT_CLERK, 5),
+        tick(TICK_AT_LINE, MOST_ROOM as u16),
         start_line(&[([1, 2], 3), ([3, 4], 1)], 3),
         an_ask().bytes(),
         AskEntry { identifier: None, ..an_ask() }.bytes(),
@@ -87,6 +93,10 @@ fn bad_choices() -> Vec<Vec<u8>> {
         entries.push(vec![17, *bad, 0, 0]);
         entries.push(vec![33, 1, 1, *bad]);
     }
+    for room in [2049, 2050, 2304, 4096, 32768, 65535] {
+        entries.push(tick(TICK_AT_CLERK, room));
+        entries.push(tick(TICK_AT_LINE, room));
+    }
     entries.push(with_choice(TIMER, Who::seed(1), 0));
     entries.push(with_choice(ACT, Who::seed(1), 0));
     for (place, values) in [(18, [0, 3, 255]), (26, [2, 3, 255])].iter() {
@@ -107,7 +117,7 @@ fn bad_choices() -> Vec<Vec<u8>> {
 /// A stopping script: some entries that are played, the one that stops, and
 /// more behind it that must not be played.
 fn add(scripts: &mut Scripts, stopping: &[u8], behind: &[u8]) {
-    let mut script = vec![START_CLERK];
+    let mut script = start_clerk(Lengths::default());
     script.extend(start_line(&[([1, 2], 3)], 1));
     script.extend(an_ask().bytes());
     script.extend([PRINT_CLERK, PRINT_LINE]);
@@ -139,7 +149,7 @@ pub fn scripts() -> Scripts {
     for entry in bad_choices() {
         add(&mut scripts, &entry, &[PRINT_CLERK, PRINT_LINE]);
     }
-    let unlisted = [0, 3, 4, 15, 23, 31, 38, 40, 41, 47, 49, 50, 63, 66, 80, 127, 128, 129, 144, 160, 176, 192, 255];
+    let unlisted = [0, 4, 15, 24, 31, 39, 40, 41, 47, 49, 50, 63, 66, 80, 127, 128, 129, 144, 160, 176, 192, 255];
     for code in unlisted.iter() {
         add(&mut scripts, &[*code], &[PRINT_CLERK, PRINT_LINE]);
     }

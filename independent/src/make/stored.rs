@@ -2,9 +2,11 @@
 //! makers, chosen greedily by new rows for their bytes. Nothing in it hangs on
 //! a clock or on chance, so that it has the same bytes each time.
 
-use super::{clerk, codec, count_entries, line, stop, PRINT_CLERK, PRINT_LINE, START_CLERK};
+use super::{
+    clerk, clerk_ticks, codec, count, count_entries, line, line_ticks, stop, PRINT_CLERK, PRINT_LINE, START_CLERK,
+};
 use crate::coverage::{is_at_clerk, Coverage};
-use crate::script::{play_script, take_entry, Answer, Entry, Session};
+use crate::script::{play_script, take_entry, Entry, Session};
 use std::cmp::Reverse;
 use std::collections::BinaryHeap;
 use std::fs;
@@ -87,8 +89,9 @@ fn choose(candidates: &[Candidate], rows: usize) -> Vec<usize> {
     let mut heap: BinaryHeap<(usize, Reverse<usize>)> = first_worths.collect();
     let mut chosen = Vec::new();
     while let Some((old, Reverse(place))) = heap.pop() {
-        let Some(candidate) = candidates.get(place) else {
-            continue;
+        let candidate = match candidates.get(place) {
+            Some(candidate) => candidate,
+            None => continue,
         };
         let now = worth(candidate, &reached);
         if now < old {
@@ -119,16 +122,28 @@ impl Stored {
         let candidates = candidates(&coverage);
         let chosen = choose(&candidates, coverage.all_rows());
         let mut session = Session::default();
-        let mut script = Vec::new();
+        // What there is before any start: at the clerk's desk here, at the line desk
+        // in the first case.
+        let mut script = clerk_ticks::opening();
+        for step in steps(&script) {
+            coverage.step(&mut session, &step.entry);
+        }
         let mut cases = 0;
         for candidate in chosen.iter().filter_map(|place| candidates.get(*place)) {
-            let (kept, after) = lean_case(&mut coverage, &session, &candidate.bytes);
+            // A case begins with the count at 0, as it was looked at.
+            let case = if session.count == 0 { Vec::new() } else { count(0) };
+            let (kept, after) = lean_case(&mut coverage, &session, &[case, candidate.bytes.clone()].concat());
             if let Some(bytes) = kept {
                 script.extend(bytes);
                 session = after;
                 cases += 1;
             }
         }
+        let closing = line_ticks::closing();
+        for step in steps(&closing) {
+            coverage.step(&mut session, &step.entry);
+        }
+        script.extend(closing);
         let ending = stop::ending();
         coverage.note_stop(&ending);
         script.extend(ending);
@@ -162,7 +177,7 @@ impl Stored {
 
     pub fn save(&self, file: &Path) -> io::Result<String> {
         if let Some(fault) = self.fault() {
-            return Err(io::Error::other(fault));
+            return Err(io::Error::new(io::ErrorKind::Other, fault));
         }
         fs::write(file, &self.script)?;
         let (reached, all) = self.coverage.reached_of_tables();
@@ -178,29 +193,27 @@ impl Stored {
     }
 }
 
-/// The print of the desk that an entry is at; a write is at none.
+/// The print of the desk that an entry is at; a write and the count are at none.
 fn print_of(entry: &Entry) -> Option<u8> {
     match entry {
-        Entry::Write { .. } | Entry::PrintClerk | Entry::PrintLine => None,
+        Entry::Write { .. } | Entry::Count(_) | Entry::PrintClerk | Entry::PrintLine => None,
         entry if is_at_clerk(entry) => Some(PRINT_CLERK),
         _ => Some(PRINT_LINE),
     }
 }
 
-fn is_refused(answer: &Answer) -> bool {
-    matches!(answer, Answer::Step { outcome, .. } if outcome.refusal.is_some())
-}
-
 /// Plays a case behind what was played before and gives it up to the last entry
 /// that reaches a row for the first time, with a print behind each such entry and no
-/// other; nothing where no entry does. Of the others those that are refused are left
-/// out, as they change nothing. The session behind it comes with it.
+/// other; nothing where no entry does. Of the others those that change nothing are left
+/// out: what is refused, a start of a desk that is as a start makes it. The session
+/// behind it comes with it.
 fn lean_case(coverage: &mut Coverage, before: &Session, case: &[u8]) -> (Option<Vec<u8>>, Session) {
     let (mut session, mut kept) = (before.clone(), before.clone());
     let (mut bytes, mut length) = (Vec::new(), 0);
     for step in steps(case) {
-        let (answer, new) = coverage.step(&mut session, &step.entry);
-        if new || !is_refused(&answer) {
+        let unplayed = session.clone();
+        let (_, new) = coverage.step(&mut session, &step.entry);
+        if new || session != unplayed {
             bytes.extend_from_slice(&step.bytes);
         }
         if new {
@@ -237,7 +250,8 @@ mod tests {
 
     #[test]
     fn a_print_belongs_to_the_entry_before_it() {
-        let steps = steps(&[START_CLERK, PRINT_CLERK, 34, 0, PRINT_LINE]);
+        let start = crate::make::start_clerk(Default::default());
+        let steps = steps(&[&start[..], &[PRINT_CLERK, 34, 0, PRINT_LINE]].concat());
         let prints: Vec<Option<u8>> = steps.iter().map(|step| step.print).collect();
         assert_eq!(prints, [Some(PRINT_CLERK), Some(PRINT_LINE)]);
     }

@@ -22,7 +22,7 @@ fn at_the_start_both_desks_are_empty() {
 fn stop_names_the_entry() {
     // "Where the script ends inside an entry, or an entry has a code or a
     // choice not listed here, the program prints `stop N`".
-    assert_eq!(played(&[2, 3]), "0 0 - 0 0 0 0 0 - -\nstop 1\n");
+    assert_eq!(played(&[3, 9, 9, 9, 9, 4]), "0 0 - 0 0 0 0 0 - -\nstop 1\n");
     assert_eq!(played(&[17, 0]), "stop 0\n");
     assert_eq!(played(&[17, 0, 255]), "stop 0\n");
     assert_eq!(played(&[17, 2, 255, 0]), "stop 0\n");
@@ -156,24 +156,24 @@ fn request_5_the_kind_is_printed_as_it_is_now() {
     let lines = lines_behind(&format!("{start} 40 {again} 40 {again} 40"), 2);
     let expected = [
         "2 c 1",
-        "c ID 2 - 5 0 1 1 1 2 0",
+        "c ID 2 - 5 0 1 1 1 2 0 - 3600 -",
         "3 0 - 4 0 4 0 0 - 0",
         "4 0 060110ID00010500 0 4 0 0 0 - 0",
         "5 0 - 0 0 10 0 0 - 0",
         "6 c 1",
-        "c ID 1 - 5 0 1 1 1 2 0",
+        "c ID 1 - 5 0 1 1 1 2 0 - 3600 -",
         "7 0 - 4 0 4 0 0 - 0",
         "8 0 060110ID00010500 0 4 0 0 0 - 0",
         "9 0 - 0 0 7 0 0 - 0",
         "10 c 1",
-        "c ID 1 - 5 0 1 1 1 2 0",
+        "c ID 1 - 5 0 1 1 1 2 0 - 3600 -",
     ];
     assert_eq!(lines, expected);
     // The line's end: a line that allows CCNR alone, busy at the request.
     let start = "01 01 01 05 02 03 21 01 05 01 20 ff 18 02 01 10 a0..af 00 01 05 00 01 21 01 05 00 22 01 05";
     let lines = lines_behind(&format!("{start} 21 01 05 01 20 ff 17 06 01 10 a0..af 00 01 05 00 41"), 5);
     let expected =
-        ["5 0 - 0 0 0 0 0 - -", "6 0 070410ID01 0 0 0 0 0 - 0", "7 l 1 1", "l 5 2 1", "r ID 1 - 5 0 1 1 1 1 0 0"];
+        ["5 0 - 0 0 0 0 0 - -", "6 0 070410ID01 0 0 0 0 0 - 0", "7 l 1 1", "l 5 2 1", "r ID 1 - 5 0 1 1 1 1 0 0 86460"];
     assert_eq!(lines, expected);
 }
 
@@ -191,7 +191,7 @@ fn request_11_the_connection_fell_at_both_ends() {
         format!("3 {nothing}"),
         format!("4 {nothing}"),
         "5 c 1".to_string(),
-        "c ID 1 - 5 0 1 1 1 2 1".to_string(),
+        "c ID 1 - 5 0 1 1 1 2 1 - 900 -".to_string(),
     ];
     assert_eq!(lines, expected);
     // A desk that keeps and retains; the offer then goes in Setup.
@@ -202,7 +202,7 @@ fn request_11_the_connection_fell_at_both_ends() {
         "3 0 050110ID00010500 0 0 0 0 0 - 0".to_string(),
         "4 l 1 1".to_string(),
         "l 5 3 0".to_string(),
-        "r ID 1 - 5 0 1 1 2 0 0 1".to_string(),
+        "r ID 1 - 5 0 1 1 2 0 0 1 3660".to_string(),
     ];
     assert_eq!(lines, expected);
 }
@@ -213,7 +213,7 @@ fn an_ask_and_a_print() {
     script.extend_from_slice(&[0x0F; 16]);
     script.extend_from_slice(&[1, 2, 4, 2, 1, 9, 0x2C, 0x01, 1, 2, 64]);
     let id = "0f".repeat(16);
-    let expected = format!("0 0 010110{id}0204020109ac0205 1 0 0 0 0 - 0\n1 c 1\nc {id} 1 42 9 300 1 - - 1 0\n");
+    let expected = format!("0 0 010110{id}0204020109ac0205 1 0 0 0 0 - 0\n1 c 1\nc {id} 1 42 9 300 1 - - 1 0 20 - -\n");
     assert_eq!(played(&script), expected);
     // Without an identifier, twice.
     let ask = "10 00 01 02 04 02 01 09 2c 01 01 02";
@@ -222,12 +222,109 @@ fn an_ask_and_a_print() {
         "0 0 0101000204020109ac0205 1 0 0 0 0 - 0",
         "1 0 0101000204020109ac0205 1 0 0 0 0 - 1",
         "2 c 2",
-        "c - 1 42 9 300 1 - - 1 0",
-        "c - 1 42 9 300 1 - - 1 0",
+        "c - 1 42 9 300 1 - - 1 0 20 - -",
+        "c - 1 42 9 300 1 - - 1 0 20 - -",
         "3 6 - 0 0 0 0 0 - -",
         "4 0 0a0400 0 1 9 0 0 - 0",
         "5 c 1",
-        "c - 1 42 9 300 1 - - 1 0",
+        "c - 1 42 9 300 1 - - 1 0 20 - -",
+    ];
+    assert_eq!(lines, expected);
+}
+
+/// REPLAY-02's example of request 6, as it stands there.
+#[test]
+fn the_example_of_request_6() {
+    assert_example(&[
+        ("02 14 00 00 00 3c 00 00 00 10 0e 00 00 0a 00 00 00", "0 0 - 0 0 0 0 0 - -"),
+        ("03 f6 ff ff ff", "1 0 - 0 0 0 0 0 - -"),
+        ("10 10 a0..af 01 02 01 02 03 03 00 00 22 00 01 00", "2 0 010110a0..af020102030300002201 1 0 0 0 0 - 0"),
+        ("10 00 01 02 01 02 03 03 00 00 22 00 01 00", "3 0 010100020102030300002201 1 0 0 0 0 - 1"),
+        ("11 00 ff 14 03 04 10 a0..af 01", "4 0 - 2 1 1 0 0 - 0"),
+        ("40", "5 c 2\nc a0..af 1 12 300 34 1 1 2 2 0 - 50 -\nc - 1 12 300 34 1 - - 1 0 10 - -"),
+        ("03 0a 00 00 00", "6 0 - 0 0 0 0 0 - -"),
+        ("17 02 00", "7 12 0 - 0 eeee"),
+        ("17 05 00", "8 0 1 1 3 0a0400eeee"),
+    ]);
+}
+
+#[test]
+fn request_6_a_refused_start_leaves_the_desk_and_its_lengths() {
+    // T1 5, T2 60 and 70, T3 11; an ask; then each length out of its range, alone.
+    let start = "02 05 00 00 00 3c 00 00 00 46 00 00 00 0b 00 00 00";
+    let ask = "10 00 01 00 01 05 00 00 01 00";
+    let refused = [
+        "02 00 00 00 00 3c 00 00 00 3c 00 00 00 0a 00 00 00",
+        "02 11 0e 00 00 3c 00 00 00 3c 00 00 00 0a 00 00 00",
+        "02 01 00 00 00 3b 00 00 00 3c 00 00 00 0a 00 00 00",
+        "02 01 00 00 00 11 0e 00 00 3c 00 00 00 0a 00 00 00",
+        "02 01 00 00 00 3c 00 00 00 3b 00 00 00 0a 00 00 00",
+        "02 01 00 00 00 3c 00 00 00 81 51 01 00 0a 00 00 00",
+        "02 01 00 00 00 3c 00 00 00 3c 00 00 00 09 00 00 00",
+        "02 01 00 00 00 3c 00 00 00 3c 00 00 00 1f 00 00 00",
+    ];
+    for bad in refused {
+        let lines = lines_behind(&format!("{start} {ask} {bad} {ask} 40"), 2);
+        let expected = [
+            "2 2 - 0 0 0 0 0 - -",
+            "3 0 0101000001050001 1 0 0 0 0 - 1",
+            "4 c 2",
+            "c - 1 - 5 0 1 - - 1 0 5 - -",
+            "c - 1 - 5 0 1 - - 1 0 5 - -",
+        ];
+        assert_eq!(lines, expected);
+    }
+    // The edges are taken, and the desk is empty then.
+    let edges =
+        ["02 01 00 00 00 3c 00 00 00 3c 00 00 00 0a 00 00 00", "02 10 0e 00 00 10 0e 00 00 80 51 01 00 1e 00 00 00"];
+    for good in edges {
+        assert_eq!(lines_behind(&format!("{start} {ask} {good} 40"), 2), ["2 0 - 0 0 0 0 0 - -", "3 c 0"]);
+    }
+}
+
+#[test]
+fn request_6_the_count_holds_over_starts_and_at_both_desks() {
+    let clerk = "02 14 00 00 00 3c 00 00 00 10 0e 00 00 0a 00 00 00";
+    let ask = "10 00 01 00 01 05 00 00 01 00";
+    let line = "01 01 01 05 03 03 20 ff 08 01 01 00 00 01 05 00 00";
+    let lines = lines_behind(&format!("03 00 01 00 00 {clerk} {ask} {line} 40 41"), 5);
+    let expected = ["5 c 1", "c - 1 - 5 0 1 - - 1 0 276 - -", "6 l 1 1", "l 5 3 0", "r - 1 - 5 0 0 1 1 0 0 0 3916"];
+    assert_eq!(lines, expected);
+}
+
+#[test]
+fn request_6_rooms_and_stops() {
+    assert_eq!(played(&from_hex("17 00 00 26 00 00")), "0 0 0 - 0 -\n1 0 0 - 0 -\n");
+    let full = format!("0 0 0 - 0 {}\n", "ee".repeat(2048));
+    assert_eq!(played(&from_hex("17 00 08")), full);
+    assert_eq!(played(&from_hex("26 00 08")), full);
+    for stopping in ["17 01 08", "26 01 08", "17 ff ff", "26 00 09", "17", "17 00", "26", "26 00"] {
+        assert_eq!(played(&from_hex(stopping)), "stop 0\n");
+    }
+    for code in [2, 3] {
+        let whole = if code == 2 { 17 } else { 5 };
+        for length in 1..whole {
+            assert_eq!(played(&[&[code][..], &vec![64; length - 1]].concat()), "stop 0\n");
+        }
+    }
+}
+
+#[test]
+fn request_6_a_tick_at_the_line_desk() {
+    // Two requests without identifiers, CCBS at count 0 and CCNR at count 1, and one
+    // with an identifier, RLS; then both CCBS guards are due.
+    let start = "01 01 01 05 03 03 20 ff 08 01 01 00 00 01 05 00 02 03 01 00 00 00 20 ff 08 02 01 00 00 01 05 00 02";
+    let third = "03 00 00 00 00 20 ff 18 01 01 10 a0..af 00 01 05 00 04";
+    let lines =
+        lines_behind(&format!("{start} {third} 03 4b 0e 00 00 26 ff 00 03 4c 0e 00 00 26 19 00 26 1b 00 41"), 7);
+    let expected = [
+        format!("7 0 0 - 0 {}", "ee".repeat(255)),
+        "8 0 - 0 0 0 0 0 - -".to_string(),
+        format!("9 12 0 - 0 {}", "ee".repeat(25)),
+        "10 0 2 0,2 26 0a04000a0110ID00010500ee".to_string(),
+        "11 l 1 1".to_string(),
+        "l 5 3 0".to_string(),
+        "r - 2 - 5 0 0 1 1 0 0 0 86461".to_string(),
     ];
     assert_eq!(lines, expected);
 }

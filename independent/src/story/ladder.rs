@@ -27,22 +27,27 @@ impl End {
     }
 }
 
-/// "the left cell, padded with blanks to 30 characters; `|`; the middle cell,
-/// padded with blanks to 38 characters; `|`; and, only if the right cell is
-/// not empty, one blank and the right cell".
-pub fn row(left: &str, middle: &str, right: &str) -> String {
+/// "the clock cell, padded with blanks to 9 characters; the left cell, padded with
+/// blanks to 30 characters; `|`; the middle cell, padded with blanks to 38 characters;
+/// `|`; and, only if the right cell is not empty, one blank and the right cell".
+pub fn row(clock: &str, left: &str, middle: &str, right: &str) -> String {
     let blank = if right.is_empty() { "" } else { " " };
-    format!("{left:<30}|{middle:<38}|{blank}{right}")
+    format!("{clock:<9}{left:<30}|{middle:<38}|{blank}{right}")
 }
 
-/// "30, 38 and 30 dashes".
+/// "39, 38 and 30 dashes".
 pub fn dashes() -> String {
-    format!("{0:-<30}+{0:-<38}+{0:-<30}", "")
+    format!("{0:-<39}+{0:-<38}+{0:-<30}", "")
 }
 
 /// The first line of the head; "`THE WIRES` has fifteen blanks in front of it".
 pub fn head() -> String {
-    row("CLERK'S DESK (User A)", &format!("{:15}THE WIRES", ""), "LINE DESK (User B)")
+    row("CLOCK", "CLERK'S DESK (User A)", &format!("{:15}THE WIRES", ""), "LINE DESK (User B)")
+}
+
+/// Seconds since midnight as `HH:MM:SS`.
+fn clock_text(clock: u32) -> String {
+    format!("{:02}:{:02}:{:02}", clock / 3600, clock / 60 % 60, clock % 60)
 }
 
 /// "On the left: one blank, then the name. On the right: blanks, the name, one
@@ -89,28 +94,32 @@ fn cell(list: &[String], place: usize) -> &str {
 
 /// "Two lists are filled independently from the top, the words of the event's
 /// end and the middle; the block has as many rows as the longer list; where a
-/// list has ended its cell is empty. The other end's cell is empty in all rows."
-pub fn block(end: End, words: &[String], middle: &[String]) -> Vec<String> {
+/// list has ended its cell is empty. The other end's cell is empty in all rows."; "The
+/// clock cell has the clock .. in the first row of a block, and is empty in all other
+/// rows."
+pub fn block(clock: u32, end: End, words: &[String], middle: &[String]) -> Vec<String> {
+    let clock = [clock_text(clock)];
     match end {
-        End::Clerk => rows(words, middle, &[]),
-        End::Line => rows(&[], middle, words),
+        End::Clerk => rows(&clock, words, middle, &[]),
+        End::Line => rows(&clock, &[], middle, words),
     }
 }
 
-fn rows(left: &[String], middle: &[String], right: &[String]) -> Vec<String> {
+fn rows(clock: &[String], left: &[String], middle: &[String], right: &[String]) -> Vec<String> {
     let count = left.len().max(middle.len()).max(right.len());
-    (0..count).map(|n| row(cell(left, n), cell(middle, n), cell(right, n))).collect()
+    (0..count).map(|n| row(cell(clock, n), cell(left, n), cell(middle, n), cell(right, n))).collect()
 }
 
 /// "The middle of the first row is fourteen blanks and `(records)`; of the
-/// others it is empty"; "`no record` in the first row where a desk has none".
+/// others it is empty"; "`no record` in the first row where a desk has none". It is no
+/// block, so that it has no clock.
 pub fn records(mut clerk: Vec<String>, mut line: Vec<String>) -> Vec<String> {
     for list in [&mut clerk, &mut line] {
         if list.is_empty() {
             list.push("no record".to_string());
         }
     }
-    rows(&clerk, &[format!("{:14}(records)", "")], &line)
+    rows(&[], &clerk, &[format!("{:14}(records)", "")], &line)
 }
 
 #[cfg(test)]
@@ -126,12 +135,15 @@ mod tests {
         middle.extend(arrived(End::Clerk, &message(Carrier::ReleaseComplete, [34; 16], busy_again)));
         let words = ["#34 User A accepts".to_string(), "  stops T3".to_string()];
         let expected = [
-            "#34 User A accepts            | #34 ccRingout                        |",
-            "  stops T3                    |o--------[Setup]---------...          |",
-            "                              | #34 ringout error remoteUserBusyAgain|",
-            "                              |<---[Release Complete]---...          |",
+            "18:00:12 #34 User A accepts            | #34 ccRingout                        |",
+            "           stops T3                    |o--------[Setup]---------...          |",
+            "                                       | #34 ringout error remoteUserBusyAgain|",
+            "                                       |<---[Release Complete]---...          |",
         ];
-        assert_eq!(block(End::Clerk, &words, &middle), expected);
+        assert_eq!(block(64812, End::Clerk, &words, &middle), expected);
+        let first = block(64814, End::Clerk, &[], &middle[2..]);
+        assert_eq!(first[0], "18:00:14                               | #34 ringout error remoteUserBusyAgain|");
+        assert_eq!(block(0, End::Line, &words, &[]).len(), 2);
     }
 
     #[test]
@@ -146,16 +158,18 @@ mod tests {
 
     #[test]
     fn the_head_and_the_dashes() {
-        assert_eq!(head(), "CLERK'S DESK (User A)         |               THE WIRES              | LINE DESK (User B)");
-        assert_eq!(dashes().len(), 100);
-        assert_eq!(dashes().match_indices('+').map(|(place, _)| place).collect::<Vec<_>>(), [30, 69]);
+        let expected =
+            "CLOCK    CLERK'S DESK (User A)         |               THE WIRES              | LINE DESK (User B)";
+        assert_eq!(head(), expected);
+        assert_eq!(dashes().len(), 109);
+        assert_eq!(dashes().match_indices('+').map(|(place, _)| place).collect::<Vec<_>>(), [39, 78]);
     }
 
     #[test]
     fn records_of_desks_of_unlike_length() {
-        assert_eq!(records(vec![], vec![]), [row("no record", "              (records)", "no record")]);
+        assert_eq!(records(vec![], vec![]), [row("", "no record", "              (records)", "no record")]);
         let list = |texts: &[&str]| texts.iter().map(|t| t.to_string()).collect();
-        let expected = [row("#34 a", "              (records)", "#34 c"), row("#12 b", "", "")];
+        let expected = [row("", "#34 a", "              (records)", "#34 c"), row("", "#12 b", "", "")];
         assert_eq!(records(list(&["#34 a", "#12 b"]), list(&["#34 c"])), expected);
     }
 }

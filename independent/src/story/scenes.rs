@@ -28,7 +28,7 @@ pub enum Event {
     Ask(Tag),
     Accept(Tag),
     Cancel(Tag),
-    T2(Tag),
+    ClerkTick,
     ClerkFell(Tag),
     ClerkHears,
     ClerkHearsAt(Place),
@@ -42,25 +42,42 @@ pub enum Event {
     LineHearsAt(Place),
     Stray(Tag),
     StrayCancel,
+    /// "the clock is set", to seconds since midnight.
+    Clock(u32),
     Records,
     Say(usize),
 }
 
+/// `HH:MM:SS` in seconds since midnight.
+const fn time(hours: u32, minutes: u32, seconds: u32) -> u32 {
+    3600 * hours + 60 * minutes + seconds
+}
+
+/// "It stands at 18:00:00 when the scene begins".
+pub const BEGIN: u32 = time(18, 0, 0);
+
 impl Event {
-    /// "The event's end is the clerk's for `ask`, `accept`, `cancel`, `T2`,
+    /// "The event's end is the clerk's for `ask`, `accept`, `cancel`, `clerk tick`,
     /// `clerk fell`, `clerk hears` and `clerk hears at`, the line's for the others
     /// (`stray` and `stray cancel` too)."
     pub fn end(self) -> End {
         match self {
-            Ask(_) | Accept(_) | Cancel(_) | T2(_) | ClerkFell(_) | ClerkHears | ClerkHearsAt(_) => End::Clerk,
+            Ask(_) | Accept(_) | Cancel(_) | ClerkTick | ClerkFell(_) | ClerkHears | ClerkHearsAt(_) => End::Clerk,
             _ => End::Line,
         }
+    }
+
+    /// The clock "goes on by one second before each event that is an input, before
+    /// each `stray` and each `stray cancel`"; a hearing with nothing on its wire is an
+    /// input too.
+    pub fn takes_time(self) -> bool {
+        !matches!(self, Clock(_) | Records | Say(_))
     }
 
     /// The tag of an input that has one; `stray` is no input.
     pub fn tag(self) -> Option<Tag> {
         match self {
-            Ask(tag) | Accept(tag) | Cancel(tag) | T2(tag) | ClerkFell(tag) => Some(tag),
+            Ask(tag) | Accept(tag) | Cancel(tag) | ClerkFell(tag) => Some(tag),
             Alerted(tag) | Withdraw(tag) | LineFell(tag) => Some(tag),
             _ => None,
         }
@@ -193,7 +210,10 @@ const WENT_WRONG: Scene = Scene {
     house: House::WrongEnd,
     opening: "The house's end stores no keep; its answer \"keep 1\" is forged here. Each end alone looks well.",
     prelude: &[],
-    events: [EVENING, &[Say(5), T2(T34), LineHears, Records]],
+    events: [
+        EVENING,
+        &[Say(5), Clock(time(18, 10, 0)), ClerkTick, Clock(time(18, 20, 0)), ClerkTick, LineHears, Records],
+    ],
     lesson: [
         "LESSON 1. Two good ends are not yet a good pair: one believed in a request that the other had",
         "deleted. No ring-back came, the clerk split the group, and 34 guests slept in two houses.",

@@ -6,7 +6,7 @@ use crate::clerk;
 use crate::codec::{Identifier, Refusal};
 use crate::line;
 use crate::meant::place_of;
-use crate::outcome::{Outcome, GUARD, T1, T2, T3};
+use crate::outcome::{Notice, Outcome, GUARD, T1, T2, T3};
 use crate::script::Session;
 
 /// "A printed tag is the first byte of the identifier", "`#` and its two digits";
@@ -35,7 +35,6 @@ pub fn cause(event: Event) -> Option<String> {
         Event::Ask(_) => format!("{tag} ask: CCBS, can-keep 1"),
         Event::Accept(_) => format!("{tag} User A accepts"),
         Event::Cancel(_) => format!("{tag} User A cancels"),
-        Event::T2(_) => format!("{tag} T2 runs out"),
         Event::ClerkFell(_) | Event::LineFell(_) => format!("{tag} the connection fell"),
         Event::Busy(line) => format!("line {line} is busy"),
         Event::Free(line) => format!("line {line} is free"),
@@ -45,8 +44,31 @@ pub fn cause(event: Event) -> Option<String> {
         Event::Stray(_) | Event::StrayCancel => "(no desk sent this)".to_string(),
         Event::ClerkHearsAt(Some(place)) | Event::LineHearsAt(Some(place)) => format!("the host names place {place}"),
         Event::ClerkHearsAt(None) | Event::LineHearsAt(None) => "the host names no place".to_string(),
-        Event::ClerkHears | Event::LineHears | Event::Records | Event::Say(_) => return None,
+        Event::ClerkHears | Event::LineHears | Event::ClerkTick => return None,
+        Event::Clock(_) | Event::Records | Event::Say(_) => return None,
     })
+}
+
+/// A tick's words: "`tick: nothing is due`, or `tick: N expired`"; then "two rows for
+/// each record that expired, from the oldest on: its tag, a blank and `X -> no
+/// record`, X being its state before the tick; and `notice "failed"`".
+pub fn of_tick(before: &Session, places: &[usize]) -> Vec<String> {
+    let cause = match places.len() {
+        0 => "tick: nothing is due".to_string(),
+        expired => format!("tick: {expired} expired"),
+    };
+    let mut words = vec![cause];
+    for place in places {
+        let identifier = before.clerk.records.get(*place).and_then(|record| record.identifier);
+        let state = state_at(before, End::Clerk, *place);
+        words.push(format!("  {} {}", record_tag(*place, &identifier), state_word(state, NO_RECORD)));
+        words.push(format!("  {}", notice_word(Notice::Failed)));
+    }
+    words
+}
+
+fn notice_word(notice: Notice) -> String {
+    format!("notice \"{}\"", notice.name())
 }
 
 /// STORY, "Words of the refusal numbers".
@@ -85,7 +107,7 @@ fn outcome_words(outcome: &Outcome) -> Vec<String> {
     }
     words.extend(timers("stops", outcome.stops));
     words.extend(timers("starts", outcome.starts));
-    words.extend(outcome.notice.map(|notice| format!("notice \"{}\"", notice.name())));
+    words.extend(outcome.notice.map(notice_word));
     words.extend(outcome.clear.then(|| "clear the call".to_string()));
     words
 }
@@ -196,14 +218,13 @@ pub fn line_record((place, record): (usize, &line::Record)) -> String {
 #[cfg(test)]
 mod tests {
     use super::*;
-    use crate::outcome::Notice;
 
     #[test]
     fn all_words_of_a_step_in_their_order() {
         let mut outcome = Outcome::refused(Refusal::NoRow).stopping(GUARD + T1 + T3).starting(T2);
         outcome = outcome.telling(Notice::BusyAgainEnded).clearing(true);
         let expected = [
-            "#07 T2 runs out",
+            "#07 User A accepts",
             "  refused with 7",
             "  no row for it in this state",
             "  stops T1 T3 guard",
@@ -213,7 +234,7 @@ mod tests {
             "  Ringout -> no record",
         ];
         let about = About { nameless_at: None, before: "Ringout", after: "no record" };
-        assert_eq!(of_step(Event::T2(Tag::Id(7)), &outcome, Some(about)), expected);
+        assert_eq!(of_step(Event::Accept(Tag::Id(7)), &outcome, Some(about)), expected);
         assert!(expected.iter().all(|word| word.len() <= 29));
     }
 
@@ -259,6 +280,30 @@ mod tests {
         assert_eq!(words(Event::Ask(Tag::Nameless), Some(1))[1], "  about #-- at 1");
         assert_eq!(record_tag(3, &None), "#-- at 3");
         assert_eq!(record_tag(3, &Some([34; 16])), "#34");
+    }
+
+    #[test]
+    fn a_tick_tells_each_record_that_expired() {
+        let mut desks = Session::default();
+        assert_eq!(of_tick(&desks, &[]), ["tick: nothing is due"]);
+        let number_b = vec![1];
+        for identifier in [Some([7; 16]), None, Some([34; 16])] {
+            let (number_a, number_b) = (vec![], number_b.clone());
+            let kind = crate::outcome::Kind::Ccbs;
+            let ask = clerk::Ask { identifier, kind, number_a, number_b, service: 0, can_keep: true, preference: 0 };
+            desks.clerk.ask(&ask, 0);
+        }
+        desks.clerk.records[2].state = clerk::State::Suspended;
+        let expected = [
+            "tick: 3 expired",
+            "  #07 Wait-Ack -> no record",
+            "  notice \"failed\"",
+            "  #-- at 1 Wait-Ack -> no record",
+            "  notice \"failed\"",
+            "  #34 Suspended -> no record",
+            "  notice \"failed\"",
+        ];
+        assert_eq!(of_tick(&desks, &[0, 1, 2]), expected);
     }
 
     #[test]

@@ -1,4 +1,4 @@
--- The invariant: the number stays within the bytes. The loop ends because it goes up.
+-- The invariant: there are no more entries than bytes. The loop ends because the number of the entry goes up.
 use Prim.Native.Nat.{_≤_, _-_}
 use lib.ListN.{length}
 use borrow.Author.Needs.{needs}
@@ -6,10 +6,10 @@ use Rattle.replay.proofs.play.Statement.{statement}
 use Rattle.replay.proofs.play.Tie as tie
 
 abbrev Inv-loop : tie.InvT-loop
-Inv-loop script clerkWords₀ lineWords₀ at₀ number₀ clerkWords lineWords at number = number ≤ length script
+Inv-loop script clerkWords₀ lineWords₀ count₀ at₀ number₀ clerkWords lineWords count at number = number ≤ length script
 
 abbrev μ-loop : tie.MeasureT-loop
-μ-loop script clerkWords₀ lineWords₀ at₀ number₀ clerkWords lineWords at number = length script - number
+μ-loop script clerkWords₀ lineWords₀ count₀ at₀ number₀ clerkWords lineWords count at number = length script - number
 
 first-words-requires : tie.Need-first-words-requires Inv-loop μ-loop
 first-words-requires c κs = search needs

@@ -33,6 +33,7 @@ pub fn is_at_line(entry: &Entry) -> bool {
             | Entry::Act(_, _)
             | Entry::GuardRunsOut(_)
             | Entry::FellAtLine(_)
+            | Entry::TickAtLine { .. }
             | Entry::StartLine { .. }
     )
 }
@@ -74,10 +75,13 @@ impl Origins {
         let line_end = is_at_line(entry);
         let now = if line_end { session.line.records.len() } else { session.clerk.records.len() };
         let list = if line_end { &mut self.line } else { &mut self.clerk };
-        let Some(at) = outcome.at else {
-            // A start leaves no record.
-            list.truncate(now);
-            return origin;
+        let at = match outcome.at {
+            Some(at) => at,
+            None => {
+                // A start leaves no record.
+                list.truncate(now);
+                return origin;
+            }
         };
         if now > list.len() {
             list.push(origin);
@@ -87,6 +91,18 @@ impl Origins {
             list.remove(at);
         }
         of_record
+    }
+
+    /// Follows a tick: gives the origins of those that expired, in their order.
+    pub fn follow_tick(&mut self, line_end: bool, places: &[usize]) -> Vec<usize> {
+        let list = if line_end { &mut self.line } else { &mut self.clerk };
+        let expired = places.iter().filter_map(|place| list.get(*place).copied()).collect();
+        for place in places.iter().rev() {
+            if *place < list.len() {
+                list.remove(*place);
+            }
+        }
+        expired
     }
 }
 
@@ -154,8 +170,9 @@ impl Player {
         };
         let (number_a, number_b) = (self.some_number_a(), self.some_number_b());
         let service = u32::from(self.some_service());
-        let Some(held) = held else {
-            return Elements { number_a, number_b, service };
+        let held = match held {
+            Some(held) => held,
+            None => return Elements { number_a, number_b, service },
         };
         match self.dice.below(8) {
             0 => Elements { number_a, ..held },

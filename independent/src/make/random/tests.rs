@@ -1,6 +1,7 @@
 //! Tests of the random scripts.
 
 use super::*;
+use crate::meant::Name;
 use crate::script::Entry;
 use std::collections::BTreeSet;
 
@@ -28,8 +29,9 @@ fn every_entry_is_played_and_no_file_is_too_long() {
 fn faults_at_many_places_are_told_by_both_desks_and_by_writes() {
     let mut places = [BTreeSet::new(), BTreeSet::new(), BTreeSet::new()];
     for script in scripts(11, 40000).into_cases() {
-        let Some((entry, _)) = take_entry(&script) else {
-            continue;
+        let entry = match take_entry(&script) {
+            Some((entry, _)) => entry,
+            None => continue,
         };
         let whose = match entry {
             Entry::ToClerk { .. } => 0,
@@ -40,7 +42,7 @@ fn faults_at_many_places_are_told_by_both_desks_and_by_writes() {
             Answer::Step { fault_place, .. } | Answer::Written { fault_place, .. } => {
                 places[whose].extend(fault_place);
             }
-            Answer::Printed { .. } => {}
+            Answer::Ticked { .. } | Answer::Printed { .. } => {}
         }
     }
     // The longest message has 54 bytes, and the bytes can end behind 53.
@@ -55,7 +57,7 @@ fn in_calm_a_wire_delivers_in_order_or_drops() {
     assert!(player.wire_to_line.is_empty());
     assert!(taken.iter().any(Option::is_none));
     for (n, message) in taken.iter().enumerate() {
-        assert!(message.is_none() || message.as_ref().is_some_and(|parcel| parcel.origin == n));
+        assert!(message.is_none() || message.as_ref().map_or(false, |parcel| parcel.origin == n));
     }
 }
 
@@ -86,10 +88,13 @@ fn steps_are_taken_with_and_without_identifiers() {
     let mut seen = BTreeSet::new();
     let mut session = Session::default();
     for entry in scripts(5, 40000).into_cases() {
-        let Some((Entry::ToLine { bytes, .. } | Entry::ToClerk { bytes, .. }, _)) = take_entry(&entry) else {
-            let parsed = take_entry(&entry);
-            parsed.map(|(entry, _)| session.play(&entry));
-            continue;
+        let bytes = match take_entry(&entry) {
+            Some((Entry::ToLine { bytes, .. } | Entry::ToClerk { bytes, .. }, _)) => bytes,
+            _ => {
+                let parsed = take_entry(&entry);
+                parsed.map(|(entry, _)| session.play(&entry));
+                continue;
+            }
         };
         let (parsed, _) = take_entry(&entry).unwrap();
         if let Answer::Step { outcome, .. } = session.play(&parsed) {
@@ -102,4 +107,84 @@ fn steps_are_taken_with_and_without_identifiers() {
             assert!(seen.contains(&(Some(type_number), named, true)), "{type_number} {named}");
         }
     }
+}
+
+/// The count moves mostly on and by little, sometimes far, rarely back, and over the
+/// wrap.
+#[test]
+fn the_count_moves_on_mostly() {
+    let (mut little, mut far, mut back, mut wraps, mut all) = (0, 0, 0, 0, 0);
+    let mut count = 0_u32;
+    for case in scripts(8, 60000).into_cases() {
+        if let Some((Entry::Count(next), _)) = take_entry(&case) {
+            let step = next.wrapping_sub(count);
+            all += 1;
+            little += usize::from(step < 10);
+            far += usize::from((1000..1 << 31).contains(&step));
+            back += usize::from(step >= 1 << 31);
+            wraps += usize::from(step < 1 << 31 && next < count);
+            count = next;
+        }
+    }
+    assert!(all > 2000 && little * 10 > all * 7, "{little} of {all}");
+    assert!(far > 10 && back > 10 && back * 10 < all && wraps > 1, "{far} {back} {wraps}");
+}
+
+/// Ticks at both ends: with nothing due, with one and with several, in all rooms.
+#[test]
+fn ticks_expire_records_at_both_ends() {
+    let mut seen = BTreeSet::new();
+    let mut session = Session::default();
+    for case in scripts(9, 80000).into_cases() {
+        let (entry, _) = take_entry(&case).unwrap();
+        if let (Answer::Ticked { told, buffer }, at_line) =
+            (session.play(&entry), matches!(entry, Entry::TickAtLine { .. }))
+        {
+            let (expired, left) = match &told {
+                Ok(ticked) => (ticked.places.len().min(2), (buffer.len() - ticked.length).min(1)),
+                Err(_) => (12, buffer.len().min(1)),
+            };
+            seen.insert((at_line, expired, left));
+        }
+    }
+    for at_line in [false, true] {
+        for expired in [0, 1, 2, 12] {
+            for left in [0, 1] {
+                assert!(seen.contains(&(at_line, expired, left)), "{at_line} {expired} {left}");
+            }
+        }
+    }
+}
+
+/// "the world's tick is the run of those reports": the reports by hand of those that
+/// expired, from the oldest on, give the same desks and the same bytes.
+#[test]
+fn a_tick_is_the_run_of_its_reports() {
+    let mut session = Session::default();
+    let mut expired = [0, 0];
+    for case in scripts(10, 60000).into_cases() {
+        let (entry, _) = take_entry(&case).unwrap();
+        let (mut by_hand, count) = (session.clone(), session.count);
+        let (ticked, buffer) = match session.play(&entry) {
+            Answer::Ticked { told: Ok(ticked), buffer } => (ticked, buffer),
+            _ => continue,
+        };
+        let at_line = matches!(entry, Entry::TickAtLine { .. });
+        let mut sent = Vec::new();
+        for (gone, place) in ticked.places.iter().enumerate() {
+            let name = Name { identifier: None, place: place - gone };
+            let outcome = if at_line {
+                by_hand.line.guard_runs_out(&name)
+            } else {
+                let timer = by_hand.clerk.records[name.place].due_timer(count).unwrap();
+                by_hand.clerk.timer_runs_out(&name, timer)
+            };
+            assert_eq!((outcome.refusal, outcome.clear), (None, false));
+            sent.extend(message_bytes(&outcome.message.unwrap()));
+        }
+        assert_eq!(by_hand, session);
+        assert_eq!(sent, buffer[..ticked.length]);
+        expired[usize::from(at_line)] += ticked.places.len();
+    }
+    assert!(expired.iter().all(|expired| *expired > 100), "{expired:?}");
 }

@@ -42,7 +42,6 @@ unfolding applied
 returns-4 c = rw (c .before .before .change2 .given .1, le-ltb _ _ (c .if1 .left))
 
 returns-5 : tie.Need-returns-5
-unfolding applied
 returns-5 c = rw (c .before .before .before .change3 .given .1) (c .remove .ensures)
 
 pub apply-spec : {M : Type 1} → statement M

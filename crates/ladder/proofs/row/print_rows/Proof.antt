@@ -5,10 +5,10 @@ use Rattle.ladder.proofs.row.print_rows.Statement.{statement}
 use Rattle.ladder.proofs.row.print_rows.Tie as tie
 
 abbrev Inv-loop : tie.InvT-loop
-Inv-loop left middle right row₀ row = row ≤ 10
+Inv-loop clock left middle right row₀ row = row ≤ 10
 
 abbrev μ-loop : tie.MeasureT-loop
-μ-loop left middle right row₀ row = 10 - row
+μ-loop clock left middle right row₀ row = 10 - row
 
 loop-holds : tie.Need-loop-holds Inv-loop μ-loop
 loop-holds c = search needs

@@ -15,6 +15,9 @@ returns : tie.Need-returns
 unfolding clerkShown
 returns c = rw (← c .before .before .load .ensures, ← c .before .state-code .ensures, eq-eqb _ _ (c .if1 .taken))
 
+deadlines-at-requires : tie.Need-deadlines-at-requires
+deadlines-at-requires c κs = search needs
+
 show-names-requires : tie.Need-show-names-requires
 show-names-requires c κs = search needs
 
@@ -23,7 +26,7 @@ clerk-numbers-requires c κs = search needs
 
 returns-2 : tie.Need-returns-2
 unfolding clerkShown
-returns-2 c = rw (c .clerk-numbers .ensures, c .before .show-names .ensures .0, c .before .show-names .ensures .1, c .before .show-names .ensures .2, ← c .before .before .before .before .before .before .before .before .load .ensures, ← c .before .before .before .before .before .before .before .state-code .ensures, ne-eqb _ _ (c .before .before .before .before .before .before .if1 .left))
+returns-2 c = rw (c .clerk-numbers .ensures, c .before .show-names .ensures .0, c .before .show-names .ensures .1, c .before .show-names .ensures .2, ← c .before .before .before .before .before .deadlines-at .ensures, ← c .before .before .before .before .before .before .before .before .before .load .ensures, ← c .before .before .before .before .before .before .before .before .state-code .ensures, ne-eqb _ _ (c .before .before .before .before .before .before .before .if1 .left))
 
 pub tollherring-clerk-record-spec : {M : Type 1} → statement M
 tollherring-clerk-record-spec =
@@ -32,6 +35,7 @@ tollherring-clerk-record-spec =
     load-requires
     state-code-requires
     returns
+    deadlines-at-requires
     show-names-requires
     clerk-numbers-requires
     returns-2)

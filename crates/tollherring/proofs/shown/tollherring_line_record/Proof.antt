@@ -15,6 +15,9 @@ returns : tie.Need-returns
 unfolding lineShown
 returns c = rw (← c .before .before .load .ensures, ← c .before .state-code .ensures, eq-eqb _ _ (c .if1 .taken))
 
+guard-of-requires : tie.Need-guard-of-requires
+guard-of-requires c κs = search needs
+
 show-names-requires : tie.Need-show-names-requires
 show-names-requires c κs = search needs
 
@@ -23,7 +26,7 @@ line-numbers-requires c κs = search needs
 
 returns-2 : tie.Need-returns-2
 unfolding lineShown
-returns-2 c = rw (c .line-numbers .ensures, c .before .show-names .ensures .0, c .before .show-names .ensures .1, c .before .show-names .ensures .2, ← c .before .before .before .before .before .before .before .before .load .ensures, ← c .before .before .before .before .before .before .before .state-code .ensures, ne-eqb _ _ (c .before .before .before .before .before .before .if1 .left))
+returns-2 c = rw (c .line-numbers .ensures, c .before .show-names .ensures .0, c .before .show-names .ensures .1, c .before .show-names .ensures .2, ← c .before .before .before .before .before .guard-of .ensures, ← c .before .before .before .before .before .before .before .before .before .load .ensures, ← c .before .before .before .before .before .before .before .before .state-code .ensures, ne-eqb _ _ (c .before .before .before .before .before .before .before .if1 .left))
 
 pub tollherring-line-record-spec : {M : Type 1} → statement M
 tollherring-line-record-spec =
@@ -32,6 +35,7 @@ tollherring-line-record-spec =
     load-requires
     state-code-requires
     returns
+    guard-of-requires
     show-names-requires
     line-numbers-requires
     returns-2)
