@@ -21,8 +21,8 @@ use Rattle.line_records.specs.Deadlines as LineDeadlines
 use Rattle.line.specs.Steps as LineSteps
 use Rattle.line.specs.Ticks as Line
 use Rattle.line.specs.declared.Desk.{Desk as LineDesk}
-use Rattle.pair.specs.World.{Of, from, World, Event, clerkDoes, lineDoes, sentBy, next, Allowed, Run, then, Any, Once, Apart}
-use Rattle.pair.specs.Ticks.{Report, none, one, whether, ticking, clerkReport, lineReport, sentOf, carried, TickIsReports, RunsOverTicks}
+use Rattle.pair.specs.World.{Of, from, World, Event, clerkDoes, lineDoes, sentBy, next, Allowed, Run, stop, then, Any, Once, Apart}
+use Rattle.pair.specs.Ticks.{Report, none, one, whether, ticking, clerkReport, lineReport, sentOf, carried, TickIsReports, TickRun, begins, goes, clerkTicks, lineTicks, RunsOverTicks}
 
 -- ---- what goes on a wire: the messages of a report, and those of the reports behind it
 wire-sent : (xs : List (Of Message)) (o : ℕ) (ms : List Message) → carried (xs ++ map (from o) ms) ≡ carried xs ++ ms
@@ -188,5 +188,11 @@ module _ (Holds : World → Event → Type 0) (free : (w : World) (e : Event) �
     runs-on lineReport (λ u at e so. let r = line-reporting u at e so in (may-report u e r, free u e r)) LineLayout.places 0 w run,
   )
 
+  is-run : (first : World) {w : World} → TickRun Holds first w → Run Holds first w
+  is-run first begins = stop
+  is-run first (goes run e allowed holds) = then (is-run first run) e allowed holds
+  is-run first (clerkTicks run) = both-on first _ (is-run first run) .0
+  is-run first (lineTicks run) = both-on first _ (is-run first run) .1
+
 pub runs-over-ticks : RunsOverTicks
-runs-over-ticks = record { any = both-on Any (λ w e r. tt); once = both-on Once once-free; apart = λ o. both-on (Apart o) (apart-free o) }
+runs-over-ticks = record { any = λ first w run. is-run Any (λ u e r. tt) first run; once = λ first w run. is-run Once once-free first run; apart = λ o first w run. is-run (Apart o) (apart-free o) first run }

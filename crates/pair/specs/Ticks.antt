@@ -8,7 +8,7 @@ use Rattle.clerk_records.specs.{Layout.places as clerkPlaces, Deadlines.expirin
 use Rattle.clerk.specs.Ticks as Clerk
 use Rattle.line_records.specs.{Layout.places as linePlaces, Deadlines.expiringAt as guardExpires}
 use Rattle.line.specs.Ticks as Line
-use Rattle.pair.specs.World.{Of, World, Event, clerkDoes, lineDoes, sentBy, next, Run, Any, Once, Apart}
+use Rattle.pair.specs.World.{Of, World, Event, clerkDoes, lineDoes, sentBy, next, Allowed, Run, Any, Once, Apart}
 
 -- the report of the timer that runs out at a place of an end, if one does
 pub data Report : Type 0 where
@@ -61,11 +61,18 @@ pub record LineTick (w : World) : Type 0 where
 abbrev pub TickIsReports : Type 0
 TickIsReports = (w : World) → ClerkTick w × LineTick w
 
--- ---- a run goes on over a tick, under each of demand 3's premises
-abbrev pub GoesOn : (World → Event → Type 0) → Type 0
-GoesOn Holds = (first w : World) → Run Holds first w → Run Holds first (clerkTicked w) × Run Holds first (lineTicked w)
+-- ---- a run in which a tick at either end is an event too, at any time
+pub data TickRun (Holds : World → Event → Type 0) (first : World) : World → Type 0 where
+  begins : TickRun Holds first first
+  goes : {w : World} → TickRun Holds first w → (e : Event) → Allowed w e → Holds w e → TickRun Holds first (next w e)
+  clerkTicks : {w : World} → TickRun Holds first w → TickRun Holds first (clerkTicked w)
+  lineTicks : {w : World} → TickRun Holds first w → TickRun Holds first (lineTicked w)
+
+-- it is a run, under each of demand 3's premises: so what demand 3 says of every run it says of these
+abbrev pub IsRun : (World → Event → Type 0) → Type 0
+IsRun Holds = (first w : World) → TickRun Holds first w → Run Holds first w
 
 pub record RunsOverTicks : Type 0 where
-  pub any : GoesOn Any
-  pub once : GoesOn Once
-  pub apart : (o : ℕ) → GoesOn (Apart o)
+  pub any : IsRun Any
+  pub once : IsRun Once
+  pub apart : (o : ℕ) → IsRun (Apart o)
