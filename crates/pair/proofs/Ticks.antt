@@ -22,7 +22,7 @@ use Rattle.line.specs.Steps as LineSteps
 use Rattle.line.specs.Ticks as Line
 use Rattle.line.specs.declared.Desk.{Desk as LineDesk}
 use Rattle.pair.specs.World.{Of, from, World, Event, clerkDoes, lineDoes, sentBy, next, Allowed, Run, stop, then, Any, Once, Apart}
-use Rattle.pair.specs.Ticks.{Report, none, one, whether, ticking, clerkReport, lineReport, sentOf, carried, TickIsReports, TickRun, begins, goes, clerkTicks, lineTicks, RunsOverTicks}
+use Rattle.pair.specs.Ticks.{Report, none, one, whether, ticking, clerkReport, lineReport, clerkTicked, lineTicked, sentOf, carried, TickIsReports, TickRun, begins, goes, clerkTicks, lineTicks, RunsOverTicks}
 
 -- ---- what goes on a wire: the messages of a report, and those of the reports behind it
 wire-sent : (xs : List (Of Message)) (o : ℕ) (ms : List Message) → carried (xs ++ map (from o) ms) ≡ carried xs ++ ms
@@ -193,6 +193,9 @@ module _ (Holds : World → Event → Type 0) (free : (w : World) (e : Event) �
   is-run first (goes run e allowed holds) = then (is-run first run) e allowed holds
   is-run first (clerkTicks run) = both-on first _ (is-run first run) .0
   is-run first (lineTicks run) = both-on first _ (is-run first run) .1
+
+pub once-on : (first w : World) → Run Once first w → Run Once first (clerkTicked w) × Run Once first (lineTicked w)
+once-on = both-on Once once-free
 
 pub runs-over-ticks : RunsOverTicks
 runs-over-ticks = record { any = λ first w run. is-run Any (λ u e r. tt) first run; once = λ first w run. is-run Once once-free first run; apart = λ o first w run. is-run (Apart o) (apart-free o) first run }

@@ -9,7 +9,7 @@ use Rattle.clerk_records.specs.Deadlines as ClerkDeadlines
 use Rattle.line_records.specs.Deadlines as LineDeadlines
 use Rattle.pair.specs.World.{World, Run, Once, reached, stop, next}
 use Rattle.pair.specs.Ticks.{ticking}
-use Rattle.pair.proofs.Ticks.{runs-over-ticks}
+use Rattle.pair.proofs.Ticks.{once-on}
 use Rattle.pair_runs.specs.Runs.{play, seen, usual, oneLine, start}
 use Rattle.pair_runs.specs.Turn.{Happening, event, clerkTicks, lineTicks, after, goesOn, Row, overTurn, TurnShown, EachReached, TurnReached}
 use Rattle.pair_runs.proofs.Allowed.{passes, runs, run-told, bytes-told}
@@ -38,8 +38,8 @@ goes-told w [] before so = before
 goes-told w (event e ∷ hs) before so =
     let parts = both-parts (runs w (e ∷ [])) (allowedAll (next w e) hs) so in
     goes-told (next w e) hs (run-told w (e ∷ []) before (parts .0)) (parts .1)
-goes-told {first} w (clerkTicks ∷ hs) before so = goes-told (after w clerkTicks) hs (runs-over-ticks .once first w before .0) so
-goes-told {first} w (lineTicks ∷ hs) before so = goes-told (after w lineTicks) hs (runs-over-ticks .once first w before .1) so
+goes-told {first} w (clerkTicks ∷ hs) before so = goes-told (after w clerkTicks) hs (once-on first w before .0) so
+goes-told {first} w (lineTicks ∷ hs) before so = goes-told (after w lineTicks) hs (once-on first w before .1) so
 
 unfoldable allRun : Bool → List Row → Bool
 allRun retain [] = true
