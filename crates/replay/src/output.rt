@@ -1,5 +1,5 @@
-// Lines: each field is put on a page behind a space, and the line goes out, without the first of these spaces, when it ends. No line is longer than 524 bytes, those
-// of a write into 255, so that a page has room for all of it.
+// Lines: each field is put on a page behind a space, and the line goes out, without the first of these spaces, when it ends. No line but a tick's, which goes out in parts
+// (`tick_line`), is longer than 524 bytes, those of a write into 255, so that a page has room for all of it.
 use libc::STDOUT_FILENO;
 use lists::words::Words;
 use lists::words::bytes_of;
