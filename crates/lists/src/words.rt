@@ -73,6 +73,7 @@ pub fn bytes_of(w: Words) -> [u8; 16]
 }
 
 // Whether two pairs of words are the same sixteen bytes.
+#[tactic(auto, unfolding(crate::specs::Words::same_words))]
 pub fn same_words(a: Words, b: Words) -> bool
     ensures { result ≡ same_words a b }
 {
