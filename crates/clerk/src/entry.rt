@@ -13,7 +13,7 @@ use message::{Carrier, Kind, Message, Service, request_body};
 use terms::request::{Name, Request, letter_names};
 
 // What User A asks for: the data of the failed call, its identifier where there is one, whether it can keep, and its preference (0 none, 1 retain, 2 release).
-#[derive(Drop)]
+#[derive(Clone, Copy)]
 pub struct Asking {
     pub identified: bool,
     pub identifier: [u8; 16],
@@ -26,14 +26,14 @@ pub struct Asking {
 }
 
 // What came in: refused with that number before the desk is asked, or an input.
-#[derive(Drop)]
+#[derive(Clone, Copy)]
 pub enum Entry {
     Refused(u8),
     Given(Input),
 }
 
 // The same of bytes, with the first unread place; where they cannot be read, 0 and the place of the fault.
-#[derive(Drop)]
+#[derive(Clone, Copy)]
 pub struct BytesEntry {
     pub entry: Entry,
     pub next: usize,

@@ -9,7 +9,7 @@ use desk::outcome::{Sending, done, no_timers, refused};
 use lists::Found;
 
 // T2's length goes by the kind.
-#[derive(Drop)]
+#[derive(Clone, Copy)]
 pub struct Lengths {
     pub t1: u32,
     pub t2Ccbs: u32,

@@ -9,14 +9,14 @@ use desk::outcome::Outcome;
 use lists::Found;
 
 // The desk afterwards and the outcome.
-#[derive(Drop)]
+#[derive(Clone, Copy)]
 pub struct Stepped {
     pub desk: Desk,
     pub outcome: Outcome,
 }
 
 // The same for bytes, with the first unread place; where they cannot be read, 0 and the place of the fault.
-#[derive(Drop)]
+#[derive(Clone, Copy)]
 pub struct SteppedBytes {
     pub desk: Desk,
     pub outcome: Outcome,

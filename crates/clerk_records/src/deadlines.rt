@@ -14,7 +14,7 @@ use lists::Found;
 use message::Kind;
 
 // When each timer of a record runs out, in counts of seconds; that of a timer that does not run is not looked at.
-#[derive(Drop)]
+#[derive(Clone, Copy)]
 pub struct Deadlines {
     pub t1: u32,
     pub t2: u32,
@@ -22,7 +22,7 @@ pub struct Deadlines {
 }
 
 // The timer of a record that runs out in a tick, if one does.
-#[derive(Drop)]
+#[derive(Clone, Copy)]
 pub enum Expiring {
     Nothing,
     One(Timer),

@@ -13,7 +13,7 @@ use terms::request::{Name, Names, Request, letter_names, only_identifier};
 use terms::with_choices;
 
 // User A's acts, and what the host tells of the connection. User A free is two of them, as the host chooses. Fell: the retained connection fell.
-#[derive(Drop)]
+#[derive(Clone, Copy)]
 pub enum Act {
     Accept,
     Resume,
@@ -24,7 +24,7 @@ pub enum Act {
 
 // All that the desk takes in: an ask, whom it names and what it asks for; a message in range, with the host's word on User A and the place that the host names for it;
 // User A's act, and a timer that ran out, each on the request of an identifier or, without one, of a place.
-#[derive(Drop)]
+#[derive(Clone, Copy)]
 pub enum Input {
     Ask(Names, Request),
     Message(Letter, bool, usize),
@@ -33,7 +33,7 @@ pub enum Input {
 }
 
 // A message about a record: a result with its keep, a request error or a ringout error with its number, ..
-#[derive(Drop)]
+#[derive(Clone, Copy)]
 pub enum RecordMessage {
     Result(u8),
     Error(u8),
@@ -45,7 +45,7 @@ pub enum RecordMessage {
 }
 
 // What a message is: one about a record, or of a type that isn't for this end.
-#[derive(Drop)]
+#[derive(Clone, Copy)]
 pub enum Meant {
     Record(RecordMessage),
     NotHere,

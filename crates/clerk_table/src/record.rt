@@ -11,7 +11,7 @@ use terms::Terms;
 use terms::request::Request;
 
 // The state, the can-keep that was sent, the mark "connection down", and the terms. Its bytes stand first, so that in a change they share their place with what a turn gives, and no word does.
-#[derive(Drop)]
+#[derive(Clone, Copy)]
 pub struct Record {
     pub state: State,
     pub canKeep: bool,
@@ -21,7 +21,7 @@ pub struct Record {
 
 // What the desk decides about an input: a refusal's number and the body of the reply that goes with it; a row of the table for the record of a place; or
 // a request stored at a place.
-#[derive(Drop)]
+#[derive(Clone, Copy)]
 pub enum Decision {
     Refuse(u8, Sends),
     Take(usize, Row),
@@ -29,7 +29,7 @@ pub enum Decision {
 }
 
 // What a row changes in a record that it turns; all else of the record stays.
-#[derive(Drop)]
+#[derive(Clone, Copy)]
 pub struct Turned {
     pub keep: Keep,
     pub connection: Connection,
@@ -39,7 +39,7 @@ pub struct Turned {
 }
 
 // What becomes of the desk: nothing; a new record put at a place; the record of a place turned; the record of a place removed.
-#[derive(Drop)]
+#[derive(Clone, Copy)]
 pub enum Change {
     Stay,
     Put(usize, Record),
@@ -47,7 +47,7 @@ pub enum Change {
     Remove(usize),
 }
 
-#[derive(Drop)]
+#[derive(Clone, Copy)]
 pub struct Plan {
     pub change: Change,
     pub outcome: Outcome,

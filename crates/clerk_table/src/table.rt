@@ -18,7 +18,7 @@ use message::{Body, Kind};
 use terms::Becomes;
 
 // Free is a place with no record, CC-Idle. Invoked stands for CC-Invoked-User-A-RET or -RLS, by the connection choice.
-#[derive(Drop)]
+#[derive(Clone, Copy)]
 pub enum State {
     Free,
     WaitAck,
@@ -28,7 +28,7 @@ pub enum State {
     Suspended,
 }
 
-#[derive(Drop)]
+#[derive(Clone, Copy)]
 pub enum Row {
     // type 3, result, in Wait-Ack (8.1.1.3; T2 by 8.1.1.1 and 8.1.1.2)
     Accepted,
@@ -73,7 +73,7 @@ pub enum Row {
 }
 
 // The states in which a row is taken: one alone, or several. Where a connection is retained: behind the acknowledgment, and the choice is RET.
-#[derive(Drop)]
+#[derive(Clone, Copy)]
 pub enum Home {
     In(State),
     WhereT2Counts,
@@ -82,28 +82,28 @@ pub enum Home {
 }
 
 // What becomes of the record: deleted, in the state that it is in, or on to a state.
-#[derive(Drop)]
+#[derive(Clone, Copy)]
 pub enum Next {
     Gone,
     Same,
     To(State),
 }
 
-#[derive(Drop)]
+#[derive(Clone, Copy)]
 pub enum Timer {
     T1,
     T2,
     T3,
 }
 
-#[derive(Drop)]
+#[derive(Clone, Copy)]
 pub enum Starts {
     Nothing,
     One(Timer),
 }
 
 // Running: all that run in the record's state, as a delete does.
-#[derive(Drop)]
+#[derive(Clone, Copy)]
 pub enum Stops {
     Nothing,
     One(Timer),
@@ -111,7 +111,7 @@ pub enum Stops {
 }
 
 // What becomes of the record and of its kind, what is sent, started and stopped, and what the host is told.
-#[derive(Drop)]
+#[derive(Clone, Copy)]
 pub struct Effect {
     pub next: Next,
     pub kind: Becomes,
@@ -126,7 +126,7 @@ pub struct Effect {
 }
 
 // A row of the table: where it is taken, and what it does.
-#[derive(Drop)]
+#[derive(Clone, Copy)]
 pub struct Rule {
     pub home: Home,
     pub effect: Effect,

@@ -7,7 +7,7 @@ use crate::Connection;
 use message::{Body, Carrier};
 
 // The carriers that a type may be received in.
-#[derive(Drop)]
+#[derive(Clone, Copy)]
 struct Allowed {
     setup: bool,
     connect: bool,

@@ -7,14 +7,14 @@ use message::digits::normal_number;
 use message::{Body, Carrier, Message, Service};
 
 // The identifier of a request, or that it has none: of a message, of a record, and of what a host names.
-#[derive(Drop)]
+#[derive(Clone, Copy)]
 pub enum Identifier {
     Absent,
     Is(Words),
 }
 
 // The identifier stands first, as it does in every input that names one: so it is found at one place of an input, whichever it is.
-#[derive(Drop)]
+#[derive(Clone, Copy)]
 pub struct Letter {
     pub identifier: Identifier,
     pub numberA: Words,

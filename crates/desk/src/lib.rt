@@ -7,7 +7,7 @@ pub mod outcome;
 pub mod sends;
 
 // The connection choice: empty until the acknowledgment, then RET or RLS for life.
-#[derive(Drop)]
+#[derive(Clone, Copy)]
 pub enum Connection {
     Empty,
     Ret,
@@ -15,7 +15,7 @@ pub enum Connection {
 }
 
 // The keep choice: empty until the acknowledgment.
-#[derive(Drop)]
+#[derive(Clone, Copy)]
 pub enum Keep {
     Empty,
     Ends,

@@ -6,13 +6,13 @@ ghost use Rattle.desk.specs.Outcome.{no_timers, refused_with, done_with};
 use crate::letter::Letter;
 use lists::Found;
 
-#[derive(Drop)]
+#[derive(Clone, Copy)]
 pub enum Sending {
     Nothing,
     Send(Letter),
 }
 
-#[derive(Drop)]
+#[derive(Clone, Copy)]
 pub struct Timers {
     pub t1: bool,
     pub t2: bool,
@@ -20,7 +20,7 @@ pub struct Timers {
     pub guard: bool,
 }
 
-#[derive(Drop)]
+#[derive(Clone, Copy)]
 pub enum Notice {
     Silent,
     Accepted,
@@ -35,7 +35,7 @@ pub enum Notice {
     BusyAgainWaiting,
 }
 
-#[derive(Drop)]
+#[derive(Clone, Copy)]
 pub struct Outcome {
     pub refusal: u8,
     pub sending: Sending,
@@ -48,7 +48,7 @@ pub struct Outcome {
 }
 
 // The same for bytes, with the first unread place; where they cannot be read, 0 and the place of the fault.
-#[derive(Drop)]
+#[derive(Clone, Copy)]
 pub struct BytesOutcome {
     pub outcome: Outcome,
     pub next: usize,

@@ -10,14 +10,14 @@ use lists::words::Words;
 use message::{Body, Carrier, Service, has_elements};
 
 // What a row of a table sends, or what is replied.
-#[derive(Drop)]
+#[derive(Clone, Copy)]
 pub enum Sends {
     Nothing,
     One(Body),
 }
 
 // What a record gives the messages that it sends: its identifier, and in Setup types 5, 6, 9 and 10 have its numbers and its service too.
-#[derive(Drop)]
+#[derive(Clone, Copy)]
 pub struct Elements {
     pub identifier: Identifier,
     pub numberA: Words,

@@ -6,13 +6,13 @@ use message::{Body, Carrier, Message, Service};
 use writer::Written;
 use writer::numbers::{carrier_number, type_number};
 
-#[derive(Drop)]
+#[derive(Clone, Copy)]
 pub enum BodyGiven {
     Body(Body),
     Unknown,
 }
 
-#[derive(Drop)]
+#[derive(Clone, Copy)]
 pub enum CarrierGiven {
     Carrier(Carrier),
     Unknown,

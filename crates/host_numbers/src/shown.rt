@@ -23,7 +23,7 @@ use told::timers_number;
 pub const NUMBERS: usize = 14;
 
 // The timers of a record that run, as a sum, and the count at which each of them runs out; 0 of one that does not run.
-#[derive(Drop)]
+#[derive(Clone, Copy)]
 pub struct Running {
     pub timers: u64,
     pub t1: u64,

@@ -49,7 +49,7 @@ pub const NAMELESS: u8 = 143;
 
 // An event at an end, the clerk's or the line's. Where its host names a place that stands beside it as a digit, a dash where it names none, and else a blank. One of a
 // prelude is not seen. The clock is in seconds since midnight.
-#[derive(Drop)]
+#[derive(Clone, Copy)]
 pub struct Event {
     pub code: u8,
     pub about: u8,

@@ -7,7 +7,7 @@ use crate::words::put_state;
 use printing::{Page, put_entry};
 
 // What is shown of a record: its tag, the entry of its state (`NO_RECORD` where the place is not used), its keep choice by its code, and 1 where its connection is down.
-#[derive(Drop)]
+#[derive(Clone, Copy)]
 pub struct Shown {
     pub tag: u8,
     pub state: usize,

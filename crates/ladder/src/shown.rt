@@ -13,7 +13,7 @@ const NO_REQUEST: usize = 0;
 pub const NO_RECORD: usize = 1;
 
 // The state of an event's request before and after, and whether the request has no identifier.
-#[derive(Drop)]
+#[derive(Clone, Copy)]
 pub struct States {
     pub before: usize,
     pub after: usize,

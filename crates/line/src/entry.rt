@@ -12,14 +12,14 @@ use message::range::in_range;
 use terms::request::Name;
 
 // An input, or the number of the refusal.
-#[derive(Drop)]
+#[derive(Clone, Copy)]
 pub enum Entry {
     Refused(u8),
     Given(Input),
 }
 
 // The same for bytes, with the first unread place; where they cannot be read, 0 and the place of the fault.
-#[derive(Drop)]
+#[derive(Clone, Copy)]
 pub struct BytesEntry {
     pub entry: Entry,
     pub next: usize,

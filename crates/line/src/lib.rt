@@ -9,7 +9,7 @@ pub mod steps;
 pub mod tick;
 
 // Records, lines and settings, as `line_records` keeps them. Every value of it is a desk: a place whose state word is no state has no record.
-#[derive(Drop)]
+#[derive(Clone, Copy)]
 pub struct Desk {
     pub words: [u64; WORDS],
 }

@@ -14,7 +14,7 @@ use terms::request::{
 };
 
 // The acts at the line's end. Fell: the retained connection fell.
-#[derive(Drop)]
+#[derive(Clone, Copy)]
 pub enum Act {
     Alerted,
     CallFailed,
@@ -24,7 +24,7 @@ pub enum Act {
 
 // An input in range: a message, with the place that the host names for it; an act, and the guard reported, by the request's identifier or its record's place; a line
 // reported busy or free, and a Look at a line, by its number.
-#[derive(Drop)]
+#[derive(Clone, Copy)]
 pub enum Input {
     Message(Letter, usize),
     Act(Name, Act),
@@ -34,7 +34,7 @@ pub enum Input {
 }
 
 // A message about a record.
-#[derive(Drop)]
+#[derive(Clone, Copy)]
 pub enum RecordMessage {
     Suspend,
     Resume,
@@ -43,7 +43,7 @@ pub enum RecordMessage {
 }
 
 // What a message is: a request, a message about a record, or of a type that isn't for this end.
-#[derive(Drop)]
+#[derive(Clone, Copy)]
 pub enum Meant {
     Request(Request),
     Record(RecordMessage),

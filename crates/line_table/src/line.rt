@@ -5,7 +5,7 @@ ghost use Rattle.line_table.specs.Line.{allows, can_take, with_status};
 use lists::words::Words;
 use message::Kind;
 
-#[derive(Drop)]
+#[derive(Clone, Copy)]
 pub struct Line {
     pub number: Words,
     pub ccbs: bool,

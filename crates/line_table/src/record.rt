@@ -11,7 +11,7 @@ use message::Kind;
 use terms::Terms;
 use terms::request::Request;
 
-#[derive(Drop)]
+#[derive(Clone, Copy)]
 pub struct Record {
     pub terms: Terms,
     pub state: State,
@@ -22,7 +22,7 @@ pub struct Record {
 
 // What a step decides, of its input and the desk: a refusal, by its number, with its reply or none; a request denied by its error, 1 short or 2 long, which stores
 // nothing; a row taken for the record of a place; a request stored at a place, its line busy or not; the line of a place reported busy or free.
-#[derive(Drop)]
+#[derive(Clone, Copy)]
 pub enum Decision {
     Refuse(u8, Sends),
     Deny(u8),
@@ -32,7 +32,7 @@ pub enum Decision {
 }
 
 // What a row changes in a record that it turns; all else of the record stays.
-#[derive(Drop)]
+#[derive(Clone, Copy)]
 pub struct Turned {
     pub kind: Kind,
     pub state: State,
@@ -43,7 +43,7 @@ pub struct Turned {
 
 // What becomes of the desk: nothing; a new record put at a place; the record of a place turned; the record of a place removed; the status of the line at a place,
 // with its number, stored. What a turn gives stands before its place, so that in memory no word of a new record lies across it.
-#[derive(Drop)]
+#[derive(Clone, Copy)]
 pub enum Change {
     Stay,
     Put(usize, Record),
@@ -52,7 +52,7 @@ pub enum Change {
     Report(usize, Words, bool),
 }
 
-#[derive(Drop)]
+#[derive(Clone, Copy)]
 pub struct Plan {
     pub change: Change,
     pub outcome: Outcome,

@@ -9,7 +9,7 @@ use message::Kind;
 use terms::request::Names;
 
 // What is looked for: by a line's number, or by whom a request names.
-#[derive(Drop)]
+#[derive(Clone, Copy)]
 pub enum Sought {
     Blocking(Words),
     Fitting(Words),

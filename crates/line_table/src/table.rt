@@ -14,7 +14,7 @@ use message::{Body, Kind};
 use terms::Becomes;
 
 // Free is a place with no record, CC-Idle; then CC-Invoked-User-B, CC-Await-Call-Completion and CC-Wait-User-B-Alert.
-#[derive(Drop)]
+#[derive(Clone, Copy)]
 pub enum State {
     Free,
     Invoked,
@@ -22,7 +22,7 @@ pub enum State {
     Alert,
 }
 
-#[derive(Drop)]
+#[derive(Clone, Copy)]
 pub enum Row {
     // Look: the record is offered (8.2.1.4): ccExecPossible, Await
     Offers,
@@ -51,7 +51,7 @@ pub enum Row {
 }
 
 // The states in which a row is taken; where a connection is retained: the choice is RET.
-#[derive(Drop)]
+#[derive(Clone, Copy)]
 pub enum Home {
     InInvoked,
     InAwait,
@@ -61,7 +61,7 @@ pub enum Home {
 }
 
 // What becomes of the record: deleted, in the state that it is in, or on to a state.
-#[derive(Drop)]
+#[derive(Clone, Copy)]
 pub enum Next {
     Gone,
     Same,
@@ -69,7 +69,7 @@ pub enum Next {
 }
 
 // What becomes of a mark: nothing, or it is set, or cleared.
-#[derive(Drop)]
+#[derive(Clone, Copy)]
 pub enum Mark {
     Nothing,
     Sets,
@@ -77,7 +77,7 @@ pub enum Mark {
 }
 
 // What becomes of the record and of its kind, what is sent, and what becomes of its three marks.
-#[derive(Drop)]
+#[derive(Clone, Copy)]
 pub struct Effect {
     pub next: Next,
     pub kind: Becomes,
@@ -88,7 +88,7 @@ pub struct Effect {
 }
 
 // A row of the table: where it is taken, and what it does.
-#[derive(Drop)]
+#[derive(Clone, Copy)]
 pub struct Rule {
     pub home: Home,
     pub effect: Effect,

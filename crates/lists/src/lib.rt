@@ -4,7 +4,7 @@
 pub mod words;
 
 // The index of what was looked for, or that it is not there.
-#[derive(Drop)]
+#[derive(Clone, Copy)]
 pub enum Found {
     At(usize),
     Nothing,

@@ -3,7 +3,7 @@ ghost use Rattle.std.specs.Prelude.{[], ◌≡◌, ◌≤◌, ◌<◌};
 ghost use Rattle.lists.specs.Flat.{flat_word, flat_bytes};
 ghost use Rattle.lists.specs.Words.{words_of, bytes_of, same_words};
 
-#[derive(Drop)]
+#[derive(Clone, Copy)]
 pub struct Words {
     pub low: u64,
     pub high: u64,

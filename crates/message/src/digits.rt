@@ -8,13 +8,14 @@ use crate::Fault;
 use crate::number::{NumberRead, read_field};
 
 // The place of the first unread byte, or what is wrong.
-#[derive(Drop)]
+#[derive(Clone, Copy)]
 pub enum PlaceRead {
     Taken(usize),
     Refused(Fault),
 }
 
 // The place behind so many bytes from a place on; where there are fewer, the place behind the last one.
+#[tactic(auto, unfolding(crate::specs::Ends::bytes_end))]
 fn bytes_end(s: &[u8], at: usize, count: usize) -> usize
     requires { at ≤ length s.now }
     ensures { result ≡ bytes_end count s.now at }
@@ -27,6 +28,7 @@ fn bytes_end(s: &[u8], at: usize, count: usize) -> usize
 }
 
 // The first place from a place on that holds no digit; where there is none before the end, the end.
+#[tactic(auto, using(crate::proofs::NumberLaws::digits_step), unfolding(crate::specs::Ends::digits_end))]
 fn digits_end(s: &[u8], at: usize, end: usize) -> usize
     requires { end ≤ length s.now }
     ensures { result ≡ digits_end (end - at) s.now at }
@@ -64,6 +66,7 @@ fn scan(s: &[u8], at: usize, count: usize) -> PlaceRead
 }
 
 // A length from low to 15 and as many digits. The bytes passed are the number's own: they are copied where they are wanted.
+#[tactic(auto, unfolding(crate::specs::Number::digits_at))]
 pub fn read_digits(s: &[u8], at: usize, low: u16) -> PlaceRead
     ensures { place_told result ≡ digits_at s.now at low }
 {
@@ -77,6 +80,7 @@ pub fn read_digits(s: &[u8], at: usize, low: u16) -> PlaceRead
 }
 
 // Whether sixteen bytes hold a number of at least low digits: exactly if they read as one.
+#[tactic(auto, unfolding(crate::specs::Number::digits_in_range, crate::specs::Number::digits_at))]
 pub fn digits_in_range(number: [u8; 16], low: u16) -> bool
     ensures { result ≡ digits_in_range low number }
 {

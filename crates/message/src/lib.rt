@@ -1,5 +1,7 @@
 // The types of the wire, after document 01, "Messages and carriers", and request 1: a message is one of twelve types with its own
 // fields, after type, carrier and, where it has one, the identifier.
+#![tactic(auto)]
+
 pub mod copied;
 pub mod digits;
 pub mod number;
@@ -8,7 +10,7 @@ pub mod range;
 ghost use Rattle.std.specs.Prelude.{◌≡◌};
 ghost use Rattle.message.specs.Format.{request_body, in_setup, has_elements};
 
-#[derive(Drop)]
+#[derive(Clone, Copy)]
 pub enum Carrier {
     Setup,
     Connect,
@@ -18,14 +20,14 @@ pub enum Carrier {
 }
 
 // The kind of a request: CCBS for a busy line, CCNR for no reply.
-#[derive(Drop)]
+#[derive(Clone, Copy)]
 pub enum Kind {
     Ccbs,
     Ccnr,
 }
 
 // One case for each type, in the order of their numbers, with the type's own numbers as its data.
-#[derive(Drop)]
+#[derive(Clone, Copy)]
 pub enum Body {
     CcbsRequest { flags: u8, service: u16 },
     CcnrRequest { flags: u8, service: u16 },
@@ -42,7 +44,7 @@ pub enum Body {
 }
 
 // The service of types 5, 6, 9 and 10 in Setup. That of a request stands in its body.
-#[derive(Drop)]
+#[derive(Clone, Copy)]
 pub enum Service {
     Absent,
     Is(u64),
@@ -51,7 +53,7 @@ pub enum Service {
 // An enum can't hold an array, so the identifier and the two numbers of digits stand beside the body. A number of digits is its length, then its digits; one of no
 // digits is absent. What doesn't count is 0, or Absent, in what the reader makes: the identifier's bytes where the message has none, the places behind a
 // number's last digit, the numbers and the service of a type that lacks them. Numbers stand in requests, and with the service in 5, 6, 9 and 10 in Setup.
-#[derive(Drop)]
+#[derive(Clone, Copy)]
 pub struct Message {
     pub carrier: Carrier,
     pub identified: bool,
@@ -64,7 +66,7 @@ pub struct Message {
 
 // What is wrong with some bytes: document 01's number, and the place in the slice that was given. The first byte of a number that is faulty or out of range;
 // a digit that is over 9; the length of the slice where the bytes end too early.
-#[derive(Drop)]
+#[derive(Clone, Copy)]
 pub struct Fault {
     pub number: u8,
     pub place: usize,

@@ -6,13 +6,14 @@ ghost use Rattle.message.specs.Answers.{number_told};
 use crate::Fault;
 
 // A number and the place of the first unread byte, or what is wrong.
-#[derive(Drop)]
+#[derive(Clone, Copy)]
 pub enum NumberRead {
     Value(u16, usize),
     Refused(Fault),
 }
 
 // The number at a place.
+#[tactic(auto, unfolding(crate::specs::Number::number_at))]
 pub fn read_number(s: &[u8], at: usize) -> NumberRead
     ensures { number_told result ≡ number_at s.now at }
 {
@@ -48,6 +49,7 @@ pub fn read_number(s: &[u8], at: usize) -> NumberRead
 }
 
 // The number at a place, held to its field's range.
+#[tactic(auto, unfolding(crate::specs::Number::field_at))]
 pub fn read_field(s: &[u8], place: usize, low: u16, high: u16) -> NumberRead
     ensures { number_told result ≡ field_at s.now place low high }
 {

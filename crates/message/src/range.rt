@@ -63,6 +63,7 @@ fn fields_in_range(a: [u8; 16], b: [u8; 16], body: Body) -> bool
 }
 
 // A message whose fields are all in range.
+#[tactic(auto, unfolding(crate::specs::Format::in_range))]
 pub fn in_range(m: Message) -> bool
     ensures { result ≡ in_range m }
 {

@@ -10,7 +10,7 @@ pub use table::put_entry;
 // How many bytes a page has: ten rows of the story, and more than the longest line of a replay.
 pub const SIZE: usize = 1040;
 
-#[derive(Drop)]
+#[derive(Clone, Copy)]
 pub struct Page {
     pub bytes: [u8; SIZE],
     pub at: usize,

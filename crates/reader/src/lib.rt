@@ -13,21 +13,21 @@ use message::number::{NumberRead, read_field};
 use message::{Body, Carrier, Fault, Kind, Message, Service, has_elements, request_body};
 
 // A carrier and the place of the first unread byte; or what is wrong.
-#[derive(Drop)]
+#[derive(Clone, Copy)]
 enum CarrierRead {
     Told(Carrier, usize),
     Refused(Fault),
 }
 
 // Whether there is an identifier, and the place of the first unread byte; or what is wrong.
-#[derive(Drop)]
+#[derive(Clone, Copy)]
 enum IdentifiedRead {
     Told(bool, usize),
     Refused(Fault),
 }
 
 // What every message begins with; its identifier, where it has one, stands at the place.
-#[derive(Drop)]
+#[derive(Clone, Copy)]
 struct Head {
     typeNumber: u16,
     carrier: Carrier,
@@ -36,14 +36,14 @@ struct Head {
 }
 
 // A head and the place of the first unread byte, behind the identifier; or what is wrong.
-#[derive(Drop)]
+#[derive(Clone, Copy)]
 enum HeadRead {
     Told(Head, usize),
     Refused(Fault),
 }
 
 // The fields of a message with numbers of digits: the places behind numberA and numberB, the service and the body.
-#[derive(Drop)]
+#[derive(Clone, Copy)]
 struct Numbered {
     behindA: usize,
     behindB: usize,
@@ -52,7 +52,7 @@ struct Numbered {
 }
 
 // A body without numbers, or fields with them, and the place of the first unread byte; or what is wrong. A body alone has a case of its own, so that nothing is copied for it.
-#[derive(Drop)]
+#[derive(Clone, Copy)]
 enum FieldsRead {
     Bare(Body, usize),
     Whole(Numbered, usize),
@@ -60,14 +60,14 @@ enum FieldsRead {
 }
 
 // What follows the two numbers: service and flags of a request, or the service of a body with elements.
-#[derive(Drop)]
+#[derive(Clone, Copy)]
 enum Tail {
     Request(Kind),
     Elements(Body),
 }
 
 // What was read: a message and the place of the first unread byte; or what is wrong, beside a blank message.
-#[derive(Drop)]
+#[derive(Clone, Copy)]
 pub struct Answer {
     pub verdict: PlaceRead,
     pub message: Message,

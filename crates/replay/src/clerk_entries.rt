@@ -34,7 +34,7 @@ fn play_given(
 }
 
 // The places of an ask's two numbers of digits, of what follows them, and of the next entry.
-#[derive(Drop)]
+#[derive(Clone, Copy)]
 enum AskRead {
     Places(usize, usize, usize, usize),
     Ended,

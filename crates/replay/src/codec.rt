@@ -9,7 +9,7 @@ use printing::{blank_page, part};
 use writer::Written;
 
 // A refusal by its number in document 01, or 0; how many bytes were written, 0 on a refusal; and the place of a fault, where the bytes cannot be read.
-#[derive(Drop)]
+#[derive(Clone, Copy)]
 struct Rewritten {
     refusal: u8,
     length: usize,

@@ -5,7 +5,7 @@ use printing::{Page, blank_page, put_text};
 
 // The lines that were read, and the place behind them; or that they can't be. A page has room for more lines than a desk may have: of those that have none a
 // desk is told by a line that is not whole.
-#[derive(Drop)]
+#[derive(Clone, Copy)]
 pub struct LinesRead {
     pub given: Page,
     pub next: Next,

@@ -2,21 +2,21 @@
 // it, or that the script ended inside the field. None has a `requires`, so that the functions that read an entry field by field are proved without a file.
 
 // Where the next entry begins; or that this one can't be played, since the script ended inside it or it is not listed.
-#[derive(Drop)]
+#[derive(Clone, Copy)]
 pub enum Next {
     At(usize),
     Stop,
 }
 
 // A raw byte and the place behind it.
-#[derive(Drop)]
+#[derive(Clone, Copy)]
 pub enum ByteRead {
     Byte(u8, usize),
     Ended,
 }
 
 // The places of a run's first byte and behind its last one. An enum can't hold a slice: `printing::part` has the bytes.
-#[derive(Drop)]
+#[derive(Clone, Copy)]
 pub enum RunRead {
     Run(usize, usize),
     Ended,

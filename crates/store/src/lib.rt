@@ -16,7 +16,7 @@ use terms::request::Names;
 const MOST: usize = 65536;
 
 // The states that a message is for, by the state's word.
-#[derive(Drop)]
+#[derive(Clone, Copy)]
 pub enum For {
     Every,
     State(u64),

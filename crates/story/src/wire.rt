@@ -14,7 +14,7 @@ use writer::Written;
 const NO_PLACE: usize = 255;
 
 // A message that is sent, as bytes: none of them, where nothing is.
-#[derive(Drop)]
+#[derive(Clone, Copy)]
 pub struct Sent {
     pub bytes: [u8; 64],
     pub length: usize,

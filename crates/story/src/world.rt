@@ -3,7 +3,7 @@ use clerk::start::Lengths;
 use printing::{Page, blank_page};
 
 // Each desk is its words. A wire is the bytes of all messages that were sent, one behind the other, of which those up to a place have been heard.
-#[derive(Drop)]
+#[derive(Clone, Copy)]
 pub struct World {
     pub clerk: [u64; clerk_records::WORDS],
     pub line: [u64; line_records::WORDS],

@@ -25,7 +25,7 @@ pub fn rest(s: &[u8], answer: Answer) -> &[u8]
 }
 
 // The answer and that part in one struct.
-#[derive(Drop)]
+#[derive(Clone, Copy)]
 pub struct Taken<'a> {
     pub answer: Answer,
     pub rest: &'a [u8],

@@ -24,13 +24,13 @@ pub const CHOICES_AT: usize = 8;
 pub const KIND_AT: usize = 10;
 
 // What a row of a table makes of the kind: nothing, or this one.
-#[derive(Drop)]
+#[derive(Clone, Copy)]
 pub enum Becomes {
     Nothing,
     One(Kind),
 }
 
-#[derive(Drop)]
+#[derive(Clone, Copy)]
 pub struct Terms {
     pub identifier: Identifier,
     pub numberA: Words,

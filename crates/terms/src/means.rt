@@ -11,7 +11,7 @@ use lists::words::{Words, same_words};
 use message::Service;
 
 // Which record is meant: none; the one at a place; or none now: some fit, and none is in a state that the message is for.
-#[derive(Drop)]
+#[derive(Clone, Copy)]
 pub enum Means {
     Nothing,
     NotNow,

@@ -10,7 +10,7 @@ use message::{Carrier, Kind, Service, request_body};
 
 // Whom an input names: the request's identifier, User A's number, the line's and the service. What it does not name is absent: a number is then 0. A request
 // has its service behind its numbers.
-#[derive(Drop)]
+#[derive(Clone, Copy)]
 pub struct Names {
     pub identifier: Identifier,
     pub numberA: Words,
@@ -19,14 +19,14 @@ pub struct Names {
 }
 
 // How a host names a request of its own desk: by the identifier, or where it has none by its record's place.
-#[derive(Drop)]
+#[derive(Clone, Copy)]
 pub struct Name {
     pub identifier: Identifier,
     pub place: usize,
 }
 
 // What a request asks for, behind its numbers.
-#[derive(Drop)]
+#[derive(Clone, Copy)]
 pub struct Request {
     pub kind: Kind,
     pub service: u16,

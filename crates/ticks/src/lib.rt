@@ -16,7 +16,7 @@ use told::ticking::{TOLD, tell_expiry};
 use writer::Written;
 
 // How far a tick has come: how many bytes are written, and how many records expired.
-#[derive(Drop)]
+#[derive(Clone, Copy)]
 pub struct Counted {
     pub length: usize,
     pub expired: usize,

@@ -15,14 +15,14 @@ use message::range::{elements_in_range, request_in_range};
 use message::{Body, Message, Service, has_elements};
 
 // How many bytes were written, or a refusal by its number in document 01.
-#[derive(Drop)]
+#[derive(Clone, Copy)]
 pub enum Written {
     Wrote(usize),
     Refused(u8),
 }
 
 // How many bytes some fields take, or that they can't be written. Range and size are found together, so that a message is taken apart once for both.
-#[derive(Drop)]
+#[derive(Clone, Copy)]
 enum Sized {
     Wrong,
     Takes(usize),

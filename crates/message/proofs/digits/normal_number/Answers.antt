@@ -1,15 +1,14 @@
 -- The invariant: the places from the last digit on to place i are 0, and the others are as they were.
 use Prim.Native.Nat.{ℕ, ◌+◌, ◌-◌, ◌≤◌, ◌<◌}
-use mathlib.Core.Path.{◌≡◌, refl, sym, ◌∙◌, ap}
+use mathlib.Core.Path.{◌≡◌, sym, ◌∙◌, ap}
 use mathlib.Core.List.{List, [], ◌++◌, append-nil}
 use native.Mathlib.Numerals.{add-one}
 use native.Mathlib.Omega.{arith}
 use lib.ListN.{length, get_or, take, drop, set, replicate, length-replicate, get_or-replicate, replicate-append-replicate, length-set, drop_of_length-le}
-use lib.Seq.{length-take-le, take_all, take_at, drop_at, paste, paste-zero, paste-suc}
-use borrow.Author.Rules.{rules}
-use Rattle.message.specs.Number.{digits_bytes, sixteen}
-use Rattle.message.proofs.digits.normal_number.Statement.{statement}
-use Rattle.message.proofs.digits.normal_number.Tie as tie
+use lib.Seq.{length-take-le, take_at, drop_at, paste, paste-suc}
+use Rattle.std.proofs.Common.{rules}
+use Rattle.message.specs.Number.{sixteen}
+use Rattle.message.proofs.digits.normal_number.Goals as goal
 
 -- sixteen zeros but the first k
 zeros : (k : ℕ) → k ≤ 16 → take (16 - k) (replicate {A = ℕ} 16 0) ≡ drop k (replicate 16 0)
@@ -48,80 +47,23 @@ one_more number before k i l low h e =
     ∙ turn
     ∙ ap (paste number k sixteen_zeros) (sym (add-one (i - k)) ∙ next)
 
-abbrev invariant-loop : tie.invariant-loop
-invariant-loop last normal₀ i₀ normal i = ((i₀ ≤ i) × (i ≤ 16)) × ((length normal ≡ 16) × (normal ≡ paste normal₀ i₀ (replicate 16 0) (i - i₀)))
-
-abbrev decreases-loop : tie.decreases-loop
-decreases-loop last normal₀ i₀ normal i = 16 - i
-
-array-read-last : tie.Need-array-read-last invariant-loop decreases-loop
-array-read-last c = search rules
-
-cast-last : tie.Need-overflow-cast-last invariant-loop decreases-loop
-cast-last c = search rules
-
-add-i : tie.Need-overflow-add-i invariant-loop decreases-loop
-add-i c = omega arith
-
-loop-holds : tie.Need-loop-init invariant-loop decreases-loop
-loop-holds c =
-    let a = c.before.args in
-    let l : length a.t1 ≡ 16 = search rules in
-    let n = get_or a.t1 0 0 in
-    let z : n + 1 - (n + 1) ≡ 0 = omega arith in
-    ((omega arith, omega arith), (l, paste-zero a.t1 (n + 1) (replicate 16 0) ∙ ap (paste a.t1 (n + 1) (replicate 16 0)) (sym z)))
-
-array-write-normal : tie.Need-array-write-normal invariant-loop decreases-loop
-array-write-normal c = omega arith
-
-add-i-2 : tie.Need-overflow-add-i-2 invariant-loop decreases-loop
-add-i-2 c = omega arith
-
-loop-less : tie.Need-loop-smaller invariant-loop decreases-loop
-loop-less c = omega arith
-
-loop-again : tie.Need-loop-preserved invariant-loop decreases-loop
-loop-again c =
-    let a = c.before.before.before.args in
-    let l = c.before.loop in
-    let la : length a.t1 ≡ 16 = search rules in (
+pub loop-i-preserved : goal.loop-i-preserved
+loop-i-preserved c =
+    let a = c.args in
+    let l = c.loop-i in
+    let la : length a.number ≡ 16 = search rules in (
       (omega arith, omega arith),
       (
         length-set l.normal l.i _ ∙ l.invariant.1.0,
-        one_more a.t1 l.normal (get_or a.t1 0 0 + 1) l.i la l.invariant.0.0 (omega arith) l.invariant.1.1,
+        one_more a.number l.normal (get_or a.number 0 0 + 1) l.i la l.invariant.0.0 (omega arith) l.invariant.1.1,
       ),
     )
 
-returns : tie.Need-returns invariant-loop decreases-loop
-returns c =
-    let a = c.before.before.before.args in
-    let l = c.before.loop in
-    let n = get_or a.t1 0 0 in
-    let la : length a.t1 ≡ 16 = search rules in
+pub returns-after-loop-i : goal.returns-after-loop-i
+returns-after-loop-i c =
+    let a = c.args in
+    let l = c.loop-i in
+    let n = get_or a.number 0 0 in
+    let la : length a.number ≡ 16 = search rules in
     let e : l.i ≡ 16 = omega arith in
-    l.invariant.1.1 ∙ ap (λ (i : ℕ). paste a.t1 (n + 1) (replicate 16 0) (i - (n + 1))) e ∙ cleared a.t1 (n + 1) la (omega arith)
-
-returns-2 : tie.Need-returns-2 invariant-loop decreases-loop
-returns-2 c =
-    let a = c.before.args in
-    let n = get_or a.t1 0 0 in
-    let la : length a.t1 ≡ 16 = search rules in
-    let whole : take (n + 1) a.t1 ≡ a.t1 = take_all (n + 1) a.t1 (omega arith) in
-    rw (whole, la) (sym (append-nil a.t1))
-
-pub normal-number-spec : {M : Type 1} → statement M
-normal-number-spec =
-    tie.close
-    (tie.spec
-    invariant-loop
-    decreases-loop
-    array-read-last
-    cast-last
-    add-i
-    loop-holds
-    array-write-normal
-    add-i-2
-    loop-less
-    loop-again
-    returns
-    returns-2)
+    l.invariant.1.1 ∙ ap (λ (i : ℕ). paste a.number (n + 1) (replicate 16 0) (i - (n + 1))) e ∙ cleared a.number (n + 1) la (omega arith)
