@@ -125,6 +125,7 @@ fn takes_carrier(allowed: Allowed, carrier: Carrier) -> bool
 }
 
 // Whether a type may be received in a carrier, for a record with a connection choice.
+#[tactic(auto, unfolding(crate::specs::Carriers::carrier_fits))]
 pub fn carrier_fits(body: Body, connection: Connection, carrier: Carrier) -> bool
     ensures { result ≡ carrier_fits body connection carrier }
 {

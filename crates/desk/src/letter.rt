@@ -25,6 +25,7 @@ pub struct Letter {
 }
 
 // An identifier's bytes, where there is one.
+#[tactic(auto, unfolding(crate::specs::Letter::identifier_of))]
 pub fn identifier_of(identified: bool, bytes: [u8; 16]) -> Identifier
     ensures { result ≡ identifier_of identified bytes }
 {
@@ -69,6 +70,7 @@ pub fn same_identifier(a: Identifier, b: Identifier) -> bool
 }
 
 // A number of digits in its normal form, as words.
+#[tactic(auto, unfolding(crate::specs::Letter::number_words))]
 pub fn number_words(number: [u8; 16]) -> Words
     ensures { result ≡ number_words number }
 {
@@ -77,6 +79,7 @@ pub fn number_words(number: [u8; 16]) -> Words
 }
 
 // The letter of a message.
+#[tactic(auto, unfolding(crate::specs::Letter::letter_of))]
 pub fn letter_of(m: Message) -> Letter
     ensures { result ≡ letter_of m }
 {
@@ -100,6 +103,7 @@ pub fn letter_of(m: Message) -> Letter
 }
 
 // The letter of a message that was read: it is its own normal form, so its numbers are taken as they stand.
+#[tactic(auto, unfolding(crate::specs::Letter::read_letter))]
 pub fn read_letter(m: Message) -> Letter
     ensures { result ≡ read_letter m }
 {
@@ -123,6 +127,7 @@ pub fn read_letter(m: Message) -> Letter
 }
 
 // The message of a letter.
+#[tactic(auto, unfolding(crate::specs::Letter::message_of))]
 pub fn message_of(l: Letter) -> Message
     ensures { result ≡ message_of l }
 {

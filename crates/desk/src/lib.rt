@@ -1,6 +1,8 @@
 // What both desks share: messages and choices in flight, the outcome of a step, what is sent, and which
 // carrier goes with which type. An inner room: its functions serve the desks and are no public operations, but for
 // `letter::message_of`, by which a host has what is sent as a message.
+#![tactic(auto)]
+
 pub mod carriers;
 pub mod letter;
 pub mod outcome;
