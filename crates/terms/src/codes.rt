@@ -5,6 +5,7 @@ ghost use Rattle.terms.specs.Codes.{kind_of, kind_code, keep_of, keep_code, conn
 use desk::{Connection, Keep};
 use message::Kind;
 
+#[tactic(auto, unfolding(crate::specs::Codes::kind_of))]
 pub fn kind_of(code: u64) -> Kind
     ensures { result ≡ kind_of code }
 {
@@ -23,6 +24,7 @@ pub fn kind_code(kind: Kind) -> u64
     }
 }
 
+#[tactic(auto, unfolding(crate::specs::Codes::keep_of))]
 pub fn keep_of(code: u64) -> Keep
     ensures { result ≡ keep_of code }
 {
@@ -43,6 +45,7 @@ pub fn keep_code(keep: Keep) -> u64
     }
 }
 
+#[tactic(auto, unfolding(crate::specs::Codes::connection_of))]
 pub fn connection_of(code: u64) -> Connection
     ensures { result ≡ connection_of code }
 {

@@ -1,5 +1,7 @@
 // The terms of a request: what both ends agree on about it, and its words at rest. A record of either desk is its terms, its state and its own marks. An
 // inner room of both desks: its functions are no public operations.
+#![tactic(auto)]
+
 use codes::{connection_code, connection_of, flag_code, keep_code, keep_of, kind_code, kind_of};
 use desk::letter::{Identifier, identifier_words, is_identified};
 use desk::sends::Elements;
@@ -42,6 +44,7 @@ pub struct Terms {
 }
 
 // No terms: what a free place has.
+#[tactic(auto, unfolding(crate::specs::Terms::terms_of, crate::specs::Codes::kind_of, crate::specs::Codes::keep_of, crate::specs::Codes::connection_of))]
 pub fn no_terms() -> Terms
     ensures { result ≡ no_terms }
 {
@@ -58,6 +61,7 @@ pub fn no_terms() -> Terms
 }
 
 // What the terms at the front of some words say of one thing: its words alone are read. Of too few words, what no terms say.
+#[tactic(auto, unfolding(crate::specs::Terms::terms_of, crate::specs::Terms::terms_at))]
 pub fn identifier_at(row: &[u64]) -> Identifier
     ensures { result ≡ (terms_at row.now).identifier }
 {
@@ -74,6 +78,7 @@ pub fn identifier_at(row: &[u64]) -> Identifier
     Identifier::Absent
 }
 
+#[tactic(auto, unfolding(crate::specs::Terms::terms_of, crate::specs::Terms::terms_at))]
 pub fn number_a_at(row: &[u64]) -> Words
     ensures { result ≡ (terms_at row.now).numberA }
 {
@@ -86,6 +91,7 @@ pub fn number_a_at(row: &[u64]) -> Words
     Words { low: 0, high: 0 }
 }
 
+#[tactic(auto, unfolding(crate::specs::Terms::terms_of, crate::specs::Terms::terms_at))]
 pub fn number_b_at(row: &[u64]) -> Words
     ensures { result ≡ (terms_at row.now).numberB }
 {
@@ -98,6 +104,7 @@ pub fn number_b_at(row: &[u64]) -> Words
     Words { low: 0, high: 0 }
 }
 
+#[tactic(auto, unfolding(crate::specs::Terms::terms_of, crate::specs::Terms::terms_at))]
 pub fn service_at(row: &[u64]) -> u64
     ensures { result ≡ (terms_at row.now).service }
 {
@@ -107,6 +114,7 @@ pub fn service_at(row: &[u64]) -> u64
     0
 }
 
+#[tactic(auto, unfolding(crate::specs::Terms::terms_of, crate::specs::Terms::terms_at, crate::specs::Codes::kind_of))]
 pub fn kind_at(row: &[u64]) -> Kind
     ensures { result ≡ (terms_at row.now).kind }
 {
@@ -117,6 +125,7 @@ pub fn kind_at(row: &[u64]) -> Kind
 }
 
 // The terms at the front of some words; of too few words, none.
+#[tactic(auto, unfolding(crate::specs::Terms::terms_of, crate::specs::Terms::terms_at))]
 pub fn terms_of(row: &[u64]) -> Terms
     ensures { result ≡ terms_at row.now }
 {
@@ -142,6 +151,7 @@ pub fn terms_of(row: &[u64]) -> Terms
 }
 
 // Terms put over the front of some words; too few words stay as they are.
+#[tactic(auto, unfolding(crate::specs::Terms::terms_put))]
 pub fn put_terms(row: &mut [u64], terms: Terms)
     ensures { row.new ≡ terms_put terms row.old }
 {

@@ -63,6 +63,7 @@ fn not_both(a: Identifier, b: Identifier) -> bool
 }
 
 // Whether the terms at the front of some words fit whom a message names. No more words are read than it takes to tell.
+#[tactic(auto, unfolding(crate::specs::Means::fits))]
 pub fn fits_at(row: &[u64], names: Names) -> bool
     ensures { result ≡ fits names (terms_at row.now) }
 {
