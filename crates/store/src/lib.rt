@@ -1,5 +1,7 @@
 // Rows of words in a lent slice, at any width and count: what both desks keep their records in. A row begins with a record's terms, of which the identifier stands
 // first, and its state stands behind them. An inner room of both desks: its functions are no public operations.
+#![tactic(auto)]
+
 ghost use Rattle.std.specs.Prelude.{◌≡◌, ◌+◌, ◌-◌, ◌*◌, ◌≤◌, ◌<◌, length, drop};
 ghost use Rattle.std.proofs.Math.Seq.{paste};
 ghost use Rattle.lists.specs.Lists.{first};
@@ -23,6 +25,7 @@ pub enum For {
 }
 
 // Whether so many rows stand at the front of so many words, each with terms and a state.
+#[tactic(auto, unfolding(crate::specs::Rows::rows_fit))]
 fn rows_fit(length: usize, width: usize, count: usize) -> bool
     ensures { result ≡ rows_fit width count length }
 {
@@ -39,6 +42,7 @@ fn rows_fit(length: usize, width: usize, count: usize) -> bool
 }
 
 // Whether the row that starts at word `at` is live.
+#[tactic(auto, unfolding(crate::specs::Rows::live))]
 fn is_live(ws: &[u64], at: usize, top: u64) -> bool
     requires { at + termsWidth < length ws.now }
     ensures { result ≡ live top (drop at ws.now) }
@@ -48,6 +52,7 @@ fn is_live(ws: &[u64], at: usize, top: u64) -> bool
 }
 
 // Whether the row that starts at word `at` is free.
+#[tactic(auto, unfolding(crate::specs::Rows::free))]
 fn is_free(ws: &[u64], at: usize, top: u64) -> bool
     requires { at + termsWidth < length ws.now }
     ensures { result ≡ free top (drop at ws.now) }
@@ -56,6 +61,7 @@ fn is_free(ws: &[u64], at: usize, top: u64) -> bool
 }
 
 // Whether the row that starts at word `at` is live and has this identifier: its low word first, which tells most rows apart.
+#[tactic(auto, unfolding(crate::specs::Rows::has_identifier))]
 fn has_identifier(ws: &[u64], at: usize, identifier: Words, top: u64) -> bool
     requires { at + termsWidth < length ws.now }
     ensures { result ≡ has_identifier top identifier (drop at ws.now) }
@@ -73,6 +79,7 @@ fn has_identifier(ws: &[u64], at: usize, identifier: Words, top: u64) -> bool
 }
 
 // Whether the row that starts at word `at` is live and fits whom a message names.
+#[tactic(auto, using(lists::proofs::Parts::tail_of_lem), unfolding(crate::specs::Rows::fits_row))]
 fn fits_row(ws: &[u64], at: usize, names: Names, top: u64) -> bool
     requires { at + termsWidth < length ws.now }
     ensures { result ≡ fits_row top names (drop at ws.now) }
@@ -84,6 +91,7 @@ fn fits_row(ws: &[u64], at: usize, names: Names, top: u64) -> bool
 }
 
 // Whether the row that starts at word `at` is in a state that a message is for.
+#[tactic(auto, unfolding(crate::specs::Rows::is_for))]
 fn is_for(ws: &[u64], at: usize, states: For) -> bool
     requires { at + termsWidth < length ws.now }
     ensures { result ≡ is_for states (drop at ws.now) }
@@ -95,6 +103,7 @@ fn is_for(ws: &[u64], at: usize, states: For) -> bool
 }
 
 // The place of the first live row with this identifier.
+#[tactic(auto, using(crate::proofs::Turns::search_hit, crate::proofs::Turns::search_miss))]
 fn find_in(ws: &[u64], width: usize, count: usize, identifier: Words, top: u64) -> Found
     requires { (termsWidth < width) × (count * width ≤ length ws.now) }
     ensures { result ≡ first (has_identifier top identifier) (rows width count ws.now) }
@@ -112,6 +121,7 @@ fn find_in(ws: &[u64], width: usize, count: usize, identifier: Words, top: u64) 
 }
 
 // The place of the first row that fits and is in a state that the message is for; or whether one fits at all.
+#[tactic(auto, using(crate::proofs::Turns::oldest_from, crate::proofs::Turns::oldest_hit, crate::proofs::Turns::oldest_miss))]
 fn find_fitting_in(
     ws: &[u64],
     width: usize,
@@ -143,6 +153,7 @@ fn find_fitting_in(
 }
 
 // The first free place.
+#[tactic(auto, using(crate::proofs::Turns::search_hit, crate::proofs::Turns::search_miss))]
 fn find_free_in(ws: &[u64], width: usize, count: usize, top: u64) -> Found
     requires { (termsWidth < width) × (count * width ≤ length ws.now) }
     ensures { result ≡ first (free top) (rows width count ws.now) }
@@ -160,6 +171,7 @@ fn find_free_in(ws: &[u64], width: usize, count: usize, top: u64) -> Found
 }
 
 // The place of the first live row with this identifier; where the rows don't fit, none.
+#[tactic(auto, using(crate::proofs::RowsLaws::fit_parts), unfolding(crate::specs::Rows::found))]
 pub fn find(ws: &[u64], width: usize, count: usize, identifier: Words, top: u64) -> Found
     ensures { result ≡ found (has_identifier top identifier) width count ws.now }
 {
@@ -171,6 +183,7 @@ pub fn find(ws: &[u64], width: usize, count: usize, identifier: Words, top: u64)
 
 // The row that a message means by its numbers and its service: the oldest that fits and is in a state that the message is for; or none now, where one fits; where
 // the rows don't fit, none.
+#[tactic(auto, using(crate::proofs::RowsLaws::fit_parts), unfolding(crate::specs::Rows::found_fitting))]
 pub fn find_fitting(
     ws: &[u64],
     width: usize,
@@ -188,6 +201,7 @@ pub fn find_fitting(
 }
 
 // Whether the row at a place is live; where the rows don't fit, or it is no place, not.
+#[tactic(auto, using(crate::proofs::RowsLaws::fit_parts, crate::proofs::RowsLaws::rows_at, crate::proofs::RowsLaws::get_d_past), unfolding(crate::specs::Rows::live_at, crate::specs::Rows::live))]
 pub fn is_live_at(ws: &[u64], width: usize, count: usize, i: usize, top: u64) -> bool
     ensures { result ≡ live_at top width count ws.now i }
 {
@@ -201,6 +215,7 @@ pub fn is_live_at(ws: &[u64], width: usize, count: usize, i: usize, top: u64) ->
 }
 
 // The first free place; where the rows don't fit, none.
+#[tactic(auto, using(crate::proofs::RowsLaws::fit_parts), unfolding(crate::specs::Rows::found))]
 pub fn find_free(ws: &[u64], width: usize, count: usize, top: u64) -> Found
     ensures { result ≡ found (free top) width count ws.now }
 {
@@ -237,6 +252,7 @@ fn move_rows(ws: &mut [u64], width: usize, count: usize, i: usize)
 }
 
 // A blank row at word `at`.
+#[tactic(auto, using(crate::proofs::Turns::blank_turn))]
 fn blank(ws: &mut [u64], at: usize, width: usize)
     requires { at + width ≤ length ws.old }
     ensures { ws.new ≡ paste ws.old at (blank_row width) width }
@@ -249,6 +265,7 @@ fn blank(ws: &mut [u64], at: usize, width: usize)
 }
 
 // The row at place i taken out: the later rows move one place to the left, and the last place is left blank.
+#[tactic(auto, using(crate::proofs::RowsLaws::place_rest))]
 fn remove_in(ws: &mut [u64], width: usize, count: usize, i: usize)
     requires { (i < count) × (count * width ≤ length ws.old) }
     ensures { ws.new ≡ drop_row width count ws.old i }
@@ -259,6 +276,7 @@ fn remove_in(ws: &mut [u64], width: usize, count: usize, i: usize)
 }
 
 // The row at place i taken out; where the rows don't fit, or i is no place, nothing changes.
+#[tactic(auto, using(crate::proofs::RowsLaws::fit_parts), unfolding(crate::specs::Rows::removed_row))]
 pub fn remove(ws: &mut [u64], width: usize, count: usize, i: usize)
     ensures { ws.new ≡ removed_row width count ws.old i }
 {
