@@ -5,6 +5,7 @@ ghost use Rattle.clerk_records.specs.Codes.{state_of};
 use clerk_table::table::State;
 pub use clerk_table::table::state_code;
 
+#[tactic(auto, unfolding(crate::specs::Codes::state_of))]
 pub fn state_of(code: u64) -> State
     ensures { result ≡ state_of code }
 {

@@ -59,6 +59,7 @@ fn length_of(words: &[u64; WORDS], timer: Timer, kind: Kind) -> u32
 }
 
 // A timer of the record at a place is started; past the last place, nothing changes.
+#[tactic(auto, unfolding(crate::specs::Deadlines::started_at))]
 fn start(words: &mut [u64; WORDS], count: u32, i: usize, timer: Timer)
     ensures { words.new ≡ started_at count i timer words.old }
 {
@@ -80,6 +81,7 @@ fn start_if(words: &mut [u64; WORDS], starts: bool, count: u32, i: usize, timer:
 }
 
 // Each timer that a step starts, at the place that its outcome tells.
+#[tactic(auto, unfolding(crate::specs::Deadlines::timed))]
 pub fn start_timers(words: &mut [u64; WORDS], count: u32, at: Found, starts: Timers)
     ensures { words.new ≡ timed count at starts words.old }
 {
@@ -113,6 +115,7 @@ pub fn deadlines_at(words: &[u64; WORDS], i: usize) -> Deadlines
     Deadlines { t1, t2, t3 }
 }
 
+#[tactic(auto, unfolding(crate::specs::Records::record_of, crate::specs::Codes::state_of))]
 fn state_at(words: &[u64; WORDS], i: usize) -> State
     ensures { result ≡ (get_or (records words.now) i blank).state }
 {
@@ -134,6 +137,7 @@ fn due_or(words: &[u64; WORDS], i: usize, count: u32, timer: Timer, other: Expir
 
 // The timer of the record at a place that runs out in a tick, by its state: T2 runs on in Ringout, and does not run out there. Of its words only the state's and the deadlines
 // of the timers that run are read.
+#[tactic(auto, unfolding(crate::specs::Deadlines::expiring))]
 pub fn expiring_at(words: &[u64; WORDS], i: usize, count: u32) -> Expiring
     ensures { result ≡ expiring_at count words.now i }
 {

@@ -1,5 +1,7 @@
 // The clerk's records at rest: sixteen places, each with a record's terms, its state, its mark, the can-keep that was sent and its deadlines; behind them the lengths of the
 // timers. Only this crate touches words; what stands above it speaks of the list of records. An inner room of the clerk's desk: its functions are no public operations.
+#![tactic(auto)]
+
 pub mod codes;
 pub mod deadlines;
 pub mod meaning;

@@ -109,6 +109,7 @@ fn find_otherwise(words: &[u64; WORDS], input: Input) -> Means
 }
 
 // The record that an input is about. There is one search by the identifier, whatever the input, so that it stands in the one step of the desk.
+#[tactic(auto, unfolding(crate::specs::Meaning::meant_by))]
 pub fn find_meant(words: &[u64; WORDS], input: Input) -> Means
     ensures { result ≡ meant_by input (records words.now) }
 {

@@ -16,6 +16,7 @@ use terms::codes::{connection_code, flag_code, keep_code, kind_code};
 use terms::{no_terms, put_terms, terms_of};
 
 // The record of a row.
+#[tactic(auto, unfolding(crate::specs::Records::record_of))]
 fn record_of(row: &[u64]) -> Record
     requires { Layout.width ≤ length row.now }
     ensures { result ≡ record_of row.now }
@@ -44,12 +45,14 @@ fn put_words(row: &mut [u64], r: Record)
 }
 
 // The first place that is not used.
+#[tactic(auto, using(crate::proofs::RecordsLaws::place_found))]
 pub fn find_place(words: &[u64; WORDS]) -> Found
     ensures { result ≡ place (records words.now) }
 {
     store::find_free(words, WIDTH, PLACES, LAST_STATE)
 }
 
+#[tactic(auto, using(lists::proofs::Parts::tail_of_lem))]
 fn load_in(words: &[u64], i: usize) -> Record
     requires { (i < Layout.places) × (Layout.words ≤ length words.now) }
     ensures { result ≡ get_or (records words.now) i blank }
@@ -58,6 +61,7 @@ fn load_in(words: &[u64], i: usize) -> Record
     record_of(&words[at..])
 }
 
+#[tactic(auto, unfolding(crate::specs::Records::record_of, crate::specs::Codes::state_of))]
 fn blank_record() -> Record
     ensures { result ≡ blank }
 {
@@ -80,6 +84,7 @@ pub fn load(words: &[u64; WORDS], i: usize) -> Record
     blank_record()
 }
 
+#[tactic(auto, using(lists::proofs::Parts::tail_of_lem, lists::proofs::Parts::mid_tail), unfolding(store::specs::Rows::put_row))]
 fn put_in(words: &mut [u64], i: usize, r: Record)
     requires { (i < Layout.places) × (Layout.words ≤ length words.old) }
     ensures { words.new ≡ put_row Layout.width words.old i (record_words r) }
@@ -104,6 +109,7 @@ fn turn_words(words: &mut [u64], t: Turned)
     words[4] = flag_code(t.down);
 }
 
+#[tactic(auto, using(lists::proofs::Parts::tail_of_lem, lists::proofs::Parts::mid_tail), unfolding(store::specs::Rows::turn_row))]
 fn turn_in(words: &mut [u64], i: usize, t: Turned)
     requires { (i < Layout.places) × (Layout.words ≤ length words.old) }
     ensures { words.new ≡ turn_row Layout.width words.old i choices_at (turned_words t) }
@@ -113,6 +119,7 @@ fn turn_in(words: &mut [u64], i: usize, t: Turned)
 }
 
 // A record put at a place; past the last place, nothing changes.
+#[tactic(auto, unfolding(crate::specs::Records::applied))]
 pub fn put(words: &mut [u64; WORDS], i: usize, r: Record)
     ensures { words.new ≡ applied words.old (Put i r) }
 {
@@ -122,6 +129,7 @@ pub fn put(words: &mut [u64; WORDS], i: usize, r: Record)
 }
 
 // The record of a place removed: the later ones move up.
+#[tactic(auto, unfolding(crate::specs::Records::applied))]
 pub fn remove(words: &mut [u64; WORDS], i: usize)
     ensures { words.new ≡ applied words.old (Remove i) }
 {
@@ -129,6 +137,7 @@ pub fn remove(words: &mut [u64; WORDS], i: usize)
 }
 
 // A planned change, made in place.
+#[tactic(auto, unfolding(crate::specs::Records::applied))]
 pub fn apply(words: &mut [u64; WORDS], change: Change)
     ensures { words.new ≡ applied words.old change }
 {

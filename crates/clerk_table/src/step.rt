@@ -132,6 +132,7 @@ fn call_cleared(clears: bool, state: State) -> bool
 }
 
 // A row that is taken for the record of a place.
+#[tactic(auto, unfolding(crate::specs::Step::row_taken))]
 pub fn take_row(place: usize, r: Record, row: Row) -> Plan
     ensures { result ≡ row_taken place r row }
 {

@@ -157,8 +157,8 @@ line_gets_plain h k j line-take-accepts = absurd h
 early_gets :
     {p : Policy} {c : Clerk} {d : Data} {kind : Kind} {q : ℕ} {u o : List Msg} {l' : Line} → NoReq u → ((t : Terms) → AllCarried t u) → ((a : Bool) → ClerkOk (terms_of p d q) a c) →
     LineTakeEffect p none (request d kind q) l' o → Agrees true c u l' o (or (held l') false)
-early_gets {p} {d} {q} {o} h w k (line-take-stays i) = after (keepable p d q) h (w _, silent-carried _ i) (k _) ok_none (down++ o down_nil (silent i))
-early_gets {p} {d} {q} {o} h w k (line-take-ends i) = after (keepable p d q) h (w _, silent-carried _ i) (k _) ok_none (down++ o down_nil (silent i))
+early_gets {p} {d} {q} {o} h w k (line-take-stays i) = after (keepable p d q) h (w (terms_of p d q), silent-carried (terms_of p d q) i) (k _) ok_none (down++ o down_nil (silent i))
+early_gets {p} {d} {q} {o} h w k (line-take-ends i) = after (keepable p d q) h (w (terms_of p d q), silent-carried (terms_of p d q) i) (k _) ok_none (down++ o down_nil (silent i))
 early_gets {p} {d} {q} {u} h w k line-take-accepts =
     let t = terms_of p d q in
     let carried : AllCarried t u × AllCarried t (result_of t ∷ []) = (w t, (tt, tt)) in
@@ -177,9 +177,9 @@ agrees-line_gets {o = o} {v = down} (after {t} f h w k l v) e =
 agrees-loses-up : {y : Bool} {c : Clerk} {u v : List Msg} {l : Line} {a : Bool} (p : Policy) (i : ℕ) → Agrees y c u l v a → Agrees y c (left_out i u) l v a
 unfolding left_out
 agrees-loses-up p i before = before
-agrees-loses-up p zero (early-waiting {d} {q} h w) = after {t = terms_of p d q} (keepable p d q) h (w _, tt) ok_waiting ok_none down_nil
+agrees-loses-up p zero (early-waiting {d} {q} h w) = after {t = terms_of p d q} (keepable p d q) h (w (terms_of p d q), tt) ok_waiting ok_none down_nil
 agrees-loses-up p (suc i) (early-waiting {u} h w) = early-waiting (no_req_left i u h) (λ t. carried-left t i u (w t))
-agrees-loses-up p zero (early-absent {d} {q} h w) = after {t = terms_of p d q} (keepable p d q) h (w _, tt) ok_absent ok_none down_nil
+agrees-loses-up p zero (early-absent {d} {q} h w) = after {t = terms_of p d q} (keepable p d q) h (w (terms_of p d q), tt) ok_absent ok_none down_nil
 agrees-loses-up p (suc i) (early-absent {u} h w) = early-absent (no_req_left i u h) (λ t. carried-left t i u (w t))
 agrees-loses-up {u} p i (after {t} f h w k l v) = after f (no_req_left i u h) (carried-left t i u w.0, w.1) k l v
 

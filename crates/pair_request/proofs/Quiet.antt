@@ -107,11 +107,13 @@ quit_from-waiting : {d : Data} {kind : Kind} {u : List Msg} {l : Line} {v : List
 quit_from-waiting requested = early-out (just_cancel ret) here
 quit_from-waiting (unacked e p) = clerk-out (just_cancel ret) here
 quit_from-waiting refused = clerk-out (just_cancel ret) here
+quit_from-waiting (late f p) = elim p [ ]
 
 reject_waiting : {d : Data} {kind : Kind} {u : List Msg} {l : Line} {v : List Msg} → Pair (waiting d kind) u l v → Inv absent (u ++ []) l v
 reject_waiting requested = unheard
 reject_waiting (unacked e p) = deserted tt owed_result
 reject_waiting refused = both_out tt
+reject_waiting (late f p) = elim p [ ]
 
 pair-acts : {c c' : Clerk} {o u : List Msg} {l : Line} {v : List Msg} → Pair c u l v → ClerkActEffect c c' o → Inv c' (u ++ o) l v
 pair-acts {u} p stays = rw (++[] u) (pair p)
@@ -210,9 +212,13 @@ pair-line-marks (again p) = again (pair-line-marks p)
 -- in Alert the wires are quiet
 pair-alerts : {c : Clerk} {u : List Msg} {t : Terms} {own : Own} {v : List Msg} → Pair c u (holds t own alert) v → Pair c u none (v ++ (alerts ∷ []))
 pair-alerts ring = alerting
+pair-alerts (unacked e p) = elim p [ ]
+pair-alerts (again p) = elim p [ ]
 
 pair-fails : {c : Clerk} {u : List Msg} {t : Terms} {own : Own} {v : List Msg} → Pair c u (holds t own alert) v → Pair c u none (v ++ (failed ∷ []))
 pair-fails ring = failing
+pair-fails (unacked e p) = elim p [ ]
+pair-fails (again p) = elim p [ ]
 
 pair-line-acts : {c : Clerk} {u : List Msg} {l l' : Line} {o v : List Msg} → Pair c u l v → LineActEffect l l' o → Inv c u l' (v ++ o)
 pair-line-acts {v} p line_stays = rw (++[] v) (pair p)
@@ -315,3 +321,6 @@ quiet-listed (old (pair (answering m))) = answer-await
 quiet-listed (old (pair paused)) = suspended-await
 quiet-listed (old (pair ring)) = ringout-alert
 quiet-listed (old (both_out h)) = no_record
+quiet-listed (old (line-out h k)) = elim k [ ]
+quiet-listed (old (clerk-out h k)) = elim k [ ]
+quiet-listed (old (deserted h k)) = elim k [ ]
