@@ -121,7 +121,14 @@ fn ticked<W: Write>(out: &mut W, w: World, event: Event) -> io::Result<World> {
     let identifier = agreed.identifier;
     let state = r.state;
     let sent = part(&buffer, 0, told[1] as usize);
-    show_tick(out, event, &told, tag_of(identifier), state_entry(state), sent)?;
+    show_tick(
+        out,
+        event,
+        &told,
+        tag_of(identifier),
+        state_entry(state),
+        sent,
+    )?;
     let mut after = w;
     after.clerk = clerk;
     after.toLine = put_text(wire, sent);
@@ -143,5 +150,11 @@ pub fn clerk_event<W: Write>(out: &mut W, w: World, event: Event) -> io::Result<
     let heard = part(&bytes, w.clerkHeard, behind);
     let mut after = w;
     after.clerkHeard = behind;
-    stepped(out, after, event, entry_of(event, w.preference, heard), heard)
+    stepped(
+        out,
+        after,
+        event,
+        entry_of(event, w.preference, heard),
+        heard,
+    )
 }
