@@ -1,16 +1,19 @@
 // What the teller says. docs/STORY.md has each line.
 use crate::row::print_line;
 use printing::{blank_page, put_entry};
+use std::io;
+use std::io::Write;
 
 // A line by its entry in a table.
-fn print_entry(table: &[u8], entry: usize) {
+fn print_entry<W: Write>(out: &mut W, table: &[u8], entry: usize) -> io::Result<()> {
     let line = put_entry(blank_page(), table, entry);
-    print_line(line, line.at);
+    print_line(out, line, line.at)
 }
 
 // A line of the narration, from 1.
-pub fn say(number: usize) {
+pub fn say<W: Write>(out: &mut W, number: usize) -> io::Result<()> {
     print_entry(
+        out,
         b"
 * The house's line is busy. The clerk asks to be rung back, and says that it can keep the request.
 * The line clears, and the house rings back. But another caller is faster than the clerk.
@@ -36,12 +39,13 @@ pub fn say(number: usize) {
 * The house rings back the second. It has no record here any more, and its caller was told \"failed\".
 ",
         number,
-    );
+    )
 }
 
 // A line around the scenes: the story's opening from 4 on, and for each scene from 8 on its title, its opening and the two lines of its lesson.
-fn frame(number: usize) {
+fn frame<W: Write>(out: &mut W, number: usize) -> io::Result<()> {
     print_entry(
+        out,
         b"
 =============================================================================================================
 CLOCK    CLERK'S DESK (User A)         |               THE WIRES              | LINE DESK (User B)
@@ -76,34 +80,34 @@ LESSON 3, WITHOUT A NAME. Where no identifier tells whose a message is, the host
 A right place kept the stray off. A guess let it touch the nearest request, and a caller was lost.
 ",
         number,
-    );
+    )
 }
 
-pub fn open_story() {
-    frame(4);
-    frame(5);
-    frame(6);
-    frame(7);
-    frame(0);
+pub fn open_story<W: Write>(out: &mut W) -> io::Result<()> {
+    frame(out, 4)?;
+    frame(out, 5)?;
+    frame(out, 6)?;
+    frame(out, 7)?;
+    frame(out, 0)
 }
 
 // The title between two rules, the opening, and the head of the ladder.
-pub fn open_scene(scene: u8) {
+pub fn open_scene<W: Write>(out: &mut W, scene: u8) -> io::Result<()> {
     let title = 4 + 4 * (scene as usize);
-    frame(1);
-    frame(title);
-    frame(1);
-    frame(title + 1);
-    frame(0);
-    frame(2);
-    frame(3);
+    frame(out, 1)?;
+    frame(out, title)?;
+    frame(out, 1)?;
+    frame(out, title + 1)?;
+    frame(out, 0)?;
+    frame(out, 2)?;
+    frame(out, 3)
 }
 
 // The lesson below the ladder.
-pub fn close_scene(scene: u8) {
+pub fn close_scene<W: Write>(out: &mut W, scene: u8) -> io::Result<()> {
     let title = 4 + 4 * (scene as usize);
-    frame(3);
-    frame(title + 2);
-    frame(title + 3);
-    frame(0);
+    frame(out, 3)?;
+    frame(out, title + 2)?;
+    frame(out, title + 3)?;
+    frame(out, 0)
 }

@@ -5,6 +5,8 @@ use crate::row::{no_clock, print_row, to_middle, to_right};
 use crate::shown::NO_RECORD;
 use crate::words::put_state;
 use printing::{Page, put_entry};
+use std::io;
+use std::io::Write;
 
 // What is shown of a record: its tag, the entry of its state (`NO_RECORD` where the place is not used), its keep choice by its code, and 1 where its connection is down.
 #[derive(Clone, Copy)]
@@ -40,8 +42,18 @@ fn put_record(page: Page, i: usize, shown: Shown) -> Page {
 }
 
 // The row of one place of both desks: the first one, and behind it only those that a desk uses.
-pub fn show_place(i: usize, atClerk: Shown, atLine: Shown) {
+pub fn show_place<W: Write>(
+    out: &mut W,
+    i: usize,
+    atClerk: Shown,
+    atLine: Shown,
+) -> io::Result<()> {
     let left = put_record(no_clock(), i, atClerk);
     let middle = put_entry(to_middle(left), b"              (records)\n", i);
-    print_row(left.at, middle.at, put_record(to_right(middle), i, atLine));
+    print_row(
+        out,
+        left.at,
+        middle.at,
+        put_record(to_right(middle), i, atLine),
+    )
 }

@@ -1,6 +1,7 @@
 // A row of the ladder: the clock, the left cell from column 9 on, the bars at 39 and 78, the middle cell between them, a blank and the right cell behind them.
-use libc::STDOUT_FILENO;
 use printing::{Page, blank_page, go_to, part, put_entry, put_text};
+use std::io;
+use std::io::Write;
 
 // One of two numbers: places of a page, entries of a table.
 pub fn either(first: bool, one: usize, other: usize) -> usize {
@@ -11,10 +12,10 @@ pub fn either(first: bool, one: usize, other: usize) -> usize {
 }
 
 // The page up to a place, as a line.
-pub fn print_line(page: Page, end: usize) {
+pub fn print_line<W: Write>(out: &mut W, page: Page, end: usize) -> io::Result<()> {
     let bytes = page.bytes;
-    io::write_all(STDOUT_FILENO, part(&bytes, 0, end));
-    io::write_all(STDOUT_FILENO, b"\n");
+    out.write_all(part(&bytes, 0, end))?;
+    out.write_all(b"\n")
 }
 
 // Where the left cell begins.
@@ -57,23 +58,37 @@ pub fn to_right(middle: Page) -> Page {
 }
 
 // A row whose cells end at these places, if there is something in one of them. With an empty right cell it ends with its bar.
-pub fn print_row(left: usize, middle: usize, row: Page) {
+pub fn print_row<W: Write>(out: &mut W, left: usize, middle: usize, row: Page) -> io::Result<()> {
     if left == LEFT && middle == 40 && row.at == 80 {
-        return;
+        return Ok(());
     }
-    print_line(row, either(row.at == 80, 79, row.at));
+    print_line(out, row, either(row.at == 80, 79, row.at))
 }
 
 // A row of three lists of lines. The clock stands in the first.
-fn print_lines(clock: u32, left: &[u8], middle: &[u8], right: &[u8], row: usize) {
+fn print_lines<W: Write>(
+    out: &mut W,
+    clock: u32,
+    left: &[u8],
+    middle: &[u8],
+    right: &[u8],
+    row: usize,
+) -> io::Result<()> {
     let one = put_entry(to_left(clock, row), left, row);
     let two = put_entry(to_middle(one), middle, row);
-    print_row(one.at, two.at, put_entry(to_right(two), right, row));
+    print_row(out, one.at, two.at, put_entry(to_right(two), right, row))
 }
 
 // All rows of three lists of lines: an event has no more than ten.
-pub fn print_rows(clock: u32, left: &[u8], middle: &[u8], right: &[u8]) {
+pub fn print_rows<W: Write>(
+    out: &mut W,
+    clock: u32,
+    left: &[u8],
+    middle: &[u8],
+    right: &[u8],
+) -> io::Result<()> {
     for row in 0..10 {
-        print_lines(clock, left, middle, right, row);
+        print_lines(out, clock, left, middle, right, row)?;
     }
+    Ok(())
 }

@@ -1,20 +1,21 @@
 // A small host in Rattle: it keeps both desks in locals and lends them to each step of crate `lent`. A request is asked for, reaches the line desk, and its result reaches the clerk's
 // desk; of each step it prints whether it was taken.
+#![tactic(auto)]
+
 mod clerk_end;
 mod line_end;
 
 use clerk::entry::{Asking, ask_entry};
 use clerk::start::Lengths;
 use desk::outcome::Outcome;
-use libc::STDOUT_FILENO;
 use message::Kind;
+use std::io;
 
-fn tell(outcome: Outcome) {
+fn tell(rt: &impl Print, outcome: Outcome) -> io::Result<()> {
     if outcome.refusal == 0 {
-        io::write_all(STDOUT_FILENO, b"taken\n");
-        return;
+        return println!(rt; "taken");
     }
-    io::write_all(STDOUT_FILENO, b"refused\n");
+    println!(rt; "refused")
 }
 
 // Of number 1 for number 2, which is the line desk's one line.
@@ -34,7 +35,7 @@ fn asking() -> Asking {
 // No time passes here: every step is at this count of seconds.
 const COUNT: u32 = 0;
 
-fn main() {
+fn main(rt: HostRuntime) -> io::Result<()> {
     let begun = clerk::start::start(Lengths {
         t1: 20,
         t2Ccbs: 900,
@@ -46,14 +47,14 @@ fn main() {
     let clerkDesk = asked.desk;
     let request = asked.outcome;
     let sent = request.sending;
-    tell(request);
+    tell(&rt, request)?;
     let started = line::start::start(b"\x01\x02\0\0\0\0\0\0\0\0\0\0\0\0\0\0\x03", true, false);
     let lineDesk = started.desk;
     let kept = line_end::played(lineDesk, COUNT, line_end::entry_of(sent));
     let result = kept.outcome;
     let answer = result.sending;
-    tell(result);
+    tell(&rt, result)?;
     let acknowledged = clerk_end::played(clerkDesk, COUNT, clerk_end::entry_of(answer));
     let last = acknowledged.outcome;
-    tell(last);
+    tell(&rt, last)
 }

@@ -80,6 +80,7 @@ fn timers_stopped(next: Next) -> Timers
 }
 
 // A row that is taken for the record of a place.
+#[tactic(auto, unfolding(crate::specs::Step::row_taken))]
 pub fn take_row(place: usize, r: Record, row: Row) -> Plan
     ensures { result ≡ row_taken place r row }
 {

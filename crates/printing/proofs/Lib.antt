@@ -1,2 +1,1 @@
-mod PageLaws
 mod TableLaws

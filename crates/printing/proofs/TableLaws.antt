@@ -1,13 +1,7 @@
 -- What a loop over a table asks at an index: each law takes the byte at the index off the rest.
-use Prim.Native.Nat.{ℕ, zero, suc, ◌+◌, ◌-◌, ◌≤◌, ◌<◌}
-use mathlib.Core.Bool.{Bool, true, false}
-use mathlib.Core.List.{List, [], ◌∷◌, ◌++◌, append_assoc, append-nil}
-use mathlib.Core.Path.{◌≡◌, refl, sym, ap, ◌∙◌}
-use native.Mathlib.Numerals.{add-one}
-use native.Mathlib.Omega.{arith}
-use lib.Dec.{eqb}
-use lib.ListN.{length, get_or, take, drop, drop_of_length-le, take-append-drop}
-use lib.Seq.{drop-cons, take-suc}
+use Rattle.std.specs.Prelude.{ℕ, zero, suc, ◌+◌, ◌-◌, ◌≤◌, ◌<◌, Bool, true, false, List, [], ◌∷◌, ◌++◌, ◌≡◌, refl, eqb, length, take, drop}
+use Rattle.std.proofs.Common.{arith, get_or, add-one, append_assoc, append-nil, drop_of_length-le, take-append-drop}
+use Rattle.std.proofs.Math.Seq.{drop-cons, take-suc}
 use Rattle.lists.specs.Choice.{pick}
 use Rattle.printing.specs.Table.{entries_from, line_of}
 
@@ -46,6 +40,6 @@ pub line_miss :
 unfolding line_of
 line_miss text i h e = rw (add-one, drop-cons text i 0, e, take-suc text i 0, append_assoc)
 
-pub line-end : (text : List ℕ) (i : ℕ) → length text ≤ i → take i text ++ line_of (drop i text) ≡ text
+pub line_end : (text : List ℕ) (i : ℕ) → length text ≤ i → take i text ++ line_of (drop i text) ≡ text
 unfolding line_of
-line-end text i h = rw (drop_of_length-le text h) (rw (drop_of_length-le text h) at (take-append-drop i text))
+line_end text i h = rw (drop_of_length-le text h) (rw (drop_of_length-le text h) at (take-append-drop i text))

@@ -1,5 +1,7 @@
 // Printing: a page of bytes and the place where the next one goes. Each function hands the page back with one thing put there. What has no room on a page is left
 // out, so that nothing is asked of a caller. An inner room of the programs: its functions are no public operations.
+#![tactic(auto)]
+
 mod table;
 
 ghost use Rattle.std.specs.Prelude.{◌≡◌};
@@ -17,6 +19,7 @@ pub struct Page {
 }
 
 // A page of blanks, to be filled from its first byte on.
+#[tactic(auto, unfolding(crate::specs::Page::blank_page))]
 pub fn blank_page() -> Page
     ensures { result ≡ blank_page }
 {
@@ -27,6 +30,7 @@ pub fn blank_page() -> Page
 }
 
 // The same page, to be filled from another place on.
+#[tactic(auto, unfolding(crate::specs::Page::placed_at))]
 pub fn go_to(page: Page, at: usize) -> Page
     ensures { result ≡ placed_at page at }
 {
@@ -48,6 +52,7 @@ fn room_for(at: usize, length: usize) -> usize
 }
 
 // Bytes as they are.
+#[tactic(auto, unfolding(crate::specs::Page::text_put))]
 pub fn put_text(page: Page, text: &[u8]) -> Page
     ensures { result ≡ text_put page text.now }
 {
@@ -66,6 +71,7 @@ pub fn put_text(page: Page, text: &[u8]) -> Page
 }
 
 // The bytes from a place up to another. Places out of order or past the end are no bytes.
+#[tactic(auto, unfolding(crate::specs::Page::part_of))]
 pub fn part(bytes: &[u8], start: usize, behind: usize) -> &[u8]
     ensures { result.now ≡ part_of bytes.now start behind }
 {

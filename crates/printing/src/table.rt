@@ -19,6 +19,7 @@ fn entries_left(left: usize, byte: u8) -> usize
 }
 
 // The table from an entry on. Behind the last entry nothing stands.
+#[tactic(auto, using(lists::proofs::Parts::tail_of_lem, crate::proofs::TableLaws::entries_first, crate::proofs::TableLaws::entries_step, crate::proofs::TableLaws::entries_end))]
 fn entries_from(table: &[u8], entry: usize) -> &[u8]
     ensures { result.now ≡ entries_from table.now entry }
 {
@@ -35,6 +36,7 @@ fn entries_from(table: &[u8], entry: usize) -> &[u8]
 }
 
 // What stands in front of the first newline: all, where there is none.
+#[tactic(auto, using(crate::proofs::TableLaws::line_hit, crate::proofs::TableLaws::line_miss, crate::proofs::TableLaws::line_end))]
 fn first_line(text: &[u8]) -> &[u8]
     ensures { result.now ≡ line_of text.now }
 {

@@ -1,11 +1,10 @@
 -- What the reader's answer tells of the reading behind it: by the two cases of a reading.
 use Prim.Native.Nat.{ℕ}
-use mathlib.Core.Path.{◌≡◌, refl, sym, ◌∙◌, ap}
+use mathlib.Core.Path.{◌≡◌, sym, ◌∙◌, ap}
 use native.Mathlib.Omega.{arith}
 use Rattle.message.specs.Reading.{Read, took, refused}
 use Rattle.message.specs.declared.Fault.{Fault}
 use Rattle.message.specs.declared.Message.{Message}
-use Rattle.message.specs.declared.digits.PlaceRead.{PlaceRead}
 use Rattle.message.specs.declared.digits.PlaceRead.TheVariants.{Taken, Refused}
 use Rattle.reader.specs.Answers.{read_answer}
 use Rattle.reader.specs.declared.Answer.{Answer}

@@ -9,7 +9,6 @@ use Rattle.message.specs.declared.Carrier.TheVariants.{Setup}
 use Rattle.message.specs.declared.Body.TheVariants.{CallFailed}
 use Rattle.message.specs.declared.Service.TheVariants.{Absent}
 use Rattle.message.specs.declared.Message.{Message}
-use Rattle.message.specs.declared.digits.PlaceRead.{PlaceRead}
 use Rattle.message.specs.declared.digits.PlaceRead.TheVariants.{Taken, Refused}
 use Rattle.reader.specs.declared.CarrierRead.{CarrierRead}
 use Rattle.reader.specs.declared.CarrierRead.TheVariants as C

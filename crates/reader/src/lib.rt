@@ -1,5 +1,7 @@
 // The reader: one message from the front of some bytes, in one pass. It finds the places of the fields first and makes the
 // message once, so that no array is handed from function to function.
+#![tactic(auto)]
+
 ghost use Rattle.std.specs.Prelude.{◌≡◌, ◌≤◌, ◌+◌, length};
 ghost use Rattle.lists.specs.Choice.{pick};
 ghost use Rattle.message.specs.Reading.{took, refused as refused_with};
@@ -91,6 +93,7 @@ fn carrier_at(s: &[u8], place: usize) -> CarrierRead
 }
 
 // Service and flags, behind the two numbers.
+#[tactic(auto, unfolding(message::specs::Wire::request_tail))]
 fn request_tail(kind: Kind, s: &[u8], behindA: usize, behindB: usize) -> FieldsRead
     ensures { result ≡ whole_read (request_tail kind s.now behindA behindB) }
 {
@@ -114,6 +117,7 @@ fn request_tail(kind: Kind, s: &[u8], behindA: usize, behindB: usize) -> FieldsR
 }
 
 // The service, behind the two numbers.
+#[tactic(auto, unfolding(message::specs::Wire::elements_tail))]
 fn elements_tail(body: Body, s: &[u8], behindA: usize, behindB: usize) -> FieldsRead
     ensures { result ≡ whole_read (elements_tail body s.now behindA behindB) }
 {
@@ -141,6 +145,7 @@ fn behind_numbers(has: Tail, s: &[u8], behindA: usize, behindB: usize) -> Fields
 }
 
 // numberA and numberB, and what follows them.
+#[tactic(auto, unfolding(crate::specs::Parts::numbers_at))]
 fn numbers(has: Tail, s: &[u8], at: usize) -> FieldsRead
     ensures { result ≡ whole_read (numbers_at has s.now at) }
 {
@@ -154,6 +159,7 @@ fn numbers(has: Tail, s: &[u8], at: usize) -> FieldsRead
 }
 
 // The body of a type that has no field of its own.
+#[tactic(auto, unfolding(crate::specs::Parts::bare_body))]
 fn bare_body(typeNumber: u16) -> Body
     ensures { result ≡ bare_body typeNumber }
 {
@@ -169,6 +175,7 @@ fn bare_body(typeNumber: u16) -> Body
 }
 
 // Whether two numbers of digits stand behind the identifier: in a request, and where there are elements.
+#[tactic(auto, unfolding(crate::specs::Parts::has_numbers))]
 fn has_numbers(typeNumber: u16, carrier: Carrier) -> bool
     ensures { result ≡ has_numbers typeNumber carrier }
 {
@@ -183,6 +190,7 @@ fn has_numbers(typeNumber: u16, carrier: Carrier) -> bool
 }
 
 // What follows the two numbers, in a type that has them.
+#[tactic(auto, unfolding(crate::specs::Parts::tail_of))]
 fn tail_of(typeNumber: u16) -> Tail
     ensures { result ≡ tail_of typeNumber }
 {
@@ -197,6 +205,7 @@ fn tail_of(typeNumber: u16) -> Tail
 }
 
 // The one field of a message without numbers, or nothing.
+#[tactic(auto, unfolding(crate::specs::Parts::own_at))]
 fn own_field(typeNumber: u16, s: &[u8], at: usize) -> FieldsRead
     ensures { fields_told at result ≡ own_at typeNumber s.now at }
 {
@@ -324,6 +333,7 @@ fn with_numbers(
 }
 
 // The head of a message, from the identifier's length on.
+#[tactic(auto, unfolding(crate::specs::Parts::head_behind))]
 fn head_behind(typeNumber: u16, carrier: Carrier, s: &[u8], place: usize) -> HeadRead
     ensures { head_told result ≡ head_behind typeNumber carrier s.now place }
 {
@@ -352,6 +362,7 @@ fn head_behind(typeNumber: u16, carrier: Carrier, s: &[u8], place: usize) -> Hea
 }
 
 // Type, carrier and identifier.
+#[tactic(auto, unfolding(crate::specs::Parts::head_at))]
 fn read_head(s: &[u8]) -> HeadRead
     ensures { head_told result ≡ head_at s.now }
 {
@@ -366,6 +377,7 @@ fn read_head(s: &[u8]) -> HeadRead
 
 // One message from the front: total on every slice. Each answer is made and returned here, in a place of its own: where two come together before they are returned,
 // both are copied.
+#[tactic(auto, using(crate::proofs::PartsLaws::fields_told_lem))]
 pub fn read(s: &[u8]) -> Answer
     ensures { result ≡ read_answer (message_at s.now) }
 {

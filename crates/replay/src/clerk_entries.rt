@@ -17,20 +17,23 @@ use host_numbers::identifiers::BYTES;
 use lists::Found;
 use message::Kind;
 use printing::part;
+use std::io;
+use std::io::Write;
 use ticks::clerk_tick::clerk_tick;
 use told::ticking::TOLD;
 
 // What the desk is given. The next entry is told.
-fn play_given(
+fn play_given<W: Write>(
+    out: &mut W,
     entry: Entry,
     next: usize,
     number: usize,
     count: u32,
     words: &mut [u64; WORDS],
-) -> Next {
+) -> io::Result<Next> {
     let outcome = step(words, count, entry);
-    print_outcome(number, outcome, 0, Found::Nothing);
-    Next::At(next)
+    print_outcome(out, number, outcome, 0, Found::Nothing)?;
+    Ok(Next::At(next))
 }
 
 // The places of an ask's two numbers of digits, of what follows them, and of the next entry.
@@ -96,20 +99,28 @@ fn ask_listed(kind: u8, canKeep: u8) -> bool {
 }
 
 // Code 16.
-fn play_ask(script: &[u8], at: usize, number: usize, count: u32, words: &mut [u64; WORDS]) -> Next {
+fn play_ask<W: Write>(
+    out: &mut W,
+    script: &[u8],
+    at: usize,
+    number: usize,
+    count: u32,
+    words: &mut [u64; WORDS],
+) -> io::Result<Next> {
     match ask_places(script, at) {
-        AskRead::Ended => Next::Stop,
+        AskRead::Ended => Ok(Next::Stop),
         AskRead::Places(a, b, rest, next) => {
             if ask_listed(byte_before(script, a), byte_in(script, rest, 2)) {
                 let entry = ask_entry(asking(script, at, a, b, rest));
-                return play_given(entry, next, number, count, words);
+                return play_given(out, entry, next, number, count, words);
             }
-            Next::Stop
+            Ok(Next::Stop)
         }
     }
 }
 
-fn play_heard(
+fn play_heard<W: Write>(
+    out: &mut W,
     bytes: &[u8],
     busy: bool,
     place: u8,
@@ -117,35 +128,37 @@ fn play_heard(
     number: usize,
     count: u32,
     words: &mut [u64; WORDS],
-) -> Next {
+) -> io::Result<Next> {
     let read = bytes_entry(bytes, busy, place as usize);
     let entry = read.entry;
     let fault = read.fault;
     let left = left_of(bytes.len(), read.next);
     let outcome = step(words, count, entry);
-    print_outcome(number, outcome, left, fault);
-    Next::At(next)
+    print_outcome(out, number, outcome, left, fault)?;
+    Ok(Next::At(next))
 }
 
 // Code 17: User A's word, a place, and then a run.
-fn play_bytes(
+fn play_bytes<W: Write>(
+    out: &mut W,
     script: &[u8],
     at: usize,
     number: usize,
     count: u32,
     words: &mut [u64; WORDS],
-) -> Next {
+) -> io::Result<Next> {
     match behind(script, at, 2) {
-        Next::Stop => Next::Stop,
+        Next::Stop => Ok(Next::Stop),
         Next::At(run) => match run_at(script, run) {
-            RunRead::Ended => Next::Stop,
+            RunRead::Ended => Ok(Next::Stop),
             RunRead::Run(first, next) => {
                 let busy = byte_in(script, at, 0);
                 if 1 < busy {
-                    return Next::Stop;
+                    return Ok(Next::Stop);
                 }
                 let place = byte_in(script, at, 1);
                 play_heard(
+                    out,
                     part(script, first, next),
                     busy == 1,
                     place,
@@ -191,7 +204,8 @@ fn choice_size(code: u8) -> usize {
 }
 
 // A name that ends at a place, and behind it the choice.
-fn play_choice(
+fn play_choice<W: Write>(
+    out: &mut W,
     code: u8,
     script: &[u8],
     at: usize,
@@ -199,33 +213,34 @@ fn play_choice(
     number: usize,
     count: u32,
     words: &mut [u64; WORDS],
-) -> Next {
+) -> io::Result<Next> {
     match behind(script, end, choice_size(code)) {
-        Next::Stop => Next::Stop,
+        Next::Stop => Ok(Next::Stop),
         Next::At(next) => {
             let place = byte_before(script, end) as u64;
             let choice = byte_before(script, next);
             let entry = named_entry(code, choice, identifier_at(script, at), place);
             match entry {
-                Entry::Refused(_) => Next::Stop,
-                Entry::Given(_) => play_given(entry, next, number, count, words),
+                Entry::Refused(_) => Ok(Next::Stop),
+                Entry::Given(_) => play_given(out, entry, next, number, count, words),
             }
         }
     }
 }
 
 // Codes 18 to 22.
-fn play_named(
+fn play_named<W: Write>(
+    out: &mut W,
     code: u8,
     script: &[u8],
     at: usize,
     number: usize,
     count: u32,
     words: &mut [u64; WORDS],
-) -> Next {
+) -> io::Result<Next> {
     match behind_name(script, at) {
-        Next::Stop => Next::Stop,
-        Next::At(end) => play_choice(code, script, at, end, number, count, words),
+        Next::Stop => Ok(Next::Stop),
+        Next::At(end) => play_choice(out, code, script, at, end, number, count, words),
     }
 }
 
@@ -237,74 +252,90 @@ pub fn first_words() -> [u64; WORDS] {
 }
 
 // Code 2: the lengths of the timers. A refused start leaves the desk as it was.
-fn play_start(script: &[u8], at: usize, number: usize, words: &mut [u64; WORDS]) -> Next {
+fn play_start<W: Write>(
+    out: &mut W,
+    script: &[u8],
+    at: usize,
+    number: usize,
+    words: &mut [u64; WORDS],
+) -> io::Result<Next> {
     match behind(script, at, 16) {
-        Next::Stop => Next::Stop,
+        Next::Stop => Ok(Next::Stop),
         Next::At(next) => {
             let step = start(lengths_at(script, at));
             let outcome = step.outcome;
-            print_outcome(number, outcome, 0, Found::Nothing);
+            print_outcome(out, number, outcome, 0, Found::Nothing)?;
             if outcome.refusal == 0 {
                 let d = step.desk;
                 let kept = d.words;
                 *words = kept;
             }
-            Next::At(next)
+            Ok(Next::At(next))
         }
     }
 }
 
 // A tick that is lent the last bytes of a buffer, and what is told of it.
-fn tick_in(out: &mut [u8], room: usize, number: usize, count: u32, words: &mut [u64; WORDS]) {
-    if room <= out.len() {
-        let from = out.len() - room;
+fn tick_in<W: Write>(
+    out: &mut W,
+    buffer: &mut [u8],
+    room: usize,
+    number: usize,
+    count: u32,
+    words: &mut [u64; WORDS],
+) -> io::Result<()> {
+    if room <= buffer.len() {
+        let from = buffer.len() - room;
         let mut told = [0u64; TOLD];
-        clerk_tick(words, count, &mut out[from..], &mut told);
-        print_tick(number, told, part(out, from, out.len()));
+        clerk_tick(words, count, &mut buffer[from..], &mut told);
+        print_tick(out, number, told, part(buffer, from, buffer.len()))?;
     }
+    Ok(())
 }
 
 // Code 23.
-fn play_tick(
+fn play_tick<W: Write>(
+    out: &mut W,
     script: &[u8],
     at: usize,
     number: usize,
     count: u32,
     words: &mut [u64; WORDS],
-) -> Next {
+) -> io::Result<Next> {
     match behind(script, at, 2) {
-        Next::Stop => Next::Stop,
+        Next::Stop => Ok(Next::Stop),
         Next::At(next) => {
             let room = pair_at(script, at) as usize;
             if MOST_ROOM < room {
-                return Next::Stop;
+                return Ok(Next::Stop);
             }
-            let mut out = [UNTOUCHED; MOST_ROOM];
-            tick_in(&mut out, room, number, count, words);
-            Next::At(next)
+            let mut buffer = [UNTOUCHED; MOST_ROOM];
+            tick_in(out, &mut buffer, room, number, count, words)?;
+            Ok(Next::At(next))
         }
     }
 }
 
 // The entry behind its code.
-pub fn play_clerk(
+pub fn play_clerk<W: Write>(
+    out: &mut W,
     code: u8,
     script: &[u8],
     at: usize,
     number: usize,
     count: u32,
     words: &mut [u64; WORDS],
-) -> Next {
+) -> io::Result<Next> {
     match code {
-        2 => play_start(script, at, number, words),
-        16 => play_ask(script, at, number, count, words),
-        17 => play_bytes(script, at, number, count, words),
-        18..=22 => play_named(code, script, at, number, count, words),
-        23 => play_tick(script, at, number, count, words),
+        2 => play_start(out, script, at, number, words),
+        16 => play_ask(out, script, at, number, count, words),
+        17 => play_bytes(out, script, at, number, count, words),
+        18..=22 => play_named(out, code, script, at, number, count, words),
+        23 => play_tick(out, script, at, number, count, words),
         64 => {
-            print_clerk(number, words);
-            Next::At(at)
+            print_clerk(out, number, words)?;
+            Ok(Next::At(at))
         }
-        _ => Next::Stop,
+        _ => Ok(Next::Stop),
     }
 }

@@ -9,6 +9,8 @@ use clerk_table::record::Record;
 use clerk_table::step::timers_running;
 use clerk_table::table::State;
 use printing::{Page, blank_page, put_text};
+use std::io;
+use std::io::Write;
 use terms::codes::flag_code;
 
 // What steps change in a record.
@@ -38,23 +40,24 @@ fn put_deadlines(page: Page, state: State, deadlines: Deadlines) -> Page {
     put_numbers(page, &numbers)
 }
 
-fn print_record(r: Record, deadlines: Deadlines) {
+fn print_record<W: Write>(out: &mut W, r: Record, deadlines: Deadlines) -> io::Result<()> {
     let page = put_phase(put_terms(put_text(blank_page(), b" c"), r.terms), r);
     let state = r.state;
-    print_line(put_deadlines(page, state, deadlines));
+    print_line(out, put_deadlines(page, state, deadlines))
 }
 
-fn print_records(words: &[u64; WORDS], count: usize) {
+fn print_records<W: Write>(out: &mut W, words: &[u64; WORDS], count: usize) -> io::Result<()> {
     let mut i = 0;
     while i < count {
-        print_record(load(words, i), deadlines_at(words, i));
+        print_record(out, load(words, i), deadlines_at(words, i))?;
         i += 1;
     }
+    Ok(())
 }
 
-pub fn print_clerk(number: usize, words: &[u64; WORDS]) {
+pub fn print_clerk<W: Write>(out: &mut W, number: usize, words: &[u64; WORDS]) -> io::Result<()> {
     let count = count_used(find_place(words), PLACES);
     let page = put_text(put_numbers(blank_page(), &[number as u64]), b" c");
-    print_line(put_numbers(page, &[count as u64]));
-    print_records(words, count);
+    print_line(out, put_numbers(page, &[count as u64]))?;
+    print_records(out, words, count)
 }

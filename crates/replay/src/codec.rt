@@ -6,6 +6,8 @@ use crate::script::{Next, RunRead, run_at};
 use lists::Found;
 use message::digits::PlaceRead;
 use printing::{blank_page, part};
+use std::io;
+use std::io::Write;
 use writer::Written;
 
 // A refusal by its number in document 01, or 0; how many bytes were written, 0 on a refusal; and the place of a fault, where the bytes cannot be read.
@@ -45,7 +47,13 @@ fn rewrite(bytes: &[u8], buffer: &mut [u8], place: usize) -> Rewritten {
 }
 
 // The whole buffer is printed, so that a byte that was to stay is seen too.
-fn print_rewritten(number: usize, rewritten: Rewritten, buffer: &[u8; 255], size: usize) {
+fn print_rewritten<W: Write>(
+    out: &mut W,
+    number: usize,
+    rewritten: Rewritten,
+    buffer: &[u8; 255],
+    size: usize,
+) -> io::Result<()> {
     let numbers = [
         number as u64,
         rewritten.refusal as u64,
@@ -53,33 +61,45 @@ fn print_rewritten(number: usize, rewritten: Rewritten, buffer: &[u8; 255], size
     ];
     let fault = rewritten.fault;
     let page = put_hex(put_numbers(blank_page(), &numbers), part(buffer, 0, size));
-    print_line(put_numbers(page, &[place_field(fault)]));
+    print_line(out, put_numbers(page, &[place_field(fault)]))
 }
 
 // The size is one byte of the script, so that 255 bytes are enough for every buffer.
-fn write_run(number: usize, bytes: &[u8], place: u8, size: u8) {
+fn write_run<W: Write>(
+    out: &mut W,
+    number: usize,
+    bytes: &[u8],
+    place: u8,
+    size: u8,
+) -> io::Result<()> {
     let mut buffer = [0xEEu8; 255];
     let count = size as usize;
     let rewritten = rewrite(bytes, &mut buffer[0..count], place as usize);
-    print_rewritten(number, rewritten, &buffer, count);
+    print_rewritten(out, number, rewritten, &buffer, count)
 }
 
 // The entry behind its code: a run, a place and a size.
-pub fn play_write(script: &[u8], at: usize, number: usize) -> Next {
+pub fn play_write<W: Write>(
+    out: &mut W,
+    script: &[u8],
+    at: usize,
+    number: usize,
+) -> io::Result<Next> {
     match run_at(script, at) {
-        RunRead::Ended => Next::Stop,
+        RunRead::Ended => Ok(Next::Stop),
         RunRead::Run(start, end) => {
             let next = behind(script, end, 2);
             match next {
-                Next::Stop => next,
+                Next::Stop => Ok(next),
                 Next::At(_) => {
                     write_run(
+                        out,
                         number,
                         part(script, start, end),
                         byte_in(script, end, 0),
                         byte_in(script, end, 1),
-                    );
-                    next
+                    )?;
+                    Ok(next)
                 }
             }
         }

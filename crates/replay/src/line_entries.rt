@@ -16,91 +16,107 @@ use line::start::start;
 use line_records::WORDS;
 use lists::Found;
 use printing::part;
+use std::io;
+use std::io::Write;
 use ticks::line_tick::line_tick;
 use told::ticking::TOLD;
 
 // What the desk is given. The next entry is told.
-fn play_given(
+fn play_given<W: Write>(
+    out: &mut W,
     entry: Entry,
     next: usize,
     number: usize,
     count: u32,
     words: &mut [u64; WORDS],
-) -> Next {
+) -> io::Result<Next> {
     let outcome = step(words, count, entry);
-    print_outcome(number, outcome, 0, Found::Nothing);
-    Next::At(next)
+    print_outcome(out, number, outcome, 0, Found::Nothing)?;
+    Ok(Next::At(next))
 }
 
-fn play_heard(
+fn play_heard<W: Write>(
+    out: &mut W,
     bytes: &[u8],
     place: u8,
     next: usize,
     number: usize,
     count: u32,
     words: &mut [u64; WORDS],
-) -> Next {
+) -> io::Result<Next> {
     let read = bytes_entry(bytes, place as usize);
     let entry = read.entry;
     let fault = read.fault;
     let left = left_of(bytes.len(), read.next);
     let outcome = step(words, count, entry);
-    print_outcome(number, outcome, left, fault);
-    Next::At(next)
+    print_outcome(out, number, outcome, left, fault)?;
+    Ok(Next::At(next))
 }
 
 // Code 32: a place, and then a run.
-fn play_bytes(
+fn play_bytes<W: Write>(
+    out: &mut W,
     script: &[u8],
     at: usize,
     number: usize,
     count: u32,
     words: &mut [u64; WORDS],
-) -> Next {
+) -> io::Result<Next> {
     match behind(script, at, 1) {
-        Next::Stop => Next::Stop,
+        Next::Stop => Ok(Next::Stop),
         Next::At(run) => match run_at(script, run) {
-            RunRead::Ended => Next::Stop,
+            RunRead::Ended => Ok(Next::Stop),
             RunRead::Run(first, next) => {
                 let place = byte_in(script, at, 0);
-                play_heard(part(script, first, next), place, next, number, count, words)
+                play_heard(
+                    out,
+                    part(script, first, next),
+                    place,
+                    next,
+                    number,
+                    count,
+                    words,
+                )
             }
         },
     }
 }
 
 // Code 33: the entry's last byte is the line's status.
-fn play_report(
+fn play_report<W: Write>(
+    out: &mut W,
     script: &[u8],
     at: usize,
     number: usize,
     count: u32,
     words: &mut [u64; WORDS],
-) -> Next {
+) -> io::Result<Next> {
     match behind_run(script, at, 1) {
-        Next::Stop => Next::Stop,
+        Next::Stop => Ok(Next::Stop),
         Next::At(next) => {
             let status = byte_before(script, next);
             if 1 < status {
-                return Next::Stop;
+                return Ok(Next::Stop);
             }
             let entry = report_entry(digits_at(script, at), status == 1);
-            play_given(entry, next, number, count, words)
+            play_given(out, entry, next, number, count, words)
         }
     }
 }
 
 // Code 34.
-fn play_look(
+fn play_look<W: Write>(
+    out: &mut W,
     script: &[u8],
     at: usize,
     number: usize,
     count: u32,
     words: &mut [u64; WORDS],
-) -> Next {
+) -> io::Result<Next> {
     match behind_run(script, at, 0) {
-        Next::Stop => Next::Stop,
+        Next::Stop => Ok(Next::Stop),
         Next::At(next) => play_given(
+            out,
             look_entry(digits_at(script, at)),
             next,
             number,
@@ -140,7 +156,8 @@ fn choice_size(code: u8) -> usize {
 }
 
 // A name that ends at a place, and behind it the choice.
-fn play_choice(
+fn play_choice<W: Write>(
+    out: &mut W,
     code: u8,
     script: &[u8],
     at: usize,
@@ -148,33 +165,34 @@ fn play_choice(
     number: usize,
     count: u32,
     words: &mut [u64; WORDS],
-) -> Next {
+) -> io::Result<Next> {
     match behind(script, end, choice_size(code)) {
-        Next::Stop => Next::Stop,
+        Next::Stop => Ok(Next::Stop),
         Next::At(next) => {
             let place = byte_before(script, end) as u64;
             let choice = byte_before(script, next);
             let entry = named_entry(code, choice, identifier_at(script, at), place);
             match entry {
-                Entry::Refused(_) => Next::Stop,
-                Entry::Given(_) => play_given(entry, next, number, count, words),
+                Entry::Refused(_) => Ok(Next::Stop),
+                Entry::Given(_) => play_given(out, entry, next, number, count, words),
             }
         }
     }
 }
 
 // Codes 35 to 37.
-fn play_named(
+fn play_named<W: Write>(
+    out: &mut W,
     code: u8,
     script: &[u8],
     at: usize,
     number: usize,
     count: u32,
     words: &mut [u64; WORDS],
-) -> Next {
+) -> io::Result<Next> {
     match behind_name(script, at) {
-        Next::Stop => Next::Stop,
-        Next::At(end) => play_choice(code, script, at, end, number, count, words),
+        Next::Stop => Ok(Next::Stop),
+        Next::At(end) => play_choice(out, code, script, at, end, number, count, words),
     }
 }
 
@@ -187,36 +205,49 @@ pub fn first_words() -> [u64; WORDS] {
 }
 
 // A refused start leaves the desk as it was. The settings: 1 keeps, 2 retains by default.
-fn start_by(given: &[u8], settings: u8, number: usize, words: &mut [u64; WORDS]) {
+fn start_by<W: Write>(
+    out: &mut W,
+    given: &[u8],
+    settings: u8,
+    number: usize,
+    words: &mut [u64; WORDS],
+) -> io::Result<()> {
     let step = start(given, settings % 2 == 1, 2 <= settings);
     let outcome = step.outcome;
-    print_outcome(number, outcome, 0, Found::Nothing);
+    print_outcome(out, number, outcome, 0, Found::Nothing)?;
     if outcome.refusal == 0 {
         let d = step.desk;
         let kept = d.words;
         *words = kept;
     }
+    Ok(())
 }
 
 // Code 1: the lines behind their count, and the settings.
-fn play_start(script: &[u8], at: usize, number: usize, words: &mut [u64; WORDS]) -> Next {
+fn play_start<W: Write>(
+    out: &mut W,
+    script: &[u8],
+    at: usize,
+    number: usize,
+    words: &mut [u64; WORDS],
+) -> io::Result<Next> {
     let read = take_lines(script, at);
     let given = read.given;
     let bytes = given.bytes;
     let lines = read.next;
     match lines {
-        Next::Stop => Next::Stop,
+        Next::Stop => Ok(Next::Stop),
         Next::At(place) => {
             let settings = byte_in(script, place, 0);
             let next = behind(script, place, 1);
             match next {
-                Next::Stop => next,
+                Next::Stop => Ok(next),
                 Next::At(_) => {
                     if 3 < settings {
-                        return Next::Stop;
+                        return Ok(Next::Stop);
                     }
-                    start_by(part(&bytes, 0, given.at), settings, number, words);
-                    next
+                    start_by(out, part(&bytes, 0, given.at), settings, number, words)?;
+                    Ok(next)
                 }
             }
         }
@@ -224,57 +255,67 @@ fn play_start(script: &[u8], at: usize, number: usize, words: &mut [u64; WORDS])
 }
 
 // A tick that is lent the last bytes of a buffer, and what is told of it.
-fn tick_in(out: &mut [u8], room: usize, number: usize, count: u32, words: &mut [u64; WORDS]) {
-    if room <= out.len() {
-        let from = out.len() - room;
+fn tick_in<W: Write>(
+    out: &mut W,
+    buffer: &mut [u8],
+    room: usize,
+    number: usize,
+    count: u32,
+    words: &mut [u64; WORDS],
+) -> io::Result<()> {
+    if room <= buffer.len() {
+        let from = buffer.len() - room;
         let mut told = [0u64; TOLD];
-        line_tick(words, count, &mut out[from..], &mut told);
-        print_tick(number, told, part(out, from, out.len()));
+        line_tick(words, count, &mut buffer[from..], &mut told);
+        print_tick(out, number, told, part(buffer, from, buffer.len()))?;
     }
+    Ok(())
 }
 
 // Code 38.
-fn play_tick(
+fn play_tick<W: Write>(
+    out: &mut W,
     script: &[u8],
     at: usize,
     number: usize,
     count: u32,
     words: &mut [u64; WORDS],
-) -> Next {
+) -> io::Result<Next> {
     match behind(script, at, 2) {
-        Next::Stop => Next::Stop,
+        Next::Stop => Ok(Next::Stop),
         Next::At(next) => {
             let room = pair_at(script, at) as usize;
             if MOST_ROOM < room {
-                return Next::Stop;
+                return Ok(Next::Stop);
             }
-            let mut out = [UNTOUCHED; MOST_ROOM];
-            tick_in(&mut out, room, number, count, words);
-            Next::At(next)
+            let mut buffer = [UNTOUCHED; MOST_ROOM];
+            tick_in(out, &mut buffer, room, number, count, words)?;
+            Ok(Next::At(next))
         }
     }
 }
 
 // The entry behind its code.
-pub fn play_line(
+pub fn play_line<W: Write>(
+    out: &mut W,
     code: u8,
     script: &[u8],
     at: usize,
     number: usize,
     count: u32,
     words: &mut [u64; WORDS],
-) -> Next {
+) -> io::Result<Next> {
     match code {
-        1 => play_start(script, at, number, words),
-        32 => play_bytes(script, at, number, count, words),
-        33 => play_report(script, at, number, count, words),
-        34 => play_look(script, at, number, count, words),
-        35..=37 => play_named(code, script, at, number, count, words),
-        38 => play_tick(script, at, number, count, words),
+        1 => play_start(out, script, at, number, words),
+        32 => play_bytes(out, script, at, number, count, words),
+        33 => play_report(out, script, at, number, count, words),
+        34 => play_look(out, script, at, number, count, words),
+        35..=37 => play_named(out, code, script, at, number, count, words),
+        38 => play_tick(out, script, at, number, count, words),
         65 => {
-            print_line_desk(number, words);
-            Next::At(at)
+            print_line_desk(out, number, words)?;
+            Ok(Next::At(at))
         }
-        _ => Next::Stop,
+        _ => Ok(Next::Stop),
     }
 }

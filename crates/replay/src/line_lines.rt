@@ -11,6 +11,8 @@ use line_table::line::Line;
 use line_table::record::Record;
 use lists::words::Words;
 use printing::{Page, blank_page, put_text};
+use std::io;
+use std::io::Write;
 use terms::codes::flag_code;
 
 // What steps change in a record.
@@ -31,32 +33,34 @@ fn put_phase(page: Page, r: Record) -> Page {
 }
 
 // The guard runs for every record.
-fn print_record(r: Record, guard: u32) {
+fn print_record<W: Write>(out: &mut W, r: Record, guard: u32) -> io::Result<()> {
     let page = put_phase(put_terms(put_text(blank_page(), b" r"), r.terms), r);
-    print_line(put_numbers(page, &[deadline_number(true, guard)]));
+    print_line(out, put_numbers(page, &[deadline_number(true, guard)]))
 }
 
-fn print_records(words: &[u64; WORDS], count: usize) {
+fn print_records<W: Write>(out: &mut W, words: &[u64; WORDS], count: usize) -> io::Result<()> {
     let mut i = 0;
     while i < count {
-        print_record(load(words, i), guard_of(words, i));
+        print_record(out, load(words, i), guard_of(words, i))?;
         i += 1;
     }
+    Ok(())
 }
 
-fn print_one_line(l: Line) {
+fn print_one_line<W: Write>(out: &mut W, l: Line) -> io::Result<()> {
     let number = l.number;
     let numbers = [kinds_number(l), flag_code(l.busy)];
     let page = put_digits(put_text(blank_page(), b" l"), number);
-    print_line(put_numbers(page, &numbers));
+    print_line(out, put_numbers(page, &numbers))
 }
 
-fn print_lines(words: &[u64; WORDS], count: usize) {
+fn print_lines<W: Write>(out: &mut W, words: &[u64; WORDS], count: usize) -> io::Result<()> {
     let mut i = 0;
     while i < count {
-        print_one_line(load_line(words, i));
+        print_one_line(out, load_line(words, i))?;
         i += 1;
     }
+    Ok(())
 }
 
 // How many lines there are. No line has a number of zero, which is the first place's that is not used.
@@ -64,11 +68,15 @@ fn count_lines(words: &[u64; WORDS]) -> usize {
     count_used(find_line(words, Words { low: 0, high: 0 }), LINES)
 }
 
-pub fn print_line_desk(number: usize, words: &[u64; WORDS]) {
+pub fn print_line_desk<W: Write>(
+    out: &mut W,
+    number: usize,
+    words: &[u64; WORDS],
+) -> io::Result<()> {
     let lines = count_lines(words);
     let records = count_used(find_place(words), PLACES);
     let page = put_text(put_numbers(blank_page(), &[number as u64]), b" l");
-    print_line(put_numbers(page, &[lines as u64, records as u64]));
-    print_lines(words, lines);
-    print_records(words, records);
+    print_line(out, put_numbers(page, &[lines as u64, records as u64]))?;
+    print_lines(out, words, lines)?;
+    print_records(out, words, records)
 }

@@ -3,6 +3,8 @@ use crate::output::{NOTHING, print_line, put_hex, put_numbers};
 use desk::outcome::{Outcome, Sending, done, no_timers};
 use lists::Found;
 use printing::{Page, blank_page, part, put_text};
+use std::io;
+use std::io::Write;
 use terms::codes::flag_code;
 use told::{notice_number, send, timers_number};
 use writer::Written;
@@ -43,20 +45,30 @@ fn put_told(page: Page, outcome: Outcome, left: usize, fault: Found) -> Page {
     put_numbers(page, &numbers)
 }
 
-pub fn print_outcome(number: usize, outcome: Outcome, left: usize, fault: Found) {
+pub fn print_outcome<W: Write>(
+    out: &mut W,
+    number: usize,
+    outcome: Outcome,
+    left: usize,
+    fault: Found,
+) -> io::Result<()> {
     let sending = outcome.sending;
     let numbers = [number as u64, outcome.refusal as u64];
     let page = put_numbers(blank_page(), &numbers);
-    print_line(put_told(put_sending(page, sending), outcome, left, fault));
+    print_line(
+        out,
+        put_told(put_sending(page, sending), outcome, left, fault),
+    )
 }
 
 // The line of an entry that is no step of a desk: nothing in it.
-pub fn print_nothing(number: usize) {
+pub fn print_nothing<W: Write>(out: &mut W, number: usize) -> io::Result<()> {
     let none = no_timers();
     print_outcome(
+        out,
         number,
         done(Sending::Nothing, none, none, Found::Nothing),
         0,
         Found::Nothing,
-    );
+    )
 }

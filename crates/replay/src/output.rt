@@ -2,17 +2,18 @@
 // (`tick_line`), is longer than 524 bytes, those of a write into 255, so that a page has room for all of it.
 ghost use Rattle.std.specs.Prelude.{◌≤◌};
 
-use libc::STDOUT_FILENO;
+use itoa::Buffer;
 use lists::words::{Words, bytes_of};
 use printing::{Page, part, put_text};
+use std::io;
+use std::io::Write;
 
 // The number that stands for nothing: no field has one as large.
 pub const NOTHING: u64 = 18446744073709551615;
 
 pub fn put_number(page: Page, number: u64) -> Page {
-    let mut digits = [0u8; 20];
-    let count = io::decimal(number, &mut digits);
-    put_text(page, &digits[..count])
+    let mut digits = Buffer::new();
+    put_text(page, digits.format(number).as_bytes())
 }
 
 // A number in decimal, `-` for nothing.
@@ -90,12 +91,12 @@ pub fn put_digits(page: Page, number: Words) -> Page {
 }
 
 // What is on a page goes out, without its first space.
-pub fn print_part(page: Page) {
+pub fn print_part<W: Write>(out: &mut W, page: Page) -> io::Result<()> {
     let bytes = page.bytes;
-    io::write_all(STDOUT_FILENO, part(&bytes, 1, page.at));
+    out.write_all(part(&bytes, 1, page.at))
 }
 
 // The line's end, and the line goes out.
-pub fn print_line(page: Page) {
-    print_part(put_text(page, b"\n"));
+pub fn print_line<W: Write>(out: &mut W, page: Page) -> io::Result<()> {
+    print_part(out, put_text(page, b"\n"))
 }

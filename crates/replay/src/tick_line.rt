@@ -1,7 +1,8 @@
 // The line of a tick: `N refusal expired places length buffer`. The buffer may be longer than a page, so it goes out in parts.
 use crate::output::{least, print_part, put_hex, put_number, put_numbers};
-use libc::STDOUT_FILENO;
 use printing::{Page, blank_page, part, put_text};
+use std::io;
+use std::io::Write;
 use told::ticking::TOLD;
 
 // So many bytes of the buffer go out at once, and in so many parts the most that a script may lend.
@@ -40,29 +41,39 @@ fn put_places(page: Page, told: [u64; TOLD]) -> Page {
 }
 
 // The bytes from a place up to another, as far as there are any.
-fn print_bytes(bytes: &[u8], from: usize, behind: usize) {
+fn print_bytes<W: Write>(out: &mut W, bytes: &[u8], from: usize, behind: usize) -> io::Result<()> {
     if from < bytes.len() {
-        print_part(put_hex(blank_page(), part(bytes, from, least(behind, bytes.len()))));
+        print_part(
+            out,
+            put_hex(blank_page(), part(bytes, from, least(behind, bytes.len()))),
+        )?;
     }
+    Ok(())
 }
 
 // A buffer in hexadecimal, part by part; `-` for none.
-fn print_buffer(bytes: &[u8]) {
+fn print_buffer<W: Write>(out: &mut W, bytes: &[u8]) -> io::Result<()> {
     if bytes.len() == 0 {
-        print_part(put_text(blank_page(), b" -"));
+        print_part(out, put_text(blank_page(), b" -"))?;
     }
     let mut i = 0;
     while i < PARTS {
-        print_bytes(bytes, i * PART, i * PART + PART);
+        print_bytes(out, bytes, i * PART, i * PART + PART)?;
         i += 1;
     }
+    Ok(())
 }
 
-pub fn print_tick(number: usize, told: [u64; TOLD], out: &[u8]) {
+pub fn print_tick<W: Write>(
+    out: &mut W,
+    number: usize,
+    told: [u64; TOLD],
+    buffer: &[u8],
+) -> io::Result<()> {
     let page = put_numbers(blank_page(), &[number as u64, told[0], told[2]]);
     let placed = put_places(page, told);
-    print_part(put_numbers(placed, &[told[1]]));
-    io::write_all(STDOUT_FILENO, b" ");
-    print_buffer(out);
-    io::write_all(STDOUT_FILENO, b"\n");
+    print_part(out, put_numbers(placed, &[told[1]]))?;
+    out.write_all(b" ")?;
+    print_buffer(out, buffer)?;
+    out.write_all(b"\n")
 }

@@ -15,6 +15,8 @@ use clerk_table::table::State;
 use ladder::events::{ACCEPT, ASK, CANCEL, CLERK_FELL, CLERK_HEARS, Event, NAMELESS, TICK};
 use ladder::shown::{NO_RECORD, States, no_states, show_silence, show_tick};
 use printing::{part, put_text};
+use std::io;
+use std::io::Write;
 use terms::means::Means;
 use terms::request::Name;
 use ticks::clerk_tick::clerk_tick;
@@ -66,7 +68,13 @@ fn states_of(before: &[u64; WORDS], after: &[u64; WORDS], tag: u8, name: Name) -
 }
 
 // What comes of what the desk is given.
-fn stepped(w: World, event: Event, entry: Entry, heard: &[u8]) -> World {
+fn stepped<W: Write>(
+    out: &mut W,
+    w: World,
+    event: Event,
+    entry: Entry,
+    heard: &[u8],
+) -> io::Result<World> {
     let before = w.clerk;
     let wire = w.toLine;
     let mut clerk = before;
@@ -78,11 +86,11 @@ fn stepped(w: World, event: Event, entry: Entry, heard: &[u8]) -> World {
     let states = states_of(&before, &clerk, tag, name_about(tag, event, at));
     let mut told = [0u64; TOLD];
     tell(&mut told, outcome, sent.length, 0);
-    let toLine = finish(event, &told, states, heard, sent, wire);
+    let toLine = finish(out, event, &told, states, heard, sent, wire)?;
     let mut after = w;
     after.clerk = clerk;
     after.toLine = toLine;
-    after
+    Ok(after)
 }
 
 // User A's ask or act, a connection that fell, or what is heard. User A is never busy in a scene.
@@ -101,39 +109,52 @@ fn entry_of(event: Event, preference: u8, heard: &[u8]) -> Entry {
 }
 
 // A tick. In no scene more than one record expires in it, so that its message is all that is written.
-fn ticked(w: World, event: Event) -> World {
+fn ticked<W: Write>(out: &mut W, w: World, event: Event) -> io::Result<World> {
     let before = w.clerk;
     let wire = w.toLine;
     let mut clerk = before;
-    let mut out = [0u8; 64];
+    let mut buffer = [0u8; 64];
     let mut told = [0u64; TICK_TOLD];
-    clerk_tick(&mut clerk, w.clock, &mut out, &mut told);
+    clerk_tick(&mut clerk, w.clock, &mut buffer, &mut told);
     let r = load(&before, told[3] as usize);
     let agreed = r.terms;
     let identifier = agreed.identifier;
     let state = r.state;
-    let sent = part(&out, 0, told[1] as usize);
-    show_tick(event, &told, tag_of(identifier), state_entry(state), sent);
+    let sent = part(&buffer, 0, told[1] as usize);
+    show_tick(
+        out,
+        event,
+        &told,
+        tag_of(identifier),
+        state_entry(state),
+        sent,
+    )?;
     let mut after = w;
     after.clerk = clerk;
     after.toLine = put_text(wire, sent);
-    after
+    Ok(after)
 }
 
-pub fn clerk_event(w: World, event: Event) -> World {
+pub fn clerk_event<W: Write>(out: &mut W, w: World, event: Event) -> io::Result<World> {
     if event.code == TICK {
-        return ticked(w, event);
+        return ticked(out, w, event);
     }
     let wire = w.toClerk;
     let bytes = wire.bytes;
     let listens = event.code == CLERK_HEARS;
     let behind = heard_to(listens, wire, w.clerkHeard);
     if listens && behind == w.clerkHeard {
-        show_silence(event);
-        return w;
+        show_silence(out, event)?;
+        return Ok(w);
     }
     let heard = part(&bytes, w.clerkHeard, behind);
     let mut after = w;
     after.clerkHeard = behind;
-    stepped(after, event, entry_of(event, w.preference, heard), heard)
+    stepped(
+        out,
+        after,
+        event,
+        entry_of(event, w.preference, heard),
+        heard,
+    )
 }

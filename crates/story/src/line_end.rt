@@ -15,6 +15,8 @@ use line_records::places::{find_place, load};
 use line_table::inputs::Act;
 use line_table::table::State;
 use printing::part;
+use std::io;
+use std::io::Write;
 use terms::means::Means;
 use terms::request::Name;
 use told::{TOLD, tell};
@@ -62,7 +64,13 @@ fn states_of(before: &[u64; WORDS], after: &[u64; WORDS], tag: u8, name: Name) -
 }
 
 // What comes of what the desk is given.
-fn stepped(w: World, event: Event, entry: Entry, heard: &[u8]) -> World {
+fn stepped<W: Write>(
+    out: &mut W,
+    w: World,
+    event: Event,
+    entry: Entry,
+    heard: &[u8],
+) -> io::Result<World> {
     let before = w.line;
     let wire = w.toClerk;
     let mut line = before;
@@ -74,11 +82,11 @@ fn stepped(w: World, event: Event, entry: Entry, heard: &[u8]) -> World {
     let states = states_of(&before, &line, tag, name_about(tag, event, at));
     let mut told = [0u64; TOLD];
     tell(&mut told, outcome, sent.length, 0);
-    let toClerk = finish(event, &told, states, heard, sent, wire);
+    let toClerk = finish(out, event, &told, states, heard, sent, wire)?;
     let mut after = w;
     after.line = line;
     after.toClerk = toClerk;
-    after
+    Ok(after)
 }
 
 // An act, a line report, a Look, or what is heard.
@@ -98,19 +106,19 @@ fn entry_of(event: Event, heard: &[u8]) -> Entry {
     }
 }
 
-pub fn line_event(w: World, event: Event) -> World {
+pub fn line_event<W: Write>(out: &mut W, w: World, event: Event) -> io::Result<World> {
     let wire = w.toLine;
     let bytes = wire.bytes;
     let listens = event.code == LINE_HEARS;
     let behind = heard_to(listens, wire, w.lineHeard);
     if listens && behind == w.lineHeard {
-        show_silence(event);
-        return w;
+        show_silence(out, event)?;
+        return Ok(w);
     }
     let heard = part(&bytes, w.lineHeard, behind);
     let mut after = w;
     after.lineHeard = behind;
-    stepped(after, event, entry_of(event, heard), heard)
+    stepped(out, after, event, entry_of(event, heard), heard)
 }
 
 // A message that no desk sent: a result with keep 1 in Connect; without an identifier a ccCancel in Release Complete.
@@ -130,17 +138,18 @@ fn stray_sent(tag: u8) -> Sent {
 }
 
 // It goes onto the wire to the clerk.
-pub fn stray(w: World, event: Event) -> World {
+pub fn stray<W: Write>(out: &mut W, w: World, event: Event) -> io::Result<World> {
     let wire = w.toClerk;
     let toClerk = finish(
+        out,
         event,
         &[0u64; TOLD],
         no_states(),
         b"",
         stray_sent(event.about),
         wire,
-    );
+    )?;
     let mut after = w;
     after.toClerk = toClerk;
-    after
+    Ok(after)
 }

@@ -6,6 +6,8 @@ use crate::script::event_at;
 use crate::world::{SIX, World, start_world};
 use ladder::events::{Event, NOTHING, RECORDS, SAY, STRAY, UNTIL};
 use ladder::narration::{close_scene, open_scene, say};
+use std::io;
+use std::io::Write;
 
 // The world a second later, and the event at that time.
 fn later(w: World) -> World {
@@ -21,20 +23,20 @@ fn at_clock(event: Event, clock: u32) -> Event {
 }
 
 // What an end does or hears, or a message that no desk sent.
-fn play_at(w: World, event: Event) -> World {
+fn play_at<W: Write>(out: &mut W, w: World, event: Event) -> io::Result<World> {
     if event.code == STRAY {
-        return stray(w, event);
+        return stray(out, w, event);
     }
     if event.atLine {
-        return line_event(w, event);
+        return line_event(out, w, event);
     }
-    clerk_event(w, event)
+    clerk_event(out, w, event)
 }
 
 // A second after the event before.
-fn play_later(w: World, event: Event) -> World {
+fn play_later<W: Write>(out: &mut W, w: World, event: Event) -> io::Result<World> {
     let now = later(w);
-    play_at(now, at_clock(event, now.clock))
+    play_at(out, now, at_clock(event, now.clock))
 }
 
 // So many minutes past six.
@@ -45,29 +47,29 @@ fn set_clock(w: World, minutes: u8) -> World {
 }
 
 // One event, and the world afterwards.
-fn play_event(w: World, event: Event) -> World {
+fn play_event<W: Write>(out: &mut W, w: World, event: Event) -> io::Result<World> {
     let code = event.code;
     match code {
-        NOTHING => w,
-        UNTIL => set_clock(w, event.about),
+        NOTHING => Ok(w),
+        UNTIL => Ok(set_clock(w, event.about)),
         RECORDS => {
-            show_records(w);
-            w
+            show_records(out, w)?;
+            Ok(w)
         }
         SAY => {
-            say(event.about as usize);
-            w
+            say(out, event.about as usize)?;
+            Ok(w)
         }
-        _ => play_later(w, event),
+        _ => play_later(out, w, event),
     }
 }
 
 // Behind the script's last line nothing happens.
-pub fn play_scene(scene: u8) {
-    open_scene(scene);
+pub fn play_scene<W: Write>(out: &mut W, scene: u8) -> io::Result<()> {
+    open_scene(out, scene)?;
     let mut w = start_world(scene);
     for step in 0..140 {
-        w = play_event(w, event_at(scene, step));
+        w = play_event(out, w, event_at(scene, step))?;
     }
-    close_scene(scene);
+    close_scene(out, scene)
 }

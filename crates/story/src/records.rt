@@ -5,6 +5,8 @@ use desk::letter::Identifier;
 use ladder::events::NAMELESS;
 use ladder::records::{Shown, show_place};
 use lists::words::bytes_of;
+use std::io;
+use std::io::Write;
 use terms::Terms;
 use terms::codes::{flag_code, keep_code};
 
@@ -45,10 +47,11 @@ fn at_line(words: &[u64; line_records::WORDS], i: usize) -> Shown {
     shown(agreed, line_end::state_entry(state, r.suspended), r.down)
 }
 
-pub fn show_records(w: World) {
+pub fn show_records<W: Write>(out: &mut W, w: World) -> io::Result<()> {
     let clerk = w.clerk;
     let line = w.line;
     for i in 0..32 {
-        show_place(i, at_clerk(&clerk, i), at_line(&line, i));
+        show_place(out, i, at_clerk(&clerk, i), at_line(&line, i))?;
     }
+    Ok(())
 }

@@ -6,6 +6,8 @@ use ladder::middle::tag_in;
 use ladder::shown::{States, show};
 use lists::Found;
 use printing::{Page, part, put_text};
+use std::io;
+use std::io::Write;
 use terms::request::Name;
 use told::TOLD;
 use writer::Written;
@@ -123,16 +125,17 @@ pub fn is_ended(before: Found, after: Found) -> bool {
 }
 
 // What came of a step is shown, and what it sends goes onto the wire.
-pub fn finish(
+pub fn finish<W: Write>(
+    out: &mut W,
     event: Event,
     told: &[u64; TOLD],
     states: States,
     heard: &[u8],
     sent: Sent,
     wire: Page,
-) -> Page {
+) -> io::Result<Page> {
     let bytes = sent.bytes;
     let message = part(&bytes, 0, sent.length);
-    show(event, told, states, heard, message);
-    put_text(wire, message)
+    show(out, event, told, states, heard, message)?;
+    Ok(put_text(wire, message))
 }

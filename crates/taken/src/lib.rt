@@ -1,4 +1,6 @@
 // What was taken: the reader's answer, and the part of the caller's own slice that follows the message.
+#![tactic(auto)]
+
 ghost use Rattle.std.specs.Prelude.{◌≡◌};
 ghost use Rattle.message.specs.Wire.{message_at};
 ghost use Rattle.reader.specs.Answers.{read_answer};
@@ -8,6 +10,7 @@ use message::digits::PlaceRead;
 use reader::{Answer, read};
 
 // The caller's own slice from the first unread byte of an answer; all of it where the answer is a refusal.
+#[tactic(auto, using(lists::proofs::Parts::tail_of_lem))]
 pub fn rest(s: &[u8], answer: Answer) -> &[u8]
     ensures { result.now ≡ rest_of s.now answer }
 {

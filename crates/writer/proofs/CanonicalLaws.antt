@@ -1,9 +1,9 @@
 -- Whatever the reader takes is exactly the bytes that the writer makes of the message: each field's bytes, put together along a cursor.
-use Prim.Native.Nat.{ℕ, ◌+◌, ◌-◌, ◌≤◌, ◌<◌}
+use Prim.Native.Nat.{ℕ, ◌+◌, ◌≤◌, ◌<◌}
 use mathlib.Core.Path.{◌≡◌, refl, sym, ◌∙◌, ap}
 use mathlib.Core.Bool.{Bool, true, false}
 use mathlib.Core.List.{List, [], ◌∷◌, ◌++◌, append_assoc}
-use lib.ListN.{length, take, drop, replicate, length-append, length-drop, take-append-drop}
+use lib.ListN.{length, take, drop, replicate, length-drop, take-append-drop}
 use lib.Seq.{drop-drop, length-take-le}
 use lib.Dec.{ltb, eqb}
 use native.Mathlib.Omega.{arith}
@@ -13,15 +13,14 @@ use Rattle.lists.specs.Words.{Bytes}
 use Rattle.lists.proofs.Choice.{pick_elim, pick-else}
 use Rattle.message.specs.Reading.{Read, took, refused, and_then, ended_in}
 use Rattle.message.specs.Number.{number_bytes, field_at, digits_at, digits_bytes}
-use Rattle.message.specs.Format.{request_body, has_elements, typeNumber, carrier_number, request_in_range, error_in_range, fields_in_range, elements_in_range, elements_complete, writable, identifier_bytes, request_bytes, element_bytes, field_bytes, fields_of, message_bytes}
+use Rattle.message.specs.Format.{request_body, has_elements, typeNumber, carrier_number, request_in_range, error_in_range, fields_in_range, elements_in_range, elements_complete, writable, identifier_bytes, request_bytes, field_bytes, fields_of, message_bytes}
 use Rattle.message.specs.Equality.{Formed}
 use Rattle.message.specs.Wire.{carrier_of, identified_at, identifier_at, Fields, request_tail, request_at, elements_tail, elements_at, plain_at, bare_at, fields_at, between, message_with, behind_identified, behind_head, message_at}
 use Rattle.message.specs.declared.Carrier.{Carrier}
 use Rattle.message.specs.declared.Kind.{Kind}
 use Rattle.message.specs.declared.Kind.TheVariants.{Ccbs, Ccnr}
 use Rattle.message.specs.declared.Body.{Body}
-use Rattle.message.specs.declared.Body.TheVariants.{CcbsRequest, CcnrRequest, RequestResult, RequestError, CcExecPossible, CcRingout, RingoutError, CcSuspend, CcResume, CcCancel, CallAlerts, CallFailed}
-use Rattle.message.specs.declared.Service.{Service}
+use Rattle.message.specs.declared.Body.TheVariants.{RequestResult, RequestError, CcExecPossible, CcRingout, RingoutError, CcSuspend, CcResume, CcCancel, CallAlerts, CallFailed}
 use Rattle.message.specs.declared.Service.TheVariants.{Absent, Is}
 use Rattle.message.specs.declared.Fault.{Fault}
 use Rattle.message.specs.declared.Message.{Message}
@@ -62,7 +61,7 @@ plain_well type carrier s at body next lacks typed ranged bytes f n e =
       sixteen_a = none;
       sixteen_b = none;
       ranged = λ identified identifier. fields-writable _ lacks (ranged _ _);
-      bytes = λ identified identifier. rw lacks (bytes _ _);
+      bytes = λ identified identifier. rw lacks (bytes (between s at at) (between s at at));
     })
 
 one_well :

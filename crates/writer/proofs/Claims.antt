@@ -1,28 +1,26 @@
 -- The claims of specs/Claims.antt: by the round trip, by the canonical form, and by what the buffer of a taken write is.
-use Prim.Native.Nat.{ℕ, ◌+◌, ◌≤◌, ◌<◌}
+use Prim.Native.Nat.{ℕ, ◌+◌, ◌≤◌}
 use mathlib.Core.Path.{◌≡◌, refl, sym, ◌∙◌, ap}
 use mathlib.Core.Bool.{Bool, true, false}
-use mathlib.Core.List.{List, [], ◌∷◌, ◌++◌, append-nil}
-use lib.ListN.{length, get_or, take, drop, replicate, length-drop, length-take, length-append}
+use mathlib.Core.List.{List, [], ◌∷◌, ◌++◌}
+use lib.ListN.{length, get_or, take, drop, replicate, length-drop, length-append}
 use lib.Seq.{take_at, drop_at, drop-drop, length-take-le, drop-append_seam}
-use lib.Dec.{ltb, leb}
 use native.Mathlib.Omega.{arith}
 use native.Mathlib.Numerals.{add-one}
-use Rattle.lists.specs.Words.{Bytes}
-use Rattle.message.specs.Reading.{Read, took, refused}
+use Rattle.message.specs.Reading.{took}
 use Rattle.message.specs.Number.{digits_bytes, sixteen}
-use Rattle.message.specs.Format.{has_elements, writable, request_in_range, fields_in_range, identifier_bytes, field_bytes, request_bytes, element_bytes, fields_of, message_bytes}
-use Rattle.message.specs.Equality.{digits_of, numbers_of, for_request, with_numbers, normal_number, Same, Formed, normal}
+use Rattle.message.specs.Format.{has_elements, writable, request_in_range, fields_in_range, identifier_bytes, field_bytes, request_bytes, fields_of, message_bytes}
+use Rattle.message.specs.Equality.{digits_of, numbers_of, for_request, Same, Formed, normal}
 use Rattle.message.specs.Wire.{message_at}
 use Rattle.message.specs.declared.Body.{Body}
 use Rattle.message.specs.declared.Body.TheVariants.{CcbsRequest, CcnrRequest, RequestResult, RequestError, CcExecPossible, CcRingout, RingoutError, CcSuspend, CcResume, CcCancel, CallAlerts, CallFailed}
 use Rattle.message.specs.declared.Message.{Message}
 use Rattle.message.proofs.RangeLaws.{request-ranged, elements-few, writable-elements, writable-fields, identifier-few, message-length}
-use Rattle.writer.specs.Write.{put_at, message_written, message_buffer}
-use Rattle.writer.specs.Claims.{Back, WrittenReadsBack, Canonical, ReadIsWritten, SameByBytes, BytesOfSame}
+use Rattle.writer.specs.Write.{put_at, message_buffer}
+use Rattle.writer.specs.Claims.{WrittenReadsBack, ReadIsWritten, SameByBytes, BytesOfSame}
 use Rattle.writer.proofs.WriteLaws.{took-place, message-most}
 use Rattle.writer.proofs.RoundTrip.{round_trip}
-use Rattle.writer.proofs.CanonicalLaws.{Whole, canonical}
+use Rattle.writer.proofs.CanonicalLaws.{canonical}
 
 -- ---- equality
 digits-front : (g : List ℕ) → length g ≡ 16 → digits_bytes g ≡ get_or g 0 0 ∷ digits_of g

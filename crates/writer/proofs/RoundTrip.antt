@@ -1,19 +1,18 @@
 -- The reader gives back what the writer made of a message in range, in its normal form, and stops where the message ends: field by field along a cursor.
-use Prim.Native.Nat.{ℕ, ◌+◌, ◌-◌, ◌≤◌, ◌<◌}
-use mathlib.Core.Path.{◌≡◌, refl, sym, ◌∙◌, ap}
+use Prim.Native.Nat.{ℕ, ◌+◌, ◌-◌, ◌≤◌}
+use mathlib.Core.Path.{◌≡◌, refl, ◌∙◌, ap}
 use mathlib.Core.Bool.{Bool, true, false}
 use mathlib.Core.List.{List, [], ◌∷◌, ◌++◌, append_assoc}
-use lib.ListN.{length, get_or, take, drop, replicate, length-append}
+use lib.ListN.{length, drop, replicate, length-append}
 use lib.Seq.{take_at}
-use lib.Dec.{ltb}
 use native.Mathlib.Omega.{arith}
 use native.Mathlib.Nat.{add-zero}
 use borrow.Author.Tests.{ltb-true, le-ltb}
 use Rattle.lists.specs.Choice.{pick}
 use Rattle.lists.proofs.Choice.{no_true}
 use Rattle.lists.proofs.Parts.{at_next, at_in}
-use Rattle.message.specs.Reading.{Read, took, refused, and_then}
-use Rattle.message.specs.Number.{number_bytes, field_at, digits_at, digits_bytes, sixteen}
+use Rattle.message.specs.Reading.{Read, took, and_then}
+use Rattle.message.specs.Number.{number_bytes, digits_bytes, sixteen}
 use Rattle.message.specs.Format.{request_body, has_elements, typeNumber, carrier_number, request_in_range, fields_in_range, elements_in_range, elements_complete, writable, identifier_bytes, request_bytes, element_bytes, field_bytes, fields_of, message_bytes}
 use Rattle.message.specs.Equality.{Formed, for_request, normal_identifier, normal_number, normal_service, normal}
 use Rattle.message.specs.Wire.{carrier_of, identified_at, identifier_at, Fields, request_tail, request_at, elements_tail, elements_at, fields_at, between, message_with, behind_identified, behind_head, message_at}

@@ -1,5 +1,7 @@
 // The writer: a message as bytes at a place that the caller names. Range (2) and room (12) are tested once, on top; the part
 // of the caller's buffer from that place is then lent on from field writer to field writer.
+#![tactic(auto)]
+
 pub mod numbers;
 
 ghost use Rattle.std.specs.Prelude.{◌≡◌, true, ◌++◌, ◌+◌, ◌<◌, ◌≤◌, length, get_or, take, drop, ltb};
@@ -65,6 +67,7 @@ fn number_size(v: u16) -> usize
 }
 
 // A number in groups of seven bits, at the front of a buffer.
+#[tactic(auto, unfolding(crate::specs::Write::number_written, crate::specs::Write::number_buffer))]
 pub fn write_number(d: &mut [u8], v: u16) -> Written
     ensures { (result ≡ number_written d.old v) × (d.new ≡ number_buffer d.old v) }
 {
@@ -89,6 +92,7 @@ fn put_digits(d: &mut [u8], number: [u8; 16]) -> usize
 }
 
 // Two numbers of digits and a service at the front of a buffer that has room for them; their length.
+#[tactic(auto, using(lists::proofs::Parts::tail_of_lem))]
 fn put_numbers(d: &mut [u8], a: [u8; 16], b: [u8; 16], service: u16) -> usize
     requires { ((get_or a 0 0 ≤ 15) × ((get_or b 0 0 ≤ 15) × (service < 16384))) × (length (element_bytes a b (Is service)) ≤ length d.old) }
     ensures { (result ≡ length (element_bytes a b (Is service))) × (d.new ≡ over (element_bytes a b (Is service)) d.old) }
@@ -121,6 +125,7 @@ fn put_elements(d: &mut [u8], a: [u8; 16], b: [u8; 16], service: Service)
 }
 
 // The fields of a body at the front of a buffer that has room for them.
+#[tactic(auto, using(message::proofs::RangeLaws::small_bytes))]
 fn put_fields(d: &mut [u8], a: [u8; 16], b: [u8; 16], body: Body)
     requires { (fields_in_range a b body ≡ true) × (length (field_bytes a b body) ≤ length d.old) }
     ensures { d.new ≡ over (field_bytes a b body) d.old }
@@ -169,6 +174,7 @@ fn put_behind(d: &mut [u8], m: Message)
 }
 
 // The identifier behind its length, at the front of a buffer that has room for them; how many bytes they take.
+#[tactic(auto, using(lists::proofs::Parts::tail_of_lem))]
 fn put_identifier(d: &mut [u8], identified: bool, identifier: [u8; 16]) -> usize
     requires { length (identifier_bytes identified identifier) ≤ length d.old }
     ensures { (result ≡ pick identified 17 1) × (d.new ≡ over (identifier_bytes identified identifier) d.old) }
@@ -183,6 +189,7 @@ fn put_identifier(d: &mut [u8], identified: bool, identifier: [u8; 16]) -> usize
 }
 
 // A message that can be written, at the front of a buffer that has room for it.
+#[tactic(auto, using(lists::proofs::Parts::tail_of_lem))]
 fn put_message(d: &mut [u8], m: Message)
     requires { (writable m ≡ true) × (length (message_bytes m) ≤ length d.old) }
     ensures { d.new ≡ over (message_bytes m) d.old }
@@ -277,6 +284,7 @@ fn fields_sized(a: [u8; 16], b: [u8; 16], body: Body) -> Sized
 }
 
 // How many bytes stand behind the identifier.
+#[tactic(auto, unfolding(message::specs::Format::writable, message::specs::Format::in_range, message::specs::Format::complete))]
 fn behind_sized(m: Message) -> Sized
     ensures { result ≡ bytes_sized (writable m) (fields_of m) }
 {
@@ -302,6 +310,7 @@ fn head_size(identified: bool) -> usize
 }
 
 // A message at a place of a longer buffer: its length, or refusal 2 or 12. Every other byte stays.
+#[tactic(auto, using(lists::proofs::Parts::tail_of_lem, lists::proofs::Parts::mid_tail), unfolding(crate::specs::Write::message_written, crate::specs::Write::message_buffer))]
 pub fn write(d: &mut [u8], place: usize, m: Message) -> Written
     ensures { (result ≡ message_written d.old place m) × (d.new ≡ message_buffer d.old place m) }
 {
