@@ -84,6 +84,7 @@ fn request_message(a: Asking, q: Request) -> Message
 }
 
 // An ask: 2 (digits, service, preference).
+#[tactic(auto, unfolding(crate::specs::Entry::ask_entry))]
 pub fn ask_entry(a: Asking) -> Entry
     ensures { result ≡ ask_entry a }
 {
@@ -100,6 +101,7 @@ pub fn ask_entry(a: Asking) -> Entry
 }
 
 // A message received, with the host's word on User A and the place that the host names for it: 2.
+#[tactic(auto, unfolding(crate::specs::Entry::message_entry))]
 pub fn message_entry(m: Message, busy: bool, place: usize) -> Entry
     ensures { result ≡ message_entry m busy place }
 {
@@ -124,6 +126,7 @@ pub fn timer_entry(name: Name, timer: Timer) -> Entry
 }
 
 // Raw bytes received: the reader's 1 and 2. What was read is in range and its own normal form, so neither is tested or made again.
+#[tactic(auto, using(message::proofs::RangeLaws::writable_parts), unfolding(crate::specs::Entry::bytes_entry, crate::specs::Entry::message_entry))]
 pub fn bytes_entry(s: &[u8], busy: bool, place: usize) -> BytesEntry
     ensures { result ≡ bytes_entry s.now busy place }
 {

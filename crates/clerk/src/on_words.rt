@@ -12,6 +12,7 @@ use clerk_table::inputs::Input;
 use desk::outcome::{BytesOutcome, Outcome, Sending, refused};
 
 // An input: what the desk plans for it, made on the words, with the deadlines of the timers that it starts.
+#[tactic(auto, unfolding(crate::specs::Steps::step))]
 fn step_input(words: &mut [u64; WORDS], count: u32, input: Input) -> Outcome
     ensures { answered (desk_of words.new) result ≡ step (desk_of words.old) count input }
 {
@@ -26,6 +27,7 @@ fn step_input(words: &mut [u64; WORDS], count: u32, input: Input) -> Outcome
 }
 
 // What came in: a refusal at the entry changes nothing.
+#[tactic(auto, unfolding(crate::specs::Steps::entered))]
 pub fn step(words: &mut [u64; WORDS], count: u32, entry: Entry) -> Outcome
     ensures { answered (desk_of words.new) result ≡ entered (desk_of words.old) count entry }
 {
@@ -36,6 +38,7 @@ pub fn step(words: &mut [u64; WORDS], count: u32, entry: Entry) -> Outcome
 }
 
 // Raw bytes received: the reader's 1 and 2, which change nothing, with the place of the fault; else the message's step, and the first unread place.
+#[tactic(auto, unfolding(crate::specs::Steps::received_bytes))]
 pub fn step_bytes(
     words: &mut [u64; WORDS],
     count: u32,

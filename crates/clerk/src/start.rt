@@ -28,6 +28,7 @@ fn is_from(least: u32, most: u32, seconds: u32) -> bool
 }
 
 // T1 1 to 3600, T2 of CCBS 60 to 3600, T2 of CCNR 60 to 86400, T3 10 to 30.
+#[tactic(auto, unfolding(crate::specs::Start::good_lengths))]
 fn are_good(l: Lengths) -> bool
     ensures { result ≡ good_lengths l }
 {
@@ -56,6 +57,7 @@ fn started_desk(l: Lengths) -> Desk
 }
 
 // A desk with no record: 2 for a length out of range.
+#[tactic(auto, unfolding(crate::specs::Start::started))]
 pub fn start(l: Lengths) -> Stepped
     ensures { result ≡ started l }
 {

@@ -1,5 +1,7 @@
 // What the clerk's desk decides about an input, on words that are lent for reading: the refusals in document 01's order, then the row of the table. The change and the
 // outcome are made of the decision, by a function for each kind of it. An inner room of the clerk's desk: its functions are no public operations.
+#![tactic(auto)]
+
 ghost use Rattle.std.specs.Prelude.{◌≡◌};
 ghost use Rattle.clerk_records.specs.Records.{records};
 ghost use Rattle.clerk_table.specs.Inputs.{message_for, names_of};
@@ -112,6 +114,7 @@ fn decide_own(words: &[u64; WORDS], row: Row, refusal: u8, means: Means) -> Deci
 }
 
 // What the desk decides.
+#[tactic(auto, unfolding(crate::specs::Plan::decided, clerk_records::specs::Meaning::meant_by, clerk_records::specs::Meaning::meaning, clerk_records::specs::Meaning::named))]
 pub fn decide(words: &[u64; WORDS], input: Input) -> Decision
     ensures { result ≡ decided (records words.now) input }
 {
@@ -174,6 +177,7 @@ pub fn plan_stored(place: usize, names: Names, q: Request) -> Plan
 }
 
 // What a decision about an input means, whichever it is.
+#[tactic(auto, unfolding(crate::specs::Plan::plan_of))]
 fn plan_of(words: &[u64; WORDS], input: Input, decision: Decision) -> Plan
     ensures { result ≡ plan_of (records words.now) input decision }
 {
@@ -185,6 +189,7 @@ fn plan_of(words: &[u64; WORDS], input: Input, decision: Decision) -> Plan
 }
 
 // What the desk plans for an input.
+#[tactic(auto, unfolding(crate::specs::Plan::plan_for))]
 pub fn plan_for(words: &[u64; WORDS], input: Input) -> Plan
     ensures { result ≡ plan_for (records words.now) input }
 {
