@@ -27,6 +27,7 @@ pub struct BytesEntry {
 }
 
 // A message, with the place that the host names for it: 2.
+#[tactic(auto, unfolding(crate::specs::Entry::message_entry))]
 pub fn message_entry(m: Message, place: usize) -> Entry
     ensures { result ≡ message_entry m place }
 {
@@ -52,6 +53,7 @@ pub fn guard_entry(name: Name) -> Entry
 }
 
 // A line report, busy or free, by the line's digits: 10.
+#[tactic(auto, unfolding(crate::specs::Entry::report_entry))]
 pub fn report_entry(digits: [u8; 16], busy: bool) -> Entry
     ensures { result ≡ report_entry digits busy }
 {
@@ -63,6 +65,7 @@ pub fn report_entry(digits: [u8; 16], busy: bool) -> Entry
 }
 
 // A Look at a line, by its digits: 10.
+#[tactic(auto, unfolding(crate::specs::Entry::look_entry))]
 pub fn look_entry(digits: [u8; 16]) -> Entry
     ensures { result ≡ look_entry digits }
 {
@@ -74,6 +77,7 @@ pub fn look_entry(digits: [u8; 16]) -> Entry
 }
 
 // Raw bytes, with the place that the host names for the message: the reader's 1 and 2. What was read is in range and its own normal form, so it is neither tested nor normalised again.
+#[tactic(auto, unfolding(crate::specs::Entry::bytes_entry))]
 pub fn bytes_entry(s: &[u8], place: usize) -> BytesEntry
     ensures { result ≡ bytes_entry s.now place }
 {

@@ -1,5 +1,7 @@
 // The line desk, User B's endpoint: its lines, its records in the order of acceptance, and every input's step. What is put in is made an entry; a step plans on words
 // that are lent and then applies the plan to them; by value the desk goes in and comes back with the outcome.
+#![tactic(auto)]
+
 use line_records::WORDS;
 
 pub mod entry;

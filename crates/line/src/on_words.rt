@@ -13,6 +13,7 @@ use line_records::deadlines::start_timers;
 use line_table::inputs::Input;
 
 // An input's plan, made on the lent words, with the deadline of the guard that it starts.
+#[tactic(auto, unfolding(crate::specs::Steps::step))]
 fn step_in(words: &mut [u64; WORDS], count: u32, input: Input) -> Outcome
     ensures { answered (desk_of words.new) result ≡ Steps.step (desk_of words.old) count input }
 {
@@ -27,6 +28,7 @@ fn step_in(words: &mut [u64; WORDS], count: u32, input: Input) -> Outcome
 }
 
 // A step: what the entry refused is told, and changes nothing.
+#[tactic(auto, unfolding(crate::specs::Steps::entered))]
 pub fn step(words: &mut [u64; WORDS], count: u32, entry: Entry) -> Outcome
     ensures { answered (desk_of words.new) result ≡ entered (desk_of words.old) count entry }
 {
@@ -37,6 +39,7 @@ pub fn step(words: &mut [u64; WORDS], count: u32, entry: Entry) -> Outcome
 }
 
 // A step of raw bytes, with the place that the host names for the message; and the first unread place.
+#[tactic(auto, unfolding(crate::specs::Steps::received_bytes))]
 pub fn step_bytes(words: &mut [u64; WORDS], count: u32, s: &[u8], place: usize) -> BytesOutcome
     ensures { answered_bytes (desk_of words.new) result ≡ received_bytes (desk_of words.old) count s.now place }
 {

@@ -45,6 +45,7 @@ fn line_given(number: Words, kinds: u8) -> Line
 }
 
 // Whether a line is good: its digits and kinds are in range, and no earlier line has its number.
+#[tactic(auto, unfolding(crate::specs::Start::good_line))]
 fn is_good(words: &[u64; WORDS], digits: [u8; 16], kinds: u8) -> bool
     ensures { result ≡ good_line words.now digits kinds }
 {
@@ -59,6 +60,7 @@ fn is_good(words: &[u64; WORDS], digits: [u8; 16], kinds: u8) -> bool
 }
 
 // A good line is put at its place.
+#[tactic(auto, unfolding(crate::specs::Start::line_taken))]
 fn take_line(words: &mut [u64; WORDS], k: usize, digits: [u8; 16], kinds: u8) -> bool
     ensures { (result ≡ good_line words.old digits kinds) × (words.new ≡ line_taken words.old k digits kinds) }
 {
@@ -124,6 +126,7 @@ fn start_counted(given: &[u8], count: usize, keep: bool, retain: bool) -> Steppe
 
 // A desk with its lines, all free, and its settings: 2 for more than 16 lines, bad digits or kinds, one number twice, or bytes that end
 // inside a line.
+#[tactic(auto, unfolding(crate::specs::Start::started))]
 pub fn start(given: &[u8], keep: bool, retain: bool) -> Stepped
     ensures { result ≡ started given.now keep retain }
 {

@@ -35,6 +35,7 @@ fn cancel_of(r: Record) -> Sending
 }
 
 // What the guard's row sends for the record at a place.
+#[tactic(auto, unfolding(line_table::specs::Step::row_taken))]
 pub fn sending_of(words: &[u64; WORDS], at: usize) -> Sending
     ensures { result ≡ (row_taken at (get_or (records words.now) at blank) GuardRunsOut).outcome.sending }
 {
@@ -43,6 +44,7 @@ pub fn sending_of(words: &[u64; WORDS], at: usize) -> Sending
 }
 
 // The guard's row taken for the record at a place: it goes, and no deadline is put, whatever the count.
+#[tactic(auto, unfolding(line_table::specs::Step::row_taken))]
 pub fn expire(words: &mut [u64; WORDS], at: usize) -> Outcome
     ensures { (count : ℕ) → answered (desk_of words.new) result ≡ made (desk_of words.old) count (row_taken at (get_or (records words.old) at blank) GuardRunsOut) }
 {

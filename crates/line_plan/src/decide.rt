@@ -41,6 +41,7 @@ fn holds_for(row: Row, r: Record) -> bool
 }
 
 // Whether the line of a number can take a call.
+#[tactic(auto, unfolding(crate::specs::Decide::takes_call))]
 fn takes_call(words: &[u64; WORDS], number: Words) -> bool
     ensures { result ≡ takes_call words.now number }
 {
@@ -98,6 +99,7 @@ fn decide_place(words: &[u64; WORDS], place: usize, l: Letter, message: RecordMe
 }
 
 // A message about a record, with the place that the host names for it: 6; 7 too where some fit and none is in a state that the message is for; then 7, 8.
+#[tactic(auto, unfolding(crate::specs::Decide::record_decision))]
 fn decide_record(words: &[u64; WORDS], l: Letter, at: usize, message: RecordMessage) -> Decision
     ensures { result ≡ record_decision words.now l at message }
 {
@@ -109,6 +111,7 @@ fn decide_record(words: &[u64; WORDS], l: Letter, at: usize, message: RecordMess
 }
 
 // Short if the line has 5 or the desk has 32, else stored.
+#[tactic(auto, unfolding(crate::specs::Decide::counted_decision))]
 fn decide_counted(words: &[u64; WORDS], names: Names, q: Request, busy: bool) -> Decision
     ensures { result ≡ counted_decision words.now names q busy }
 {
@@ -123,6 +126,7 @@ fn decide_counted(words: &[u64; WORDS], names: Names, q: Request, busy: bool) ->
 }
 
 // Short if duplicate.
+#[tactic(auto, unfolding(crate::specs::Decide::admitted_decision))]
 fn decide_admitted(words: &[u64; WORDS], names: Names, q: Request, busy: bool) -> Decision
     ensures { result ≡ admitted_decision words.now names q busy }
 {
@@ -133,6 +137,7 @@ fn decide_admitted(words: &[u64; WORDS], names: Names, q: Request, busy: bool) -
 }
 
 // A request: 8; then long if numberB is no line or the kind isn't allowed.
+#[tactic(auto, unfolding(crate::specs::Decide::request_decision))]
 fn decide_request(words: &[u64; WORDS], l: Letter, q: Request) -> Decision
     ensures { result ≡ request_decision words.now l q }
 {
@@ -155,6 +160,7 @@ fn decide_request(words: &[u64; WORDS], l: Letter, q: Request) -> Decision
 }
 
 // A message: 3, then a request or a message about a record.
+#[tactic(auto, unfolding(crate::specs::Decide::message_decision))]
 fn decide_message(words: &[u64; WORDS], l: Letter, at: usize) -> Decision
     ensures { result ≡ message_decision words.now l at }
 {
@@ -178,6 +184,7 @@ fn decide_held(words: &[u64; WORDS], place: usize, row: Row) -> Decision
 }
 
 // The line's own row, of an act or the guard: 6, 7.
+#[tactic(auto, unfolding(crate::specs::Decide::own_decision))]
 fn decide_own(words: &[u64; WORDS], name: Name, row: Row) -> Decision
     ensures { result ≡ own_decision words.now name row }
 {
@@ -189,6 +196,7 @@ fn decide_own(words: &[u64; WORDS], name: Name, row: Row) -> Decision
 }
 
 // A line report: 10.
+#[tactic(auto, unfolding(crate::specs::Decide::report_decision))]
 fn decide_report(words: &[u64; WORDS], number: Words, busy: bool) -> Decision
     ensures { result ≡ report_decision words.now number busy }
 {
@@ -199,6 +207,7 @@ fn decide_report(words: &[u64; WORDS], number: Words, busy: bool) -> Decision
 }
 
 // The place of the oldest fitting record of a line; none while the line is busy or blocked.
+#[tactic(auto, unfolding(crate::specs::Decide::offer_at))]
 fn find_offer(words: &[u64; WORDS], line: Line, number: Words) -> Found
     ensures { result ≡ offer_at words.now line number }
 {
@@ -212,6 +221,7 @@ fn find_offer(words: &[u64; WORDS], line: Line, number: Words) -> Found
 }
 
 // A Look at a line: 10, 11; else the oldest fitting record is offered.
+#[tactic(auto, unfolding(crate::specs::Decide::look_decision))]
 fn decide_look(words: &[u64; WORDS], number: Words) -> Decision
     ensures { result ≡ look_decision words.now number }
 {
@@ -226,6 +236,7 @@ fn decide_look(words: &[u64; WORDS], number: Words) -> Decision
 }
 
 // What is decided of an input.
+#[tactic(auto, unfolding(crate::specs::Decide::decided))]
 pub fn decide(words: &[u64; WORDS], input: Input) -> Decision
     ensures { result ≡ decided words.now input }
 {

@@ -1,5 +1,7 @@
 // What each input plans at the line desk, on words that are lent for reading: it is decided, and of the decision the change and the outcome are made, by a
 // function for each kind of it. For the faces of this desk; no public operations.
+#![tactic(auto)]
+
 ghost use Rattle.std.specs.Prelude.{◌≡◌};
 ghost use Rattle.line_plan.specs.Plan.{denied_plan, new_record, stored_plan, reported_plan, plan_of, plan_for};
 
@@ -81,6 +83,7 @@ pub fn reported_plan(place: usize, number: Words, busy: bool) -> Plan
 }
 
 // What a decision makes of the desk and of the outcome.
+#[tactic(auto, unfolding(crate::specs::Plan::plan_of))]
 fn plan_of(words: &[u64; WORDS], input: Input, decision: Decision) -> Plan
     ensures { result ≡ plan_of words.now input decision }
 {
@@ -106,6 +109,7 @@ fn plan_of(words: &[u64; WORDS], input: Input, decision: Decision) -> Plan
 }
 
 // What an input plans.
+#[tactic(auto, unfolding(crate::specs::Plan::plan_for))]
 pub fn plan_for(words: &[u64; WORDS], input: Input) -> Plan
     ensures { result ≡ plan_for words.now input }
 {

@@ -12,6 +12,7 @@ use line_table::record::{Change, Turned};
 use lists::words::Words;
 
 // The record of a place marked active, if a busy report of the line marks it.
+#[tactic(auto, unfolding(crate::specs::Change::mark_place))]
 fn mark_place(words: &mut [u64; WORDS], i: usize, number: Words)
     ensures { words.new ≡ mark_place number i words.old }
 {
@@ -32,6 +33,7 @@ fn mark_place(words: &mut [u64; WORDS], i: usize, number: Words)
 }
 
 // Every record that a busy report of the line marks.
+#[tactic(auto, unfolding(crate::specs::Change::marked))]
 fn mark_line(words: &mut [u64; WORDS], number: Words)
     ensures { words.new ≡ marked number places words.old }
 {
@@ -42,6 +44,7 @@ fn mark_line(words: &mut [u64; WORDS], number: Words)
     }
 }
 
+#[tactic(auto, unfolding(crate::specs::Change::status_stored))]
 fn store_status(words: &mut [u64; WORDS], k: usize, busy: bool)
     ensures { words.new ≡ status_stored words.old k busy }
 {
@@ -51,6 +54,7 @@ fn store_status(words: &mut [u64; WORDS], k: usize, busy: bool)
 }
 
 // A report of the line at a place, with its number: its status, and the marks that busy sets.
+#[tactic(auto, unfolding(crate::specs::Change::with_report))]
 pub fn report_line(words: &mut [u64; WORDS], k: usize, number: Words, busy: bool)
     ensures { words.new ≡ with_report words.old k number busy }
 {
@@ -61,6 +65,7 @@ pub fn report_line(words: &mut [u64; WORDS], k: usize, number: Words, busy: bool
 }
 
 // A planned change, made in place.
+#[tactic(auto, unfolding(crate::specs::Change::applied))]
 pub fn apply(words: &mut [u64; WORDS], change: Change)
     ensures { words.new ≡ applied words.old change }
 {

@@ -4,6 +4,7 @@ ghost use Rattle.line_records.specs.Codes.{state_of, state_code};
 
 use line_table::table::State;
 
+#[tactic(auto, unfolding(crate::specs::Codes::state_of))]
 pub fn state_of(code: u64) -> State
     ensures { result ≡ state_of code }
 {

@@ -21,6 +21,7 @@ fn guard_length(kind: Kind) -> u32
 }
 
 // The guard of the record at a place is started; past the last place, nothing changes.
+#[tactic(auto, unfolding(crate::specs::Deadlines::started_at))]
 fn start(words: &mut [u64; WORDS], count: u32, i: usize)
     ensures { words.new ≡ started_at count i words.old }
 {
@@ -34,6 +35,7 @@ fn start(words: &mut [u64; WORDS], count: u32, i: usize)
 }
 
 // The guard, if a step starts it, at the place that its outcome tells.
+#[tactic(auto, unfolding(crate::specs::Deadlines::timed))]
 pub fn start_timers(words: &mut [u64; WORDS], count: u32, at: Found, starts: Timers)
     ensures { words.new ≡ timed count at starts words.old }
 {
@@ -58,6 +60,7 @@ pub fn guard_of(words: &[u64; WORDS], i: usize) -> u32
 }
 
 // Whether the guard of the record at a place runs out in a tick. Of its words only the state's and the guard's are read.
+#[tactic(auto, unfolding(crate::specs::Deadlines::expiring_at))]
 pub fn is_expiring(words: &[u64; WORDS], i: usize, count: u32) -> bool
     ensures { result ≡ expiring_at count words.now i }
 {

@@ -1,5 +1,7 @@
 // The line desk at rest: words, by their places. Records stand first, behind them lines, behind them the two settings. Only this crate touches words; what stands
 // above it speaks of the lists of records and lines. An inner room of the line desk: its functions are no public operations.
+#![tactic(auto)]
+
 pub mod change;
 pub mod codes;
 pub mod deadlines;

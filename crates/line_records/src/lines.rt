@@ -11,6 +11,7 @@ use lists::words::{Words, same_words};
 use terms::codes::flag_code;
 
 // The line of a row.
+#[tactic(auto, unfolding(crate::specs::Lines::line_of))]
 fn line_of(row: &[u64]) -> Line
     requires { line_width ≤ length row.now }
     ensures { result ≡ line_of row.now }
@@ -40,6 +41,7 @@ fn put_line_words(row: &mut [u64], line: Line)
     row[4] = flag_code(line.busy);
 }
 
+#[tactic(auto, using(lists::proofs::Parts::tail_of_lem, crate::proofs::LinesLaws::line_at))]
 fn load_line_in(words: &[u64], k: usize) -> Line
     requires { (k < line_places) × (keeps_at ≤ length words.now) }
     ensures { result ≡ get_or (lines words.now) k no_line }
@@ -48,6 +50,7 @@ fn load_line_in(words: &[u64], k: usize) -> Line
     line_of(&words[at..])
 }
 
+#[tactic(auto, unfolding(crate::specs::Lines::line_of))]
 fn no_line() -> Line
     ensures { result ≡ no_line }
 {
@@ -72,6 +75,7 @@ fn has_number(line: Line, number: Words) -> bool
 }
 
 // The place of the line with that number.
+#[tactic(auto, using(lists::proofs::Lists::first_hit, lists::proofs::Lists::first_miss), unfolding(crate::specs::Lines::line_at))]
 pub fn find_line(words: &[u64; WORDS], number: Words) -> Found
     ensures { result ≡ line_at number (lines words.now) }
 {
@@ -86,6 +90,7 @@ pub fn find_line(words: &[u64; WORDS], number: Words) -> Found
     Found::Nothing
 }
 
+#[tactic(auto, using(lists::proofs::Parts::tail_of_lem, lists::proofs::Parts::mid_tail, crate::proofs::LinesLaws::over_line_parts))]
 fn put_line_in(words: &mut [u64], k: usize, line: Line)
     requires { (k < line_places) × (keeps_at ≤ length words.old) }
     ensures { words.new ≡ over_line words.old k line }
@@ -95,6 +100,7 @@ fn put_line_in(words: &mut [u64], k: usize, line: Line)
 }
 
 // A line put at a place; a place that is not there changes nothing.
+#[tactic(auto, unfolding(crate::specs::Lines::put_line))]
 pub fn put_line(words: &mut [u64; WORDS], k: usize, line: Line)
     ensures { words.new ≡ put_line words.old k line }
 {
@@ -104,6 +110,7 @@ pub fn put_line(words: &mut [u64; WORDS], k: usize, line: Line)
 }
 
 // Whether the desk keeps requests.
+#[tactic(auto, unfolding(crate::specs::Lines::keeps))]
 pub fn desk_keeps(words: &[u64; WORDS]) -> bool
     ensures { result ≡ keeps words.now }
 {
@@ -111,6 +118,7 @@ pub fn desk_keeps(words: &[u64; WORDS]) -> bool
 }
 
 // Whether the desk retains connections by default.
+#[tactic(auto, unfolding(crate::specs::Lines::retains))]
 pub fn desk_retains(words: &[u64; WORDS]) -> bool
     ensures { result ≡ retains words.now }
 {
@@ -118,6 +126,7 @@ pub fn desk_retains(words: &[u64; WORDS]) -> bool
 }
 
 // The two settings stored.
+#[tactic(auto, unfolding(crate::specs::Lines::with_settings))]
 pub fn put_settings(words: &mut [u64; WORDS], keep: bool, retain: bool)
     ensures { words.new ≡ with_settings words.old keep retain }
 {

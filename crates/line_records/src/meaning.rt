@@ -101,6 +101,7 @@ fn find_otherwise(words: &[u64; WORDS], l: Letter, place: usize) -> Means
 }
 
 // The record that a message is about, with the place that the host names for it.
+#[tactic(auto, unfolding(crate::specs::Meaning::meaning))]
 pub fn find_meant(words: &[u64; WORDS], l: Letter, place: usize) -> Means
     ensures { result ≡ meaning l place (records words.now) }
 {
@@ -112,6 +113,7 @@ pub fn find_meant(words: &[u64; WORDS], l: Letter, place: usize) -> Means
 }
 
 // The record that an act or the guard is about.
+#[tactic(auto, unfolding(crate::specs::Meaning::named))]
 pub fn find_named(words: &[u64; WORDS], name: Name) -> Means
     ensures { result ≡ named name (records words.now) }
 {

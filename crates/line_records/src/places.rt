@@ -14,6 +14,7 @@ use terms::codes::{flag_code, kind_code};
 use terms::{put_terms, terms_of};
 
 // The record of a row.
+#[tactic(auto, unfolding(crate::specs::Records::record_of))]
 fn record_of(row: &[u64]) -> Record
     requires { width ≤ length row.now }
     ensures { result ≡ record_of row.now }
@@ -71,6 +72,7 @@ pub fn find_place(words: &[u64; WORDS]) -> Found
     store::find_free(words, WIDTH, PLACES, LAST_STATE)
 }
 
+#[tactic(auto, using(lists::proofs::Parts::tail_of_lem))]
 fn load_in(words: &[u64], i: usize) -> Record
     requires { (i < places) × (lines_at ≤ length words.now) }
     ensures { result ≡ get_or (records words.now) i blank }
@@ -79,6 +81,7 @@ fn load_in(words: &[u64], i: usize) -> Record
     record_of(&words[at..])
 }
 
+#[tactic(auto, unfolding(crate::specs::Records::record_of, terms::specs::Terms::terms_of))]
 fn blank_record() -> Record
     ensures { result ≡ blank }
 {
@@ -95,6 +98,7 @@ pub fn load(words: &[u64; WORDS], i: usize) -> Record
     blank_record()
 }
 
+#[tactic(auto, using(lists::proofs::Parts::tail_of_lem, lists::proofs::Parts::mid_tail), unfolding(store::specs::Rows::put_row))]
 fn put_in(words: &mut [u64], i: usize, r: Record)
     requires { (i < places) × (lines_at ≤ length words.old) }
     ensures { words.new ≡ put_row width words.old i (record_words r) }
@@ -104,6 +108,7 @@ fn put_in(words: &mut [u64], i: usize, r: Record)
 }
 
 // A record put at a place; a place that is not there changes nothing.
+#[tactic(auto, unfolding(crate::specs::Records::put_record))]
 pub fn put_record(words: &mut [u64; WORDS], i: usize, r: Record)
     ensures { words.new ≡ put_record words.old i r }
 {
@@ -112,6 +117,7 @@ pub fn put_record(words: &mut [u64; WORDS], i: usize, r: Record)
     }
 }
 
+#[tactic(auto, using(lists::proofs::Parts::tail_of_lem, lists::proofs::Parts::mid_tail), unfolding(store::specs::Rows::turn_row))]
 fn turn_in(words: &mut [u64], i: usize, t: Turned)
     requires { (i < places) × (lines_at ≤ length words.old) }
     ensures { words.new ≡ turn_row width words.old i kind_at (turned_words t) }
@@ -121,6 +127,7 @@ fn turn_in(words: &mut [u64], i: usize, t: Turned)
 }
 
 // The record of a place turned; a place that is not there changes nothing.
+#[tactic(auto, unfolding(crate::specs::Records::turn_record))]
 pub fn turn_record(words: &mut [u64; WORDS], i: usize, t: Turned)
     ensures { words.new ≡ turn_record words.old i t }
 {
@@ -130,6 +137,7 @@ pub fn turn_record(words: &mut [u64; WORDS], i: usize, t: Turned)
 }
 
 // The record of a place removed: the later ones move up.
+#[tactic(auto, unfolding(crate::specs::Records::removed, store::specs::Rows::removed_row))]
 pub fn remove_record(words: &mut [u64; WORDS], i: usize)
     ensures { words.new ≡ removed words.old i }
 {

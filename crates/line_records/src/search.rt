@@ -21,6 +21,7 @@ use terms::request::Names;
 use terms::{identifier_at, kind_at, number_a_at, number_b_at};
 
 // The row of a place, and what stands behind it.
+#[tactic(auto, using(lists::proofs::Parts::tail_of_lem))]
 fn row_of(words: &[u64], i: usize) -> &[u64]
     requires { (i < places) × (lines_at ≤ length words.now) }
     ensures { (result.now ≡ drop (i * width) words.now) × (width ≤ length result.now) }
@@ -29,6 +30,7 @@ fn row_of(words: &[u64], i: usize) -> &[u64]
     &words[at..]
 }
 
+#[tactic(auto, unfolding(crate::specs::Records::record_of))]
 fn state_at(row: &[u64]) -> State
     requires { width ≤ length row.now }
     ensures { result ≡ (record_of row.now).state }
@@ -37,6 +39,7 @@ fn state_at(row: &[u64]) -> State
 }
 
 // Whether a row has the number of a line: its high word first, since lines of one house differ in their last digits.
+#[tactic(auto, using(crate::proofs::SearchLaws::second_holds), unfolding(crate::specs::Records::record_of, lists::specs::Words::same_words))]
 fn names_line(row: &[u64], number: Words) -> bool
     requires { width ≤ length row.now }
     ensures { result ≡ same_words (record_of row.now).terms.numberB number }
@@ -49,6 +52,7 @@ fn names_line(row: &[u64], number: Words) -> bool
 }
 
 // A record of a line.
+#[tactic(auto, using(crate::proofs::SearchLaws::second_holds))]
 fn is_of_line(row: &[u64], number: Words) -> bool
     requires { width ≤ length row.now }
     ensures { result ≡ of_line number (record_of row.now) }
@@ -61,6 +65,7 @@ fn is_of_line(row: &[u64], number: Words) -> bool
 }
 
 // An Invoked record of a line.
+#[tactic(auto, using(crate::proofs::SearchLaws::second_holds))]
 fn is_invoked_on(row: &[u64], number: Words) -> bool
     requires { width ≤ length row.now }
     ensures { result ≡ invoked_on number (record_of row.now) }
@@ -73,6 +78,7 @@ fn is_invoked_on(row: &[u64], number: Words) -> bool
 }
 
 // A record that keeps its line from being offered.
+#[tactic(auto, using(crate::proofs::SearchLaws::second_holds), unfolding(crate::specs::Records::record_of))]
 fn is_blocking(row: &[u64], number: Words) -> bool
     requires { width ≤ length row.now }
     ensures { result ≡ blocks number (record_of row.now) }
@@ -85,6 +91,7 @@ fn is_blocking(row: &[u64], number: Words) -> bool
 }
 
 // A record that can be offered: Invoked and CCBS, or Invoked, CCNR and marked active.
+#[tactic(auto, unfolding(crate::specs::Records::record_of))]
 fn is_fitting(row: &[u64], number: Words) -> bool
     requires { width ≤ length row.now }
     ensures { result ≡ fits number (record_of row.now) }
@@ -98,6 +105,7 @@ fn is_fitting(row: &[u64], number: Words) -> bool
 
 // Both numberA given and equal, and numberB equal. Whether they are given is asked of the record's, which is there whatever a search is for: of a value that is
 // there in one case alone, the compiler may ask too early, and a memory checker then complains.
+#[tactic(auto, using(lists::proofs::Lists::both_true, lists::proofs::Lists::both_false, crate::proofs::SearchLaws::second_holds), unfolding(crate::specs::Records::record_of))]
 fn has_numbers(row: &[u64], numberA: Words, numberB: Words) -> bool
     requires { width ≤ length row.now }
     ensures { result ≡ same_numbers numberA numberB (record_of row.now) }
@@ -113,6 +121,7 @@ fn has_numbers(row: &[u64], numberA: Words, numberB: Words) -> bool
 }
 
 // The identifier, where both have one, or the two numbers, of a request.
+#[tactic(auto, unfolding(crate::specs::Records::record_of))]
 fn has_names(row: &[u64], names: Names) -> bool
     requires { width ≤ length row.now }
     ensures { result ≡ pick (same_identifier (record_of row.now).terms.identifier names.identifier) true (same_numbers names.numberA names.numberB (record_of row.now)) }
@@ -128,6 +137,7 @@ fn has_names(row: &[u64], names: Names) -> bool
 }
 
 // A live record with the identifier, or with the two numbers, of a request.
+#[tactic(auto, using(crate::proofs::SearchLaws::second_holds))]
 fn is_duplicate(row: &[u64], names: Names) -> bool
     requires { width ≤ length row.now }
     ensures { result ≡ duplicates names (record_of row.now) }
@@ -152,6 +162,7 @@ fn is_sought(row: &[u64], sought: Sought) -> bool
 }
 
 // The place of the oldest record that is sought.
+#[tactic(auto, using(lists::proofs::Lists::first_hit, lists::proofs::Lists::first_miss, crate::proofs::SearchLaws::row_told))]
 pub fn find_record(words: &[u64; WORDS], sought: Sought) -> Found
     ensures { result ≡ first (passes sought) (records words.now) }
 {
@@ -167,6 +178,7 @@ pub fn find_record(words: &[u64; WORDS], sought: Sought) -> Found
 }
 
 // How many records a line has.
+#[tactic(auto, using(lists::proofs::Lists::count_hit, lists::proofs::Lists::count_miss, crate::proofs::SearchLaws::row_told))]
 pub fn count_line(words: &[u64; WORDS], number: Words) -> usize
     ensures { result ≡ count (of_line number) (records words.now) }
 {
@@ -183,6 +195,7 @@ pub fn count_line(words: &[u64; WORDS], number: Words) -> usize
 }
 
 // Whether a busy report of the line marks the record of a place.
+#[tactic(auto, unfolding(crate::specs::Records::record_of, crate::specs::Codes::state_of))]
 pub fn is_marked(words: &[u64; WORDS], i: usize, number: Words) -> bool
     ensures { result ≡ marks number (get_or (records words.now) i blank) }
 {

@@ -2,6 +2,8 @@
 // message written, 0 for none; the first unread place; timers started; timers stopped; the notice; whether to clear the call; whether bytes could not be read, and then
 // the place of the fault; whether the step was about a record, and then the record's place. An inner room of the library's face and of the programs: its functions are
 // no public operations.
+#![tactic(auto)]
+
 pub mod ticking;
 
 ghost use Rattle.std.specs.Prelude.{◌≡◌, ◌≤◌};
@@ -78,6 +80,7 @@ pub fn place_number(found: Found) -> u64
 }
 
 // What is sent, at a place of a buffer: how many bytes, 0 where nothing is sent; or the writer's refusal, and the buffer stays as it was.
+#[tactic(auto, unfolding(crate::specs::Told::sent_written, crate::specs::Told::sent_buffer))]
 pub fn send(out: &mut [u8], place: usize, sending: Sending) -> Written
     ensures { (result ≡ sent_written out.old place sending) × (out.new ≡ sent_buffer out.old place sending) }
 {

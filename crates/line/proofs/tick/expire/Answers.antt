@@ -1,0 +1,14 @@
+-- Each part is that of the guard's row, and nothing is started.
+use lib.ListN.{get_or}
+use Rattle.line_table.specs.Step.{row_taken}
+use Rattle.line_records.specs.Records.{blank, records}
+use Rattle.line.proofs.TickLaws.{ends-made}
+use Rattle.line.proofs.tick.expire.Goals as goal
+
+pub returns : goal.returns
+unfolding row_taken
+returns c =
+    let a = c.args in
+    λ count.
+    rw (c.done.ensures, c.remove_record.ensures, c.only_guard-stops.ensures, c.no_timers-starts.ensures, c.sending_of-sending.ensures)
+    (ends-made a.words.now count a.at (get_or (records a.words.now) a.at blank))

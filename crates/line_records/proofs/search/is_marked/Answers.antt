@@ -1,0 +1,17 @@
+-- The row of a place, or past the last.
+use mathlib.Core.Path.{ap, ◌∙◌}
+use Rattle.line_table.specs.Search.{marks}
+use Rattle.line_records.specs.Records.{record_of}
+use Rattle.line_records.specs.Codes.{state_of}
+use Rattle.line_records.proofs.RecordsLaws.{record-past}
+use Rattle.line_records.proofs.SearchLaws.{row-record}
+use Rattle.line_records.proofs.search.is_marked.Goals as goal
+
+pub returns-then-i-lt-PLACES : goal.returns-then-i-lt-PLACES
+returns-then-i-lt-PLACES c =
+    let a = c.args in
+    c.is_invoked_on.ensures ∙ ap (marks a.number) (row-record a.words.now _ a.i c.if-i-lt-PLACES.true c.row_of-row.ensures.0)
+
+pub returns : goal.returns
+unfolding record_of state_of
+returns c = rw (record-past c.args.words.now c.args.i c.if-i-lt-PLACES.false)
