@@ -20,7 +20,7 @@ use Rattle.pair_request.proofs.Over as O
 use Rattle.pair_request.proofs.Claims.{acked_was_accepted, TakesUp, accepts-by-request, both_hold_live, quiet_pair, over-now, over-next}
 use Rattle.clerk.specs.declared.start.Lengths.{Lengths}
 use Rattle.pair.specs.World.{Of, Naming, World, Event, line_hears, line_holds, messages_of, next, Run, stop, then, start_world, is_request}
-use Rattle.pair.specs.Demand3.{Acknowledged, Requests, Heads, Stores, Accepted, Agree, Listed, no_record, invoked, wait_answer_lem, suspended, ringout, Quiet, NoRequest, Over}
+use Rattle.pair.specs.Demand3.{Acknowledged, Requests, Heads, Stores, Accepted, Agree, Listed, no_record, invoked, wait_answer, suspended, ringout, Quiet, NoRequest, Over}
 use Rattle.pair.specs.Demand3.{AcknowledgedWasAccepted, DataAgree, KindAgrees, QuietListed, OverForGood, GoneForGood}
 use Rattle.pair.proofs.Keys.{Tells}
 use Rattle.pair.proofs.Sits.{not-one, the_one}
@@ -90,7 +90,7 @@ agree-net n r j active c l (R.live t own x) (R.holds t' own' y) q s e f =
 listed-read : {c : R.Clerk} {l : R.Line} (j : Elements) (active : Bool) → RL.Listed c l → Listed (clerk_read j c) (line_read j active l)
 listed-read j active RL.no_record = no_record
 listed-read j active RL.invoked-invoked = invoked refl refl
-listed-read j active RL.answer-await = wait_answer_lem refl refl
+listed-read j active RL.answer-await = wait_answer refl refl
 listed-read j active RL.suspended-await = suspended refl refl refl
 listed-read j active RL.ringout-alert = ringout refl refl
 

@@ -38,7 +38,7 @@ pub data Listed : Held ClerkRecord → Held LineRecord → Type 0 where
   no_record : Listed none none
   invoked : {c : ClerkRecord} {l : LineRecord} → c.state ≡ ClerkState.Invoked → l.state ≡ LineState.Invoked → Listed (one c) (one l)
   -- suspended mark set or not
-  wait_answer_lem : {c : ClerkRecord} {l : LineRecord} → c.state ≡ ClerkState.WaitAnswer → l.state ≡ LineState.Await → Listed (one c) (one l)
+  wait_answer : {c : ClerkRecord} {l : LineRecord} → c.state ≡ ClerkState.WaitAnswer → l.state ≡ LineState.Await → Listed (one c) (one l)
   suspended : {c : ClerkRecord} {l : LineRecord} → c.state ≡ ClerkState.Suspended → l.state ≡ LineState.Await → l.suspended ≡ true → Listed (one c) (one l)
   ringout : {c : ClerkRecord} {l : LineRecord} → c.state ≡ ClerkState.Ringout → l.state ≡ LineState.Alert → Listed (one c) (one l)
 

@@ -120,6 +120,7 @@ fair-told names q e =
 -- a note that a history does not have is not in it
 has-noted : (n : Note) (h : List Note) → Noted n h → has (kind_of n) (whose n) h ≡ true
 unfolding has
+has-noted n [] m = elim m [ ]
 has-noted n (x ∷ xs) (Noted.head e) = rw (key-same identifiers-tell (whose x) (whose n) (ap whose (sym e)), eq-eqb (kind_of x) (kind_of n) (ap kind_of (sym e)))
 has-noted n (x ∷ xs) (Noted.tail m) = later (both (alike (whose x) (whose n)) (eqb (kind_of x) (kind_of n))) (has-noted n xs m)
   where

@@ -31,7 +31,7 @@ use Rattle.line_table.specs.declared.table.State.{State}
 use Rattle.line_table.specs.declared.table.State.TheVariants as LineState
 use Rattle.line_records.specs.Records as LineRecords
 use Rattle.pair.specs.World.{Of, Note, from, origins, identifiers, World, Event, clerk_does, line_does, clerk_is_told, clerk_hears, line_hears, drops_up, drops_down, counts, clerk_holds, line_holds, next, Allowed, Run, stop, then, Reached, reached, Any, Once, clerk_means, line_means}
-use Rattle.pair.specs.Demand3.{Accepted, Stores, Unaltered, same, marked, Listed, no_record, invoked, wait_answer_lem, suspended, ringout}
+use Rattle.pair.specs.Demand3.{Accepted, Stores, Unaltered, same, marked, Listed, no_record, invoked, wait_answer, suspended, ringout}
 use Rattle.pair_runs.specs.Refuted as Wrong
 use Rattle.pair_runs.specs.Runs.{play, first, numberB, usual, one_line, start, asks, clerk_acts, line_reports, stored, acknowledged, went_on, no_reply, no_reply_busy, no_reply_lost, line_fell, run_out, deserted, rejection, reused, reused_late, called, named, clerk_gets, line_gets, nowhere, nameless, misplaced}
 use Rattle.pair_runs.proofs.Allowed.{passes, passes-told, bytes-told, undropped, allowed, allowed-told, new_told, goes-told, alike_at, alike_at_lem}
@@ -334,7 +334,7 @@ unanswered (one c) = waits_ack c.state
 listed-answered : {c : Held ClerkRecord.Record} {l : Held LineRecord.Record} → Listed c l → unanswered c ≡ false
 listed-answered no_record = refl
 listed-answered (invoked a b) = ap waits_ack a
-listed-answered (wait_answer_lem a b) = ap waits_ack a
+listed-answered (wait_answer a b) = ap waits_ack a
 listed-answered (suspended a b m) = ap waits_ack a
 listed-answered (ringout a b) = ap waits_ack a
 

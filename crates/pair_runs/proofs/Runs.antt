@@ -42,7 +42,7 @@ use Rattle.line.specs.Start as Start
 use Rattle.line.specs.Entry as LineEntry
 use Rattle.line.specs.Steps as Line
 use Rattle.pair.specs.World.{from, origins, identifiers, World, Event, held_of, clerk_holds, line_holds, Reached, reached, Once, Apart, stop, messages_of, clerkHeard, lineHeard, next}
-use Rattle.pair.specs.Demand3.{Listed, no_record, invoked, wait_answer_lem, suspended, ringout}
+use Rattle.pair.specs.Demand3.{Listed, no_record, invoked, wait_answer, suspended, ringout}
 use Rattle.pair_runs.specs.Runs.{has, RowsShown, KindsShown, FallsShown, Shown, TableReached, Premises, Unlisted, LeftOut, play, seen, kinds_seen, kinds, marks_seen, falls, pairs, answers, losses, signals, table, first, usual, one_line, start, stored, acknowledged, ringing, over, used_again, called, nameless_alone}
 use Rattle.pair_runs.proofs.Allowed.{passes, bytes-told, undropped, runs, run-told, keeps, keeps-told, all_run, each-reached}
 
@@ -193,8 +193,10 @@ together (one c) (one l) = true
 
 pub listed-together : (c : Held ClerkRecord.Record) (l : Held LineRecord.Record) → Listed c l → together c l ≡ true
 listed-together none none no_record = refl
+listed-together none (one l) so = elim so [ ]
+listed-together (one c) none so = elim so [ ]
 listed-together (one c) (one l) (invoked a b) = refl
-listed-together (one c) (one l) (wait_answer_lem a b) = refl
+listed-together (one c) (one l) (wait_answer a b) = refl
 listed-together (one c) (one l) (suspended a b m) = refl
 listed-together (one c) (one l) (ringout a b) = refl
 
