@@ -5,7 +5,6 @@ use Rattle.desk.specs.declared.letter.Identifier.TheVariants.{Absent}
 use Rattle.desk.specs.Ticked.{expired_at, Ticked, noted}
 use Rattle.desk.specs.declared.outcome.Sending.{Sending}
 use Rattle.line_table.specs.declared.inputs.Input.{Input}
-use Rattle.line_table.specs.declared.inputs.Input.TheVariants as Input
 use Rattle.line_records.specs.Layout as Layout
 use Rattle.line_records.specs.Deadlines.{expiring_at}
 use Rattle.line.specs.Steps.{step}

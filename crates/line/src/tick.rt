@@ -44,7 +44,6 @@ pub fn sending_of(words: &[u64; WORDS], at: usize) -> Sending
 }
 
 // The guard's row taken for the record at a place: it goes, and no deadline is put, whatever the count.
-#[tactic(auto, unfolding(line_table::specs::Step::row_taken))]
 pub fn expire(words: &mut [u64; WORDS], at: usize) -> Outcome
     ensures { (count : ℕ) → answered (desk_of words.new) result ≡ made (desk_of words.old) count (row_taken at (get_or (records words.old) at blank) GuardRunsOut) }
 {

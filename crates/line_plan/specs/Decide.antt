@@ -11,7 +11,6 @@ use Rattle.desk.specs.declared.letter.Letter.{Letter}
 use Rattle.desk.specs.declared.sends.Sends.TheVariants as Sends
 use Rattle.terms.specs.Request.{letter_names}
 use Rattle.terms.specs.declared.means.Means.{Means}
-use Rattle.terms.specs.declared.means.Means.TheVariants as Means
 use Rattle.terms.specs.declared.request.Name.{Name}
 use Rattle.terms.specs.declared.request.Names.{Names}
 use Rattle.terms.specs.declared.request.Request.{Request}
@@ -27,10 +26,8 @@ use Rattle.line_table.specs.declared.record.Decision.{Decision}
 use Rattle.line_table.specs.declared.record.Decision.TheVariants.{Refuse, Deny, Take, Store, Report}
 use Rattle.line_table.specs.declared.inputs.Act.{Act}
 use Rattle.line_table.specs.declared.inputs.Input.{Input}
-use Rattle.line_table.specs.declared.inputs.Input.TheVariants as Input
 use Rattle.line_table.specs.declared.inputs.RecordMessage.{RecordMessage}
 use Rattle.line_table.specs.declared.inputs.Meant.{Meant}
-use Rattle.line_table.specs.declared.inputs.Meant.TheVariants as Meant
 use Rattle.line_table.specs.declared.search.Sought.TheVariants.{Blocking, Fitting, Duplicate}
 use Rattle.line_records.specs.Records.{blank, records, place}
 use Rattle.line_records.specs.Lines.{no_line, lines, line_at}

@@ -18,7 +18,6 @@ use Rattle.line_table.specs.Inputs.{names_of, keep_chosen, connection_chosen, ke
 use Rattle.line_table.specs.declared.table.State.TheVariants.{Invoked}
 use Rattle.line_table.specs.declared.record.Record.{Record}
 use Rattle.line_table.specs.declared.record.Decision.{Decision}
-use Rattle.line_table.specs.declared.record.Decision.TheVariants as Decision
 use Rattle.line_table.specs.declared.record.Change.TheVariants.{Stay, Put, Report}
 use Rattle.line_table.specs.declared.record.Plan.{Plan}
 use Rattle.line_table.specs.declared.inputs.Input.{Input}

@@ -1,7 +1,6 @@
 -- The words behind the records and the list of lines are one thing, by the laws of decoded rows; a change of the records leaves the lines and settings, and a change of a line leaves the rest.
 use Prim.Native.Nat.{ℕ, zero, suc, ◌+◌, ◌-◌, ◌*◌, ◌≤◌, ◌<◌}
 use mathlib.Core.Path.{◌≡◌, refl, sym, ◌∙◌, ap}
-use mathlib.Core.Bool.{Bool}
 use mathlib.Core.List.{List, [], ◌∷◌, ◌++◌, map, append_assoc}
 use lib.ListN.{length, get_or, take, drop, set, length-append, length-drop, length-replicate}
 use lib.Seq.{get_or-take, get_or-drop, length-take-le, take-nil, take-take, take-add, take_at, drop_at, drop-drop}

@@ -1,17 +1,15 @@
 -- The words of a desk and its list of records are one thing: the laws of decoded rows, at this desk's width, places and decoder. What they ask is said of one row: it reads no word behind its own, and its state word tells whether it is used.
 use Prim.Native.Nat.{ℕ, ◌*◌, ◌≤◌, ◌<◌}
-use mathlib.Core.Path.{◌≡◌, refl, ◌∙◌, ap}
-use mathlib.Core.Bool.{Bool, true, false, not}
+use mathlib.Core.Path.{◌≡◌, refl}
+use mathlib.Core.Bool.{Bool, true, false}
 use mathlib.Core.List.{List, ◌++◌}
 use lib.ListN.{length, get_or, take, drop, set}
 use lib.Seq.{get_or-take}
 use lib.Dec.{ltb, leb, eqb}
 use native.Mathlib.Omega.{arith}
 use borrow.Author.Tests.{eqb-true, eqb-false, ltb-true, lt-leb}
-use Rattle.lists.specs.Choice.{pick}
 use Rattle.lists.specs.Lists.{both, without}
 use Rattle.lists.specs.Parts.{over}
-use Rattle.lists.specs.Words.{same_words}
 use Rattle.lists.specs.declared.words.Words.{Words}
 use Rattle.lists.proofs.Choice.{pick_elim}
 use Rattle.store.specs.declared.For.{For}

@@ -60,7 +60,6 @@ pub fn guard_of(words: &[u64; WORDS], i: usize) -> u32
 }
 
 // Whether the guard of the record at a place runs out in a tick. Of its words only the state's and the guard's are read.
-#[tactic(auto, unfolding(crate::specs::Deadlines::expiring_at))]
 pub fn is_expiring(words: &[u64; WORDS], i: usize, count: u32) -> bool
     ensures { result ≡ expiring_at count words.now i }
 {

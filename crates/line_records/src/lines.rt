@@ -75,7 +75,7 @@ fn has_number(line: Line, number: Words) -> bool
 }
 
 // The place of the line with that number.
-#[tactic(auto, using(lists::proofs::Lists::first_hit, lists::proofs::Lists::first_miss), unfolding(crate::specs::Lines::line_at))]
+#[tactic(auto, unfolding(crate::specs::Lines::line_at))]
 pub fn find_line(words: &[u64; WORDS], number: Words) -> Found
     ensures { result ≡ line_at number (lines words.now) }
 {

@@ -14,7 +14,6 @@ use terms::codes::{flag_code, kind_code};
 use terms::{put_terms, terms_of};
 
 // The record of a row.
-#[tactic(auto, unfolding(crate::specs::Records::record_of))]
 fn record_of(row: &[u64]) -> Record
     requires { width ≤ length row.now }
     ensures { result ≡ record_of row.now }
@@ -72,7 +71,6 @@ pub fn find_place(words: &[u64; WORDS]) -> Found
     store::find_free(words, WIDTH, PLACES, LAST_STATE)
 }
 
-#[tactic(auto, using(lists::proofs::Parts::tail_of_lem))]
 fn load_in(words: &[u64], i: usize) -> Record
     requires { (i < places) × (lines_at ≤ length words.now) }
     ensures { result ≡ get_or (records words.now) i blank }
@@ -137,7 +135,6 @@ pub fn turn_record(words: &mut [u64; WORDS], i: usize, t: Turned)
 }
 
 // The record of a place removed: the later ones move up.
-#[tactic(auto, unfolding(crate::specs::Records::removed, store::specs::Rows::removed_row))]
 pub fn remove_record(words: &mut [u64; WORDS], i: usize)
     ensures { words.new ≡ removed words.old i }
 {

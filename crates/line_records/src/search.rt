@@ -39,7 +39,6 @@ fn state_at(row: &[u64]) -> State
 }
 
 // Whether a row has the number of a line: its high word first, since lines of one house differ in their last digits.
-#[tactic(auto, using(crate::proofs::SearchLaws::second_holds), unfolding(crate::specs::Records::record_of, lists::specs::Words::same_words))]
 fn names_line(row: &[u64], number: Words) -> bool
     requires { width ≤ length row.now }
     ensures { result ≡ same_words (record_of row.now).terms.numberB number }
@@ -91,7 +90,6 @@ fn is_blocking(row: &[u64], number: Words) -> bool
 }
 
 // A record that can be offered: Invoked and CCBS, or Invoked, CCNR and marked active.
-#[tactic(auto, unfolding(crate::specs::Records::record_of))]
 fn is_fitting(row: &[u64], number: Words) -> bool
     requires { width ≤ length row.now }
     ensures { result ≡ fits number (record_of row.now) }
@@ -105,7 +103,6 @@ fn is_fitting(row: &[u64], number: Words) -> bool
 
 // Both numberA given and equal, and numberB equal. Whether they are given is asked of the record's, which is there whatever a search is for: of a value that is
 // there in one case alone, the compiler may ask too early, and a memory checker then complains.
-#[tactic(auto, using(lists::proofs::Lists::both_true, lists::proofs::Lists::both_false, crate::proofs::SearchLaws::second_holds), unfolding(crate::specs::Records::record_of))]
 fn has_numbers(row: &[u64], numberA: Words, numberB: Words) -> bool
     requires { width ≤ length row.now }
     ensures { result ≡ same_numbers numberA numberB (record_of row.now) }
@@ -121,7 +118,6 @@ fn has_numbers(row: &[u64], numberA: Words, numberB: Words) -> bool
 }
 
 // The identifier, where both have one, or the two numbers, of a request.
-#[tactic(auto, unfolding(crate::specs::Records::record_of))]
 fn has_names(row: &[u64], names: Names) -> bool
     requires { width ≤ length row.now }
     ensures { result ≡ pick (same_identifier (record_of row.now).terms.identifier names.identifier) true (same_numbers names.numberA names.numberB (record_of row.now)) }
@@ -162,7 +158,6 @@ fn is_sought(row: &[u64], sought: Sought) -> bool
 }
 
 // The place of the oldest record that is sought.
-#[tactic(auto, using(lists::proofs::Lists::first_hit, lists::proofs::Lists::first_miss, crate::proofs::SearchLaws::row_told))]
 pub fn find_record(words: &[u64; WORDS], sought: Sought) -> Found
     ensures { result ≡ first (passes sought) (records words.now) }
 {
@@ -178,7 +173,6 @@ pub fn find_record(words: &[u64; WORDS], sought: Sought) -> Found
 }
 
 // How many records a line has.
-#[tactic(auto, using(lists::proofs::Lists::count_hit, lists::proofs::Lists::count_miss, crate::proofs::SearchLaws::row_told))]
 pub fn count_line(words: &[u64; WORDS], number: Words) -> usize
     ensures { result ≡ count (of_line number) (records words.now) }
 {
@@ -195,7 +189,6 @@ pub fn count_line(words: &[u64; WORDS], number: Words) -> usize
 }
 
 // Whether a busy report of the line marks the record of a place.
-#[tactic(auto, unfolding(crate::specs::Records::record_of, crate::specs::Codes::state_of))]
 pub fn is_marked(words: &[u64; WORDS], i: usize, number: Words) -> bool
     ensures { result ≡ marks number (get_or (records words.now) i blank) }
 {

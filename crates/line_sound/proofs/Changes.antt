@@ -28,7 +28,6 @@ use Rattle.line_table.specs.declared.record.Record.{Record}
 use Rattle.line_table.specs.declared.record.Change.{Change}
 use Rattle.line_table.specs.declared.record.Change.TheVariants.{Report}
 use Rattle.line_table.specs.declared.inputs.Input.{Input}
-use Rattle.line_table.specs.declared.inputs.Input.TheVariants as Input
 use Rattle.line_records.specs.Layout as Layout
 use Rattle.line_records.specs.Codes.{state_of}
 use Rattle.line_records.specs.Records.{record_of, blank, records}

@@ -1,7 +1,7 @@
 -- What is decided is good for the desk: a row is taken for the record that is meant, or that fits a Look; a request is stored at the first free place, under a new identifier or none, if its line has fewer than 5. And a good decision's plan is about one record, or a report: no row changes the terms or leads to Free, and only Await is suspended.
 use Prim.Native.Nat.{ℕ, ◌<◌}
 use mathlib.Core.Path.{◌≡◌, refl, sym, ap, ◌∙◌}
-use mathlib.Core.Bool.{Bool, true, false}
+use mathlib.Core.Bool.{Bool, true}
 use mathlib.Core.List.{List}
 use lib.ListN.{get_or}
 use lib.Dec.{ltb}
@@ -25,7 +25,6 @@ use Rattle.desk.specs.declared.letter.Letter.{Letter}
 use Rattle.desk.specs.declared.sends.Sends.{Sends}
 use Rattle.terms.specs.Request.{letter_names}
 use Rattle.terms.specs.declared.means.Means.{Means}
-use Rattle.terms.specs.declared.means.Means.TheVariants as Means
 use Rattle.terms.specs.declared.request.Name.{Name}
 use Rattle.terms.specs.declared.request.Names.{Names}
 use Rattle.terms.specs.declared.request.Request.{Request}
@@ -54,10 +53,8 @@ use Rattle.line_table.specs.declared.record.Decision.TheVariants.{Refuse, Deny, 
 use Rattle.line_table.specs.declared.record.Change.{Change}
 use Rattle.line_table.specs.declared.record.Change.TheVariants.{Turn, Remove}
 use Rattle.line_table.specs.declared.inputs.Input.{Input}
-use Rattle.line_table.specs.declared.inputs.Input.TheVariants as Input
 use Rattle.line_table.specs.declared.inputs.RecordMessage.{RecordMessage}
 use Rattle.line_table.specs.declared.inputs.Meant.{Meant}
-use Rattle.line_table.specs.declared.inputs.Meant.TheVariants as Meant
 use Rattle.line_table.specs.declared.search.Sought.TheVariants.{Blocking, Fitting, Duplicate}
 use Rattle.line_records.specs.Records.{blank, records, place}
 use Rattle.line_records.specs.Meaning.{meaning, named}

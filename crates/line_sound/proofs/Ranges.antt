@@ -26,15 +26,12 @@ use Rattle.message.proofs.RangeLaws.{RequestRanged, request-ranged}
 use Rattle.writer.proofs.Claims.{read-is-written}
 use Rattle.desk.specs.Letter.{letter_of}
 use Rattle.desk.specs.declared.Connection.{Connection}
-use Rattle.desk.specs.declared.Connection.TheVariants as Connection
 use Rattle.desk.specs.declared.Keep.{Keep}
-use Rattle.desk.specs.declared.Keep.TheVariants as Keep
 use Rattle.desk.proofs.LetterLaws.{bytes-sixteen, number-kept}
 use Rattle.terms.specs.Request.{letter_names, can_keep_sent}
 use Rattle.terms.specs.declared.request.Request.{Request}
 use Rattle.line_table.specs.Inputs.{message_for, keep_chosen, connection_chosen}
 use Rattle.line_table.specs.declared.inputs.Meant.{Meant}
-use Rattle.line_table.specs.declared.inputs.Meant.TheVariants as Meant
 use Rattle.line_records.specs.Lines.{lines, line_at, keeps, retains}
 use Rattle.line_plan.specs.Plan.{new_record}
 use Rattle.line_sound.specs.Sound.{Whole, Typed}

@@ -16,7 +16,6 @@ use Rattle.places.proofs.Counting.{stored-most}
 use Rattle.line_table.specs.Inputs.{row_of_act}
 use Rattle.line_table.specs.declared.table.Row.TheVariants.{GuardRunsOut}
 use Rattle.line_table.specs.declared.inputs.Input.{Input}
-use Rattle.line_table.specs.declared.inputs.Input.TheVariants as Input
 use Rattle.line_records.specs.Layout as Layout
 use Rattle.line_records.specs.Records.{records}
 use Rattle.line_records.proofs.RecordsLaws.{records-length}

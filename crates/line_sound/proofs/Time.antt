@@ -24,7 +24,6 @@ use Rattle.line_table.specs.Record.{turned}
 use Rattle.line_table.specs.Step.{row_taken, changed}
 use Rattle.line_table.specs.Table.{effect_of}
 use Rattle.line_table.specs.declared.inputs.Input.{Input}
-use Rattle.line_table.specs.declared.inputs.Input.TheVariants as Input
 use Rattle.line_table.specs.declared.table.Next.{Next}
 use Rattle.line_table.specs.declared.table.Next.TheVariants.{Gone, Same, To}
 use Rattle.line_table.specs.declared.table.Effect.{Effect}

@@ -32,7 +32,6 @@ use Rattle.line_table.specs.declared.record.Change.TheVariants.{Turn}
 use Rattle.line_table.specs.declared.record.Decision.TheVariants.{Deny, Store}
 use Rattle.line_table.specs.declared.inputs.Act.{Act}
 use Rattle.line_table.specs.declared.inputs.Input.{Input}
-use Rattle.line_table.specs.declared.inputs.Input.TheVariants as Input
 use Rattle.line_records.specs.Layout as Layout
 use Rattle.line_records.specs.Records.{blank, records}
 use Rattle.line_records.specs.Lines.{no_line, lines, line_at}

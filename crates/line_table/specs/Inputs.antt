@@ -9,15 +9,12 @@ use Rattle.desk.specs.declared.Connection.TheVariants.{Ret, Rls}
 use Rattle.desk.specs.declared.Keep.{Keep}
 use Rattle.desk.specs.declared.Keep.TheVariants.{Empty, Ends, Keeps}
 use Rattle.desk.specs.declared.sends.Sends.{Sends}
-use Rattle.desk.specs.declared.sends.Sends.TheVariants as Sends
 use Rattle.terms.specs.Request.{letter_names, only_identifier, only_line, can_keep_sent}
 use Rattle.terms.specs.declared.request.Names.{Names}
 use Rattle.line_table.specs.declared.table.Row.{Row}
 use Rattle.line_table.specs.declared.table.Row.TheVariants.{Suspends, Resumes, RingsOut, BusyAgainKept, BusyAgainEnded, Alerts, CallFails, ClerkCancels, LineCancels, Falls}
 use Rattle.line_table.specs.declared.inputs.Act.{Act}
-use Rattle.line_table.specs.declared.inputs.Act.TheVariants as Act
 use Rattle.line_table.specs.declared.inputs.Input.{Input}
-use Rattle.line_table.specs.declared.inputs.Input.TheVariants as Input
 use Rattle.line_table.specs.declared.inputs.RecordMessage.{RecordMessage}
 use Rattle.line_table.specs.declared.inputs.RecordMessage.TheVariants.{Suspend, Resume, Ringout, Cancel}
 use Rattle.line_table.specs.declared.inputs.Meant.{Meant}
@@ -56,10 +53,10 @@ abbrev pub ringout_row : Bool → Keep → Row
 ringout_row takes keep = pick takes RingsOut (busy_again_row keep)
 
 abbrev pub row_for : RecordMessage → Bool → Keep → Row
-row_for Suspend takes keep = Suspends
-row_for Resume takes keep = Resumes
-row_for Ringout takes keep = ringout_row takes keep
-row_for Cancel takes keep = ClerkCancels
+row_for Suspend _ _ = Suspends
+row_for Resume _ _ = Resumes
+row_for Ringout takes kept = ringout_row takes kept
+row_for Cancel _ _ = ClerkCancels
 
 -- ---- acts
 abbrev pub row_of_act : Act → Row

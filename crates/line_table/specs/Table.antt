@@ -7,9 +7,7 @@ use Rattle.message.specs.declared.Body.TheVariants.{CcExecPossible, RingoutError
 use Rattle.desk.specs.Carriers.{by_connection}
 use Rattle.desk.specs.declared.Connection.{Connection}
 use Rattle.desk.specs.declared.sends.Sends.{Sends}
-use Rattle.desk.specs.declared.sends.Sends.TheVariants as Sends
 use Rattle.terms.specs.declared.Becomes.{Becomes}
-use Rattle.terms.specs.declared.Becomes.TheVariants as Becomes
 use Rattle.line_table.specs.declared.table.State.{State}
 use Rattle.line_table.specs.declared.table.State.TheVariants.{Free, Invoked, Await, Alert}
 use Rattle.line_table.specs.declared.table.Row.{Row}
@@ -19,7 +17,6 @@ use Rattle.line_table.specs.declared.table.Home.TheVariants.{InInvoked, InAwait,
 use Rattle.line_table.specs.declared.table.Next.{Next}
 use Rattle.line_table.specs.declared.table.Next.TheVariants.{Gone, Same, To}
 use Rattle.line_table.specs.declared.table.Mark.{Mark}
-use Rattle.line_table.specs.declared.table.Mark.TheVariants as Mark
 use Rattle.line_table.specs.declared.table.Effect.{Effect}
 use Rattle.line_table.specs.declared.table.Rule.{Rule}
 

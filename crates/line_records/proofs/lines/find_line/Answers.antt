@@ -1,5 +1,4 @@
 -- The places before i hold no line with that number.
-use Prim.Native.Nat.{◌-◌}
 use mathlib.Core.Path.{sym, ◌∙◌}
 use native.Mathlib.Omega.{arith}
 use Rattle.lists.proofs.Lists.{first_hit, first_miss, first-end}

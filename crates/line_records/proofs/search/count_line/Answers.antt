@@ -1,9 +1,7 @@
 -- What was counted is what the places before i hold.
-use Prim.Native.Nat.{◌-◌}
 use mathlib.Core.Path.{sym}
 use mathlib.Core.Bool.{true, false}
 use native.Mathlib.Omega.{arith}
-use Rattle.lists.specs.Lists.{count}
 use Rattle.lists.proofs.Lists.{count_hit, count_miss, count-end}
 use Rattle.line_table.specs.Search.{of_line}
 use Rattle.line_records.specs.Records.{records, blank}

@@ -1,9 +1,7 @@
 -- The places before i hold no record that is sought.
-use Prim.Native.Nat.{◌-◌}
 use mathlib.Core.Path.{sym, ◌∙◌}
 use mathlib.Core.Bool.{true, false}
 use native.Mathlib.Omega.{arith}
-use Rattle.lists.specs.Lists.{first}
 use Rattle.lists.proofs.Lists.{first_hit, first_miss, first-end}
 use Rattle.line_table.specs.Search.{passes}
 use Rattle.line_records.specs.Records.{records, blank}
