@@ -16,6 +16,8 @@ mod record_lines;
 mod script;
 mod tick_line;
 
+ghost use Rattle.std.specs.Prelude.{◌≤◌, IfOk, length};
+
 use crate::clerk_entries::play_clerk;
 use crate::codec::play_write;
 use crate::defaults::COUNT;
@@ -127,7 +129,9 @@ fn play<W: Write>(out: &mut W, script: &[u8]) -> io::Result<()> {
 }
 
 // Reads until the room is full or the input ends: how many bytes stand at its front.
-fn read_full<R: Read>(input: &mut R, room: &mut [u8]) -> io::Result<usize> {
+fn read_full<R: Read>(input: &mut R, room: &mut [u8]) -> io::Result<usize>
+    ensures { IfOk result (λ n. n ≤ length room.new) }
+{
     let mut done = 0;
     while done < room.len() {
         let count = input.read(&mut room[done..])?;

@@ -1,2 +1,0 @@
--- `Lending` is the walk of a function that plays a step on a desk in a local.
-pub mod Lending
