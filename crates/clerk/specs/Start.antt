@@ -1,5 +1,5 @@
 -- The clerk's desk started with the lengths of its timers, in seconds (document 02, Ask 6).
-use Rattle.std.specs.Prelude.{ℕ, Bool, List, [], ◌∷◌, ◌++◌, replicate, leb}
+use Rattle.std.specs.Prelude.{ℕ, Bool, [], ◌∷◌, ◌++◌, replicate, leb}
 use Rattle.lists.specs.Choice.{pick}
 use Rattle.lists.specs.Lists.{both}
 use Rattle.lists.specs.declared.Found.TheVariants.{Nothing}

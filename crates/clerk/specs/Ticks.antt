@@ -5,7 +5,6 @@ use Rattle.desk.specs.Ticked.{expired_at, Ticked, noted}
 use Rattle.desk.specs.declared.outcome.Sending.{Sending}
 use Rattle.clerk_table.specs.declared.table.Timer.{Timer}
 use Rattle.clerk_table.specs.declared.inputs.Input.{Input}
-use Rattle.clerk_table.specs.declared.inputs.Input.TheVariants as Input
 use Rattle.clerk_records.specs.Layout as Layout
 use Rattle.clerk_records.specs.Deadlines.{expiring_at}
 use Rattle.clerk_records.specs.declared.deadlines.Expiring.{Expiring}

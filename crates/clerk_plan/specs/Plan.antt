@@ -2,7 +2,6 @@
 use Rattle.std.specs.Prelude.{ℕ, Bool, false, List, get_or}
 use Rattle.lists.specs.Choice.{pick}
 use Rattle.lists.specs.declared.Found.{Found}
-use Rattle.lists.specs.declared.Found.TheVariants as Found
 use Rattle.desk.specs.Carriers.{carrier_fits}
 use Rattle.desk.specs.Outcome.{no_timers, done_with}
 use Rattle.desk.specs.Sends.{answered}
@@ -32,10 +31,8 @@ use Rattle.clerk_table.specs.declared.record.Change.TheVariants.{Put}
 use Rattle.clerk_table.specs.declared.record.Plan.{Plan}
 use Rattle.clerk_table.specs.declared.inputs.Act.{Act}
 use Rattle.clerk_table.specs.declared.inputs.Input.{Input}
-use Rattle.clerk_table.specs.declared.inputs.Input.TheVariants as Input
 use Rattle.clerk_table.specs.declared.inputs.RecordMessage.{RecordMessage}
 use Rattle.clerk_table.specs.declared.inputs.Meant.{Meant}
-use Rattle.clerk_table.specs.declared.inputs.Meant.TheVariants as Meant
 use Rattle.clerk_records.specs.Records.{blank, place}
 use Rattle.clerk_records.specs.Meaning.{identifier_means, meaning, named}
 

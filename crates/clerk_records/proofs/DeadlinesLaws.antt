@@ -10,7 +10,6 @@ use native.Mathlib.Omega.{arith}
 use borrow.Author.Tests.{ltb-true}
 use Rattle.lists.specs.Parts.{over}
 use Rattle.lists.specs.declared.Found.{Found}
-use Rattle.lists.specs.declared.Found.TheVariants as Found
 use Rattle.lists.proofs.Choice.{pick_elim}
 use Rattle.clock.specs.Clock.{turn}
 use Rattle.message.specs.declared.Kind.{Kind}

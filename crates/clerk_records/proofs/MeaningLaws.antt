@@ -1,13 +1,11 @@
 -- The record that is meant is in use: it was found by its identifier among those in use, it is the oldest that fits, or it stands at the named place.
 use Prim.Native.Nat.{ℕ}
-use mathlib.Core.Path.{◌≡◌, refl, sym, ap, ◌∙◌, subst}
-use mathlib.Core.Bool.{Bool, true, false}
+use mathlib.Core.Path.{◌≡◌, refl, ap, ◌∙◌, subst}
+use mathlib.Core.Bool.{true}
 use mathlib.Core.List.{List}
 use lib.ListN.{get_or}
 use native.Mathlib.Omega.{arith}
-use Rattle.lists.specs.Choice.{pick}
 use Rattle.lists.specs.declared.Found.{Found}
-use Rattle.lists.specs.declared.Found.TheVariants as Found
 use Rattle.lists.proofs.Choice.{pick_elim}
 use Rattle.lists.proofs.Lists.{both_parts, first_holds}
 use Rattle.message.specs.Format.{has_elements}
@@ -18,7 +16,7 @@ use Rattle.desk.specs.declared.letter.Letter.{Letter}
 use Rattle.terms.specs.Means.{fits}
 use Rattle.terms.specs.Request.{letter_names}
 use Rattle.terms.specs.declared.means.Means.{Means}
-use Rattle.terms.specs.declared.means.Means.TheVariants.{Nothing, NotNow, At}
+use Rattle.terms.specs.declared.means.Means.TheVariants.{Nothing, At}
 use Rattle.terms.specs.declared.request.Name.{Name}
 use Rattle.terms.proofs.MeansLaws.{oldest-at}
 use Rattle.clerk_table.specs.declared.record.Record.{Record}

@@ -1,14 +1,13 @@
 -- The words of a desk and its list of records are one thing: each search and each change of words is the same of records, by the laws of decoded rows.
 use Prim.Native.Nat.{ℕ, zero, suc, ◌+◌, ◌*◌, ◌≤◌, ◌<◌}
 use mathlib.Core.Path.{◌≡◌, refl, sym, ◌∙◌, ap}
-use mathlib.Core.Bool.{Bool, true, false, not}
+use mathlib.Core.Bool.{true, false}
 use mathlib.Core.List.{List, ◌++◌, map}
 use lib.ListN.{length, get_or, take, drop, set}
 use lib.Seq.{get_or-take, get_or-drop, set_out}
 use lib.Dec.{ltb, leb, eqb}
 use native.Mathlib.Omega.{arith}
 use borrow.Author.Tests.{ne_eqb, lt-ltb, lt-leb, ltb-true, ltb-false}
-use Rattle.lists.specs.Choice.{pick}
 use Rattle.lists.specs.Lists.{both, without}
 use Rattle.lists.specs.Parts.{over}
 use Rattle.lists.specs.declared.words.Words.{Words}

@@ -18,7 +18,6 @@ use Rattle.clerk_table.specs.declared.record.Record.{Record}
 use Rattle.clerk_table.specs.declared.record.Decision.{Decision}
 use Rattle.clerk_table.specs.declared.record.Decision.TheVariants.{Refuse, Store}
 use Rattle.clerk_table.specs.declared.inputs.Input.{Input}
-use Rattle.clerk_table.specs.declared.inputs.Input.TheVariants as Input
 use Rattle.clerk_records.specs.Layout.{places}
 use Rattle.clerk_records.specs.Records.{blank, records, used, place}
 use Rattle.clerk_records.specs.Meaning.{identifier_means}

@@ -10,7 +10,6 @@ use borrow.Author.Tests.{ltb-true, ltb-false}
 use Rattle.lists.specs.Choice.{pick}
 use Rattle.lists.specs.Lists.{count, without}
 use Rattle.lists.specs.declared.Found.{Found}
-use Rattle.lists.specs.declared.Found.TheVariants as Found
 use Rattle.lists.proofs.Lists.{get_or-without-before}
 use Rattle.clock.specs.Clock.{turn}
 use Rattle.desk.specs.Outcome.{no_timers}

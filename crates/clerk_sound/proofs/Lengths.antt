@@ -11,7 +11,6 @@ use native.Mathlib.Omega.{arith}
 use borrow.Author.Tests.{leb-true, ltb-true}
 use Rattle.lists.specs.Lists.{both}
 use Rattle.lists.specs.declared.Found.{Found}
-use Rattle.lists.specs.declared.Found.TheVariants as Found
 use Rattle.lists.proofs.Choice.{pick_elim}
 use Rattle.lists.proofs.Lists.{both_parts}
 use Rattle.clock.specs.Clock.{turn}

@@ -7,7 +7,6 @@ use lib.ListN.{get_or}
 use lib.Dec.{eqb}
 use native.Mathlib.Omega.{arith}
 use Rattle.lists.specs.declared.Found.{Found}
-use Rattle.lists.specs.declared.Found.TheVariants as Found
 use Rattle.lists.proofs.Choice.{pick_elim, no_true}
 use Rattle.message.specs.declared.Kind.{Kind}
 use Rattle.message.specs.declared.Kind.TheVariants.{Ccbs, Ccnr}
@@ -15,10 +14,8 @@ use Rattle.message.specs.declared.Carrier.{Carrier}
 use Rattle.message.specs.declared.Carrier.TheVariants.{Setup, Connect, Facility, ReleaseComplete, Alerting}
 use Rattle.desk.specs.Carriers.{carrier_fits}
 use Rattle.desk.specs.declared.Connection.{Connection}
-use Rattle.desk.specs.declared.Connection.TheVariants as Connection
 use Rattle.desk.proofs.CarriersLaws.{retained-holds}
 use Rattle.desk.specs.declared.Keep.{Keep}
-use Rattle.desk.specs.declared.Keep.TheVariants as Keep
 use Rattle.desk.specs.declared.letter.Letter.{Letter}
 use Rattle.terms.specs.declared.means.Means as M
 use Rattle.terms.specs.declared.means.Means.TheVariants.{Nothing, NotNow, At}
@@ -48,11 +45,9 @@ use Rattle.clerk_table.specs.declared.record.Plan.{Plan}
 use Rattle.clerk_table.specs.declared.inputs.Act.{Act}
 use Rattle.clerk_table.specs.declared.inputs.Act.TheVariants.{Accept, Resume, GoOn, Cancel, Fell}
 use Rattle.clerk_table.specs.declared.inputs.Input.{Input}
-use Rattle.clerk_table.specs.declared.inputs.Input.TheVariants as Input
 use Rattle.clerk_table.specs.declared.inputs.RecordMessage.{RecordMessage}
 use Rattle.clerk_table.specs.declared.inputs.RecordMessage.TheVariants as Message
 use Rattle.clerk_table.specs.declared.inputs.Meant.{Meant}
-use Rattle.clerk_table.specs.declared.inputs.Meant.TheVariants as Meant
 use Rattle.clerk_records.specs.Records.{blank, used, meant, place, records_after}
 use Rattle.clerk_records.specs.Meaning.{identifier_means, meaning, named}
 use Rattle.clerk_records.proofs.MeaningLaws.{meaning-used, named-used}

@@ -13,7 +13,6 @@ use Rattle.desk.specs.Letter.{letter_of}
 use Rattle.places.specs.Places.{Moved, same}
 use Rattle.places.proofs.Moving.{moved-placed, moved-each, moved_order, moved-others}
 use Rattle.clerk_table.specs.declared.inputs.Input.{Input}
-use Rattle.clerk_table.specs.declared.inputs.Input.TheVariants as Input
 use Rattle.clerk_records.specs.Layout as Layout
 use Rattle.clerk_records.specs.Records.{records}
 use Rattle.clerk.proofs.StepsLaws.{made-length, records-made}

@@ -11,7 +11,6 @@ use borrow.Author.Tests.{ltb-true, ltb-false, eqb-true, eqb-false}
 use Rattle.lists.specs.Choice.{pick}
 use Rattle.lists.specs.Lists.{without}
 use Rattle.lists.specs.declared.Found.{Found}
-use Rattle.lists.specs.declared.Found.TheVariants as Found
 use Rattle.lists.proofs.Choice.{pick_elim, no_true}
 use Rattle.lists.proofs.Lists.{both_true, without-length, get_or-without-before}
 use Rattle.clock.specs.Clock.{turn, half_turn, deadline_of, due}
@@ -34,11 +33,9 @@ use Rattle.clerk_table.specs.Table.{home_of, state_code, same_state, holds_in}
 use Rattle.clerk_table.specs.Inputs.{names_of, row_of_timer, message_for, row_for, row_of_act, settled, settled_by}
 use Rattle.clerk_table.specs.Step.{row_taken, only, running, in_ringout}
 use Rattle.clerk_table.specs.declared.inputs.Input.{Input}
-use Rattle.clerk_table.specs.declared.inputs.Input.TheVariants as Input
 use Rattle.clerk_table.specs.declared.inputs.RecordMessage.{RecordMessage}
 use Rattle.clerk_table.specs.declared.inputs.RecordMessage.TheVariants as Message
 use Rattle.clerk_table.specs.declared.inputs.Meant.{Meant}
-use Rattle.clerk_table.specs.declared.inputs.Meant.TheVariants as Meant
 use Rattle.clerk_table.specs.declared.table.State.{State}
 use Rattle.clerk_table.specs.declared.table.State.TheVariants.{Free, WaitAck, Invoked, WaitAnswer, Ringout, Suspended}
 use Rattle.clerk_table.specs.declared.table.Row.{Row}

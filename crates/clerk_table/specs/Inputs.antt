@@ -6,30 +6,24 @@ use Rattle.message.specs.declared.Kind.TheVariants.{Ccbs, Ccnr}
 use Rattle.message.specs.declared.Carrier.{Carrier}
 use Rattle.message.specs.declared.Carrier.TheVariants.{Setup, Connect, Facility, ReleaseComplete, Alerting}
 use Rattle.message.specs.declared.Body.{Body}
-use Rattle.message.specs.declared.Body.TheVariants as Body
 use Rattle.desk.specs.declared.Connection.{Connection}
 use Rattle.desk.specs.declared.Connection.TheVariants.{Ret, Rls}
 use Rattle.desk.specs.declared.Keep.{Keep}
 use Rattle.desk.specs.declared.Keep.TheVariants.{Empty, Ends, Keeps}
 use Rattle.desk.specs.declared.sends.Sends.{Sends}
-use Rattle.desk.specs.declared.sends.Sends.TheVariants as Sends
 use Rattle.terms.specs.Terms.{with_choices}
 use Rattle.terms.specs.Request.{letter_names, only_identifier}
 use Rattle.terms.specs.declared.request.Names.{Names}
 use Rattle.clerk_table.specs.Record.{with_terms}
 use Rattle.clerk_table.specs.declared.table.Row.{Row}
-use Rattle.clerk_table.specs.declared.table.Row.TheVariants as Row
 use Rattle.clerk_table.specs.declared.table.Timer.{Timer}
 use Rattle.clerk_table.specs.declared.table.Timer.TheVariants.{T1, T2, T3}
 use Rattle.clerk_table.specs.declared.record.Record.{Record}
 use Rattle.clerk_table.specs.declared.inputs.Input.{Input}
-use Rattle.clerk_table.specs.declared.inputs.Input.TheVariants as Input
 use Rattle.clerk_table.specs.declared.inputs.Act.{Act}
-use Rattle.clerk_table.specs.declared.inputs.Act.TheVariants as Act
 use Rattle.clerk_table.specs.declared.inputs.RecordMessage.{RecordMessage}
 use Rattle.clerk_table.specs.declared.inputs.RecordMessage.TheVariants as Message
 use Rattle.clerk_table.specs.declared.inputs.Meant.{Meant}
-use Rattle.clerk_table.specs.declared.inputs.Meant.TheVariants as Meant
 
 -- ---- whom an input names
 abbrev pub names_of : Input → Names

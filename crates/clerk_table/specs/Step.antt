@@ -17,9 +17,7 @@ use Rattle.clerk_table.specs.declared.table.Next.TheVariants.{Gone, Same, To}
 use Rattle.clerk_table.specs.declared.table.Timer.{Timer}
 use Rattle.clerk_table.specs.declared.table.Timer.TheVariants.{T1, T2, T3}
 use Rattle.clerk_table.specs.declared.table.Starts.{Starts}
-use Rattle.clerk_table.specs.declared.table.Starts.TheVariants as Starts
 use Rattle.clerk_table.specs.declared.table.Stops.{Stops}
-use Rattle.clerk_table.specs.declared.table.Stops.TheVariants as Stops
 use Rattle.clerk_table.specs.declared.record.Record.{Record}
 use Rattle.clerk_table.specs.declared.record.Turned.{Turned}
 use Rattle.clerk_table.specs.declared.record.Change.{Change}

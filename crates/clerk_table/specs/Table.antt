@@ -9,9 +9,7 @@ use Rattle.desk.specs.declared.Connection.{Connection}
 use Rattle.desk.specs.declared.outcome.Notice.{Notice}
 use Rattle.desk.specs.declared.outcome.Notice.TheVariants as Says
 use Rattle.desk.specs.declared.sends.Sends.{Sends}
-use Rattle.desk.specs.declared.sends.Sends.TheVariants as Sends
 use Rattle.terms.specs.declared.Becomes.{Becomes}
-use Rattle.terms.specs.declared.Becomes.TheVariants as Becomes
 use Rattle.clerk_table.specs.declared.table.State.{State}
 use Rattle.clerk_table.specs.declared.table.Row.{Row}
 use Rattle.clerk_table.specs.declared.table.Home.{Home}
@@ -22,12 +20,9 @@ use Rattle.clerk_table.specs.declared.table.Stops.{Stops}
 use Rattle.clerk_table.specs.declared.table.Effect.{Effect}
 use Rattle.clerk_table.specs.declared.table.Rule.{Rule}
 use Rattle.clerk_table.specs.declared.table.State.TheVariants.{Free, WaitAck, Invoked, WaitAnswer, Ringout, Suspended}
-use Rattle.clerk_table.specs.declared.table.Row.TheVariants as Row
 use Rattle.clerk_table.specs.declared.table.Home.TheVariants.{In, WhereT2Counts, WhereRetained, Always}
 use Rattle.clerk_table.specs.declared.table.Next.TheVariants.{Gone, Same, To}
 use Rattle.clerk_table.specs.declared.table.Timer.TheVariants.{T1, T2, T3}
-use Rattle.clerk_table.specs.declared.table.Starts.TheVariants as Starts
-use Rattle.clerk_table.specs.declared.table.Stops.TheVariants as Stops
 
 -- ---- the words of the table: what stands in a column, and one word for nothing in all of them
 pub data Column : Type 0 where

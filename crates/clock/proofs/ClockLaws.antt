@@ -1,5 +1,5 @@
 -- The laws of a count that wraps: what is added and taken away again is what was there, and over true time a deadline is due exactly when its seconds have passed.
-use Rattle.std.proofs.Common.{◌≡◌, ℕ, ◌+◌, ◌-◌, ◌%◌, ◌<◌, ◌≤◌, Bool, true, false, ltb, leb, sym, refl, ap, ◌∙◌, le_of_lt, add_assoc, mod-lt, mod-eq_of_lt, add-sub_of_le, add_comm, arith, ltb-true, lt-ltb, leb-false, leb-true}
+use Rattle.std.proofs.Common.{◌≡◌, ℕ, ◌+◌, ◌-◌, ◌%◌, ◌<◌, ◌≤◌, Bool, true, false, leb, sym, refl, ap, ◌∙◌, le_of_lt, add_assoc, mod-lt, mod-eq_of_lt, add-sub_of_le, add_comm, arith, ltb-true, lt-ltb, leb-false, leb-true}
 use native.Mathlib.Nat.{mod-add-mod, add-mod-mod, add-mod_right}
 use Rattle.clock.specs.Clock.{turn, half_turn, deadline_of, since, due}
 use Rattle.clock.specs.Claims.{NeverEarly, DueInTime}

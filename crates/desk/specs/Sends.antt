@@ -11,7 +11,6 @@ use Rattle.desk.specs.declared.Connection.{Connection}
 use Rattle.desk.specs.declared.letter.Identifier.{Identifier}
 use Rattle.desk.specs.declared.letter.Letter.{Letter}
 use Rattle.desk.specs.declared.outcome.Sending.{Sending}
-use Rattle.desk.specs.declared.outcome.Sending.TheVariants as Sending
 use Rattle.desk.specs.declared.sends.Elements.{Elements}
 use Rattle.desk.specs.declared.sends.Sends.{Sends}
 use Rattle.desk.specs.declared.sends.Sends.TheVariants as Sent

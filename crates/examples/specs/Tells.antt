@@ -13,7 +13,6 @@ use Rattle.message.specs.declared.Body.TheVariants.{CcbsRequest, CcnrRequest, Re
 use Rattle.terms.specs.Codes.{keep_code, connection_code, flag_code}
 use Rattle.desk.specs.Letter.{number_words}
 use Rattle.desk.specs.declared.outcome.Sending.{Sending}
-use Rattle.desk.specs.declared.outcome.Sending.TheVariants as Sending
 use Rattle.desk.specs.declared.outcome.Outcome.{Outcome}
 use Rattle.clerk_table.specs.declared.record.Record as ClerkRecord
 use Rattle.clerk_records.specs.Codes as ClerkCodes

@@ -1,6 +1,6 @@
 -- Laws of parts of a buffer: a part is lent, changed at its front and given back. Each by the kit's laws of `take`, `drop` and `++`.
 use Prim.Native.Nat.{ℕ, suc, ◌+◌, ◌-◌, ◌≤◌, ◌<◌}
-use mathlib.Core.Path.{◌≡◌, refl, sym, ◌∙◌, ap}
+use mathlib.Core.Path.{◌≡◌, sym, ◌∙◌, ap}
 use mathlib.Core.List.{List, [], ◌∷◌, ◌++◌, append_assoc, append-nil}
 use lib.ListN.{length, get_or, take, drop, set, length-append, length-drop, drop_of_length-le}
 use lib.Seq.{paste-suc, take_all, drop-cons, set-append_seam, append_snoc, take-append_seam, drop-append_seam, drop-drop}

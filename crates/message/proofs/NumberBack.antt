@@ -1,23 +1,23 @@
 -- Numbers written and read are two ways of one thing. What stands from a place on is moved along by a cursor, `drop at s ≡ bytes ++ rest`.
 use Prim.Native.Nat.{ℕ, zero, suc, ◌+◌, ◌-◌, ◌*◌, ◌/◌, ◌%◌, ◌≤◌, ◌<◌}
-use mathlib.Core.Path.{◌≡◌, refl, sym, ◌∙◌, ap}
-use mathlib.Core.Bool.{Bool, true, false}
+use mathlib.Core.Path.{◌≡◌, sym, ◌∙◌, ap}
+use mathlib.Core.Bool.{true}
 use mathlib.Core.Logic.{◌⊎◌, inl, inr}
-use mathlib.Core.List.{List, [], ◌∷◌, ◌++◌}
+use mathlib.Core.List.{List, ◌∷◌, ◌++◌}
 use lib.ListN.{length, get_or, take, drop, replicate, length-append, length-drop, take-append-drop, get_or-append}
 use lib.Seq.{get_or-append_seam, get_or-append-add, drop-cons, drop-drop, length-take-le, get_or-drop, get_or-take, take_at}
-use lib.Dec.{ltb, leb, eqb}
+use lib.Dec.{ltb, leb}
 use native.Mathlib.Omega.{arith}
-use native.Mathlib.Nat.{add-zero, zero-add}
+use native.Mathlib.Nat.{add-zero}
 use native.Mathlib.Numerals.{add-one}
 use borrow.Author.Tests.{ltb-false, le-ltb, lt-ltb, lt-leb, ne_eqb}
 use Rattle.lists.specs.Words.{Bytes}
 use Rattle.lists.proofs.Choice.{pick_elim, pick-else}
 use Rattle.lists.proofs.Parts.{at_in, length_over}
-use Rattle.message.specs.Reading.{Read, took, wrong_at, ended_in}
+use Rattle.message.specs.Reading.{took, wrong_at, ended_in}
 use Rattle.message.specs.Number.{number_at, number_bytes, field_at, scan_at, digits_at, digits_in_range, digits_bytes, sixteen}
 use Rattle.message.proofs.Reading.{never-took}
-use Rattle.message.proofs.NumberLaws.{DigitsRead, number_shape, field-read, digits-read}
+use Rattle.message.proofs.NumberLaws.{number_shape, field-read, digits-read}
 use Rattle.message.proofs.RangeLaws.{small_bytes, number-length, digits-ranged, digits-length}
 
 -- ---- what was written is read back

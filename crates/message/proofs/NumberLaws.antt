@@ -1,24 +1,19 @@
 -- Laws of the numbers of the wire: what a number that was read says of the bytes, and that written and read are two ways of one thing.
-use Prim.Native.Nat.{ℕ, zero, suc, ◌+◌, ◌-◌, ◌*◌, ◌/◌, ◌%◌, ◌≤◌, ◌<◌}
-use mathlib.Core.Path.{◌≡◌, refl, sym, ◌∙◌, ap}
-use mathlib.Core.Bool.{Bool, true, false}
+use Prim.Native.Nat.{ℕ, zero, suc, ◌+◌, ◌-◌, ◌*◌, ◌≤◌, ◌<◌}
+use mathlib.Core.Path.{◌≡◌, refl, sym}
 use mathlib.Core.Logic.{◌⊎◌, inl, inr, ⊎_elim}
-use mathlib.Core.List.{List, [], ◌∷◌, ◌++◌}
-use lib.ListN.{length, get_or, take, drop, length-append}
-use lib.Seq.{get_or-append_seam, get_or-append-add, drop-cons, length-take-le}
-use lib.ListN.{take-append-drop}
-use lib.Dec.{ltb, leb, eqb}
+use mathlib.Core.List.{List}
+use lib.ListN.{length, get_or}
+use lib.Dec.{ltb, leb}
 use native.Mathlib.Omega.{arith}
 use native.Mathlib.Nat.{not-suc-le-zero, add-zero}
-use native.Mathlib.Numerals.{add-one}
-use borrow.Author.Tests.{ltb-true, ltb-false, leb-false, eqb-false, le-ltb, lt-ltb, le-leb, lt-leb, ne_eqb}
+use borrow.Author.Tests.{ltb-true, ltb-false, leb-false, eqb-false, le-ltb, lt-ltb, le-leb, lt-leb}
 use Rattle.lists.specs.Choice.{pick}
 use Rattle.lists.proofs.Choice.{pick_elim, pick-both, pick-cases, pick-then, pick-else}
-use Rattle.lists.proofs.Parts.{at_in}
 use Rattle.message.specs.Reading.{Read, took, refused, and_then, wrong_at, ended_in}
-use Rattle.message.specs.Number.{number_at, number_bytes, within, field_at, scan_at, digits_at, is_taken}
+use Rattle.message.specs.Number.{number_at, within, field_at, scan_at, digits_at, is_taken}
 use Rattle.message.specs.Ends.{bytes_end, digits_end}
-use Rattle.message.proofs.Reading.{never-took, then_elim}
+use Rattle.message.proofs.Reading.{never-took}
 
 -- ---- what a number that was read says of the bytes
 pub number_shape :

@@ -1,9 +1,9 @@
 -- What a message in range says of its fields, and how many bytes they take: by the tests of the range.
 use Prim.Native.Nat.{ℕ, ◌+◌, ◌≤◌, ◌<◌}
-use mathlib.Core.Path.{◌≡◌, refl, sym, ◌∙◌, ap}
+use mathlib.Core.Path.{◌≡◌, refl, ◌∙◌}
 use mathlib.Core.Bool.{Bool, true, false}
 use mathlib.Core.List.{List, [], ◌∷◌, ◌++◌}
-use lib.ListN.{length, get_or, take, length-append}
+use lib.ListN.{length, get_or, length-append}
 use lib.Seq.{length-take-le}
 use lib.Dec.{ltb}
 use native.Mathlib.Omega.{arith}
@@ -12,7 +12,7 @@ use Rattle.lists.specs.Choice.{pick}
 use Rattle.lists.proofs.Choice.{no_true, pick-then, pick_elim}
 use Rattle.message.specs.Reading.{Read, took, refused}
 use Rattle.message.specs.Number.{number_bytes, number_at, field_at, digits_at, is_taken, digits_in_range, digits_bytes}
-use Rattle.message.specs.Format.{request_in_range, error_in_range, service_in_range, elements_in_range, fields_in_range, in_range, has_elements, is_given, elements_complete, complete, writable, identifier_bytes, request_bytes, service_bytes, element_bytes, typeNumber, carrier_number, field_bytes, fields_of, message_bytes}
+use Rattle.message.specs.Format.{request_in_range, error_in_range, elements_in_range, fields_in_range, in_range, has_elements, elements_complete, complete, writable, identifier_bytes, request_bytes, element_bytes, typeNumber, carrier_number, field_bytes, fields_of, message_bytes}
 use Rattle.message.specs.declared.Carrier.{Carrier}
 use Rattle.message.specs.declared.Carrier.TheVariants.{Setup, Connect, Facility, ReleaseComplete, Alerting}
 use Rattle.message.specs.declared.Body.{Body}

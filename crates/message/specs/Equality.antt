@@ -7,7 +7,7 @@ use Rattle.message.specs.declared.Carrier.{Carrier}
 use Rattle.message.specs.declared.Body.{Body}
 use Rattle.message.specs.declared.Body.TheVariants.{CcbsRequest, CcnrRequest, RequestResult, RequestError, CcExecPossible, CcRingout, RingoutError, CcSuspend, CcResume, CcCancel, CallAlerts, CallFailed}
 use Rattle.message.specs.declared.Service.{Service}
-use Rattle.message.specs.declared.Service.TheVariants.{Absent, Is}
+use Rattle.message.specs.declared.Service.TheVariants.{Absent}
 use Rattle.message.specs.declared.Message.{Message}
 
 -- the digits of a number: as many as its length says

@@ -1,5 +1,5 @@
 -- Document 01, "Messages and carriers", and request 1: the numbers of types and carriers, which messages have elements, the range of each field, the bytes of a message.
-use Rattle.std.specs.Prelude.{ℕ, Bool, true, false, List, [], ◌∷◌, ◌++◌, get_or, ltb}
+use Rattle.std.specs.Prelude.{ℕ, Bool, true, false, List, [], ◌++◌, get_or, ltb}
 use Rattle.lists.specs.Choice.{pick}
 use Rattle.message.specs.Number.{number_bytes, digits_bytes, digits_in_range}
 use Rattle.message.specs.declared.Carrier.{Carrier}

@@ -1,5 +1,5 @@
 -- The numbers of the wire (document 01, "Bytes"): groups of seven bits, and numbers of digits.
-use Rattle.std.specs.Prelude.{ℕ, zero, suc, ◌+◌, ◌-◌, ◌*◌, ◌/◌, ◌%◌, Bool, true, false, List, [], ◌∷◌, length, get_or, take, drop, replicate, ltb, leb, eqb}
+use Rattle.std.specs.Prelude.{ℕ, zero, suc, ◌+◌, ◌-◌, ◌*◌, ◌/◌, ◌%◌, Bool, true, false, List, [], ◌∷◌, length, get_or, take, replicate, ltb, leb, eqb}
 use Rattle.lists.specs.Choice.{pick}
 use Rattle.lists.specs.Parts.{over}
 use Rattle.message.specs.Reading.{Read, took, refused, and_then, wrong_at, ended_in}

@@ -15,12 +15,10 @@ use Rattle.desk.specs.Carriers.{carrier_fits}
 use Rattle.desk.specs.declared.letter.Letter.{Letter}
 use Rattle.desk.specs.declared.sends.Elements.{Elements}
 use Rattle.terms.specs.declared.means.Means.{Means}
-use Rattle.terms.specs.declared.means.Means.TheVariants as Means
 use Rattle.places.specs.Places as P
 use Rattle.clerk_table.specs.Inputs.{message_for, row_for}
 use Rattle.clerk_table.specs.Step.{row_taken}
 use Rattle.clerk_table.specs.declared.inputs.Input.{Input}
-use Rattle.clerk_table.specs.declared.inputs.Input.TheVariants as Input
 use Rattle.clerk_table.specs.declared.inputs.Meant.{Meant as Sort}
 use Rattle.clerk_table.specs.declared.inputs.Meant.TheVariants as Meant
 use Rattle.clerk_table.specs.declared.inputs.RecordMessage.{RecordMessage}

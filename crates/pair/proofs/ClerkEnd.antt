@@ -15,7 +15,6 @@ use Rattle.message.specs.Format.{request_body, has_elements}
 use Rattle.message.specs.declared.Body.{Body}
 use Rattle.message.specs.declared.Body.TheVariants.{CcCancel}
 use Rattle.message.specs.declared.Carrier.{Carrier}
-use Rattle.message.specs.declared.Carrier.TheVariants as Carrier
 use Rattle.message.specs.declared.Kind.{Kind}
 use Rattle.message.specs.declared.Kind.TheVariants.{Ccbs, Ccnr}
 use Rattle.desk.specs.Carriers.{carrier_fits}
@@ -28,12 +27,10 @@ use Rattle.desk.specs.declared.letter.Letter.{Letter}
 use Rattle.desk.specs.declared.outcome.Sending.TheVariants as Sending
 use Rattle.desk.specs.declared.sends.Elements.{Elements}
 use Rattle.desk.specs.declared.sends.Sends.{Sends}
-use Rattle.desk.specs.declared.sends.Sends.TheVariants as Sends
 use Rattle.terms.specs.Terms.{elements_of}
 use Rattle.terms.specs.Means.{fits, oldest}
 use Rattle.terms.specs.Request.{letter_names}
 use Rattle.terms.specs.declared.means.Means.{Means}
-use Rattle.terms.specs.declared.means.Means.TheVariants as Means
 use Rattle.terms.specs.declared.request.Name.{Name}
 use Rattle.terms.specs.declared.request.Names.{Names}
 use Rattle.terms.specs.declared.request.Request.{Request}
@@ -55,9 +52,7 @@ use Rattle.clerk_table.specs.declared.record.Decision.{Decision}
 use Rattle.clerk_table.specs.declared.record.Decision.TheVariants.{Refuse, Take, Store}
 use Rattle.clerk_table.specs.declared.record.Plan.{Plan}
 use Rattle.clerk_table.specs.declared.inputs.Act.{Act}
-use Rattle.clerk_table.specs.declared.inputs.Act.TheVariants as Act
 use Rattle.clerk_table.specs.declared.inputs.Input.{Input}
-use Rattle.clerk_table.specs.declared.inputs.Input.TheVariants as Input
 use Rattle.clerk_table.specs.declared.inputs.Meant.{Meant as Sort}
 use Rattle.clerk_table.specs.declared.inputs.RecordMessage.{RecordMessage}
 use Rattle.clerk_table.specs.declared.inputs.RecordMessage.TheVariants as Message

@@ -20,7 +20,6 @@ use Rattle.desk.specs.declared.sends.Elements.{Elements}
 use Rattle.terms.specs.Terms.{elements_of}
 use Rattle.terms.specs.Request.{letter_names}
 use Rattle.terms.specs.declared.means.Means.{Means}
-use Rattle.terms.specs.declared.means.Means.TheVariants as Means
 use Rattle.terms.specs.declared.request.Name.{Name}
 use Rattle.terms.specs.declared.request.Names.{Names}
 use Rattle.terms.specs.declared.request.Request.{Request}
@@ -28,7 +27,6 @@ use Rattle.places.specs.Places as P
 use Rattle.clerk_table.specs.Inputs.{names_of}
 use Rattle.clerk_table.specs.declared.inputs.Act.{Act}
 use Rattle.clerk_table.specs.declared.inputs.Input.{Input}
-use Rattle.clerk_table.specs.declared.inputs.Input.TheVariants as Input
 use Rattle.clerk_table.specs.declared.record.Change.{Change}
 use Rattle.clerk_table.specs.declared.record.Change.TheVariants.{Stay}
 use Rattle.clerk_table.specs.declared.record.Plan.{Plan}

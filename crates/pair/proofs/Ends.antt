@@ -16,9 +16,7 @@ use Rattle.message.specs.declared.Service.TheVariants.{Absent}
 use Rattle.desk.specs.Letter.{identifier_of, is_identified, identifier_words, number_words, letter_of, message_of}
 use Rattle.desk.specs.Sends.{plain_letter, record_letter}
 use Rattle.desk.specs.declared.Connection.{Connection}
-use Rattle.desk.specs.declared.Connection.TheVariants as Connection
 use Rattle.desk.specs.declared.Keep.{Keep}
-use Rattle.desk.specs.declared.Keep.TheVariants as Keep
 use Rattle.desk.specs.declared.letter.Identifier.{Identifier}
 use Rattle.desk.specs.declared.letter.Letter.{Letter}
 use Rattle.desk.specs.declared.outcome.Outcome.{Outcome}

@@ -23,7 +23,6 @@ use Rattle.message.proofs.RangeLaws.{request-ranged, RequestRanged, digits-other
 use Rattle.desk.specs.Letter.{identifier_of, is_identified, identifier_words, number_words, letter_of, message_of}
 use Rattle.desk.specs.Sends.{no_number, plain_letter, full_letter}
 use Rattle.desk.specs.declared.letter.Identifier.{Identifier}
-use Rattle.desk.specs.declared.letter.Identifier.TheVariants as Identifier
 use Rattle.desk.specs.declared.sends.Elements.{Elements}
 use Rattle.desk.specs.declared.letter.Letter.{Letter}
 use Rattle.desk.proofs.LetterLaws.{number-kept, number_same}

@@ -24,7 +24,6 @@ use Rattle.line_table.specs.Line.{allows}
 use Rattle.line_table.specs.Search.{of_line, passes}
 use Rattle.line_table.specs.Step.{row_taken}
 use Rattle.line_table.specs.declared.inputs.Input.{Input}
-use Rattle.line_table.specs.declared.inputs.Input.TheVariants as Input
 use Rattle.line_table.specs.declared.inputs.RecordMessage.{RecordMessage}
 use Rattle.line_table.specs.declared.inputs.RecordMessage.TheVariants as Message
 use Rattle.line_table.specs.declared.record.Decision.{Decision}

@@ -8,7 +8,6 @@ use lib.Dec.{ltb}
 use Rattle.lists.specs.Choice.{pick}
 use Rattle.lists.specs.Lists.{first, count}
 use Rattle.lists.specs.declared.Found.{Found}
-use Rattle.lists.specs.declared.Found.TheVariants as Found
 use Rattle.lists.proofs.Choice.{pick_elim}
 use Rattle.lists.proofs.Lists.{both_true}
 use Rattle.message.specs.Format.{request_body, has_elements}
@@ -31,7 +30,6 @@ use Rattle.terms.specs.Means.{fits, oldest}
 use Rattle.terms.specs.Request.{letter_names}
 use Rattle.terms.specs.declared.request.Names.{Names}
 use Rattle.terms.specs.declared.means.Means.{Means}
-use Rattle.terms.specs.declared.means.Means.TheVariants as Means
 use Rattle.terms.specs.declared.request.Name.{Name}
 use Rattle.places.specs.Places as P
 use Rattle.clerk.specs.Entry.{ask_flags}
@@ -49,7 +47,6 @@ use Rattle.line_table.specs.declared.record.Change.TheVariants.{Stay}
 use Rattle.line_table.specs.declared.record.Plan.{Plan}
 use Rattle.line_table.specs.declared.inputs.Act.{Act}
 use Rattle.line_table.specs.declared.inputs.Input.{Input}
-use Rattle.line_table.specs.declared.inputs.Input.TheVariants as Input
 use Rattle.line_table.specs.declared.inputs.RecordMessage.{RecordMessage}
 use Rattle.line_table.specs.declared.inputs.RecordMessage.TheVariants as Message
 use Rattle.line_table.specs.declared.inputs.Meant.TheVariants as Meant

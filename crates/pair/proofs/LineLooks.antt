@@ -27,7 +27,6 @@ use Rattle.line_table.specs.declared.table.Row.TheVariants.{Offers}
 use Rattle.line_table.specs.declared.line.Line.{Line}
 use Rattle.line_table.specs.declared.record.Record.{Record}
 use Rattle.line_table.specs.declared.record.Decision.{Decision}
-use Rattle.line_table.specs.declared.record.Decision.TheVariants as Decision
 use Rattle.line_table.specs.declared.record.Plan.{Plan}
 use Rattle.line_table.specs.declared.inputs.Input.TheVariants as Input
 use Rattle.line_table.specs.declared.search.Sought.TheVariants.{Blocking, Fitting}

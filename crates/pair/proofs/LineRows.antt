@@ -30,7 +30,6 @@ use Rattle.line_table.specs.declared.record.Change.{Change}
 use Rattle.line_table.specs.declared.record.Change.TheVariants.{Stay, Put, Turn, Remove, Report}
 use Rattle.line_table.specs.declared.record.Plan.{Plan}
 use Rattle.line_table.specs.declared.inputs.Act.{Act}
-use Rattle.line_table.specs.declared.inputs.Act.TheVariants as Act
 use Rattle.line_table.specs.declared.inputs.RecordMessage.{RecordMessage}
 use Rattle.line_table.specs.declared.inputs.RecordMessage.TheVariants as Message
 use Rattle.line_records.specs.Lines.{keeps, retains}

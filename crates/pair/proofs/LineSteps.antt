@@ -25,7 +25,6 @@ use Rattle.desk.specs.declared.sends.Elements.{Elements}
 use Rattle.terms.specs.Terms.{elements_of}
 use Rattle.terms.specs.Request.{letter_names}
 use Rattle.terms.specs.declared.means.Means.{Means}
-use Rattle.terms.specs.declared.means.Means.TheVariants as Means
 use Rattle.places.specs.Places as P
 use Rattle.places.proofs.Staying.{at_map}
 use Rattle.clerk.specs.Entry.{ask_flags}
@@ -33,9 +32,7 @@ use Rattle.line_table.specs.Inputs.{names_of}
 use Rattle.line_table.specs.Record.{activated}
 use Rattle.line_table.specs.Search.{used, marks}
 use Rattle.line_table.specs.declared.inputs.Act.{Act}
-use Rattle.line_table.specs.declared.inputs.Act.TheVariants as Act
 use Rattle.line_table.specs.declared.inputs.Input.{Input}
-use Rattle.line_table.specs.declared.inputs.Input.TheVariants as Input
 use Rattle.line_table.specs.declared.record.Change.{Change}
 use Rattle.line_table.specs.declared.record.Change.TheVariants.{Stay}
 use Rattle.line_table.specs.declared.record.Plan.{Plan}

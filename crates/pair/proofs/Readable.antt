@@ -6,9 +6,7 @@ use mathlib.Core.List.{List}
 use native.Mathlib.Omega.{arith}
 use Rattle.lists.proofs.Choice.{no_true}
 use Rattle.desk.specs.declared.Connection.{Connection}
-use Rattle.desk.specs.declared.Connection.TheVariants as Connection
 use Rattle.desk.specs.declared.Keep.{Keep}
-use Rattle.desk.specs.declared.Keep.TheVariants as Keep
 use Rattle.terms.specs.Terms.{elements_of}
 use Rattle.places.specs.Places.{one}
 use Rattle.clerk_table.specs.declared.table.State as ClerkStates

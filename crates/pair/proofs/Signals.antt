@@ -4,7 +4,6 @@ use mathlib.Core.Path.{◌≡◌, refl, ap, subst}
 use mathlib.Core.Bool.{Bool, true}
 use mathlib.Core.List.{List}
 use lib.ListN.{get_or}
-use Rattle.lists.specs.declared.Found.TheVariants.{At, Nothing}
 use Rattle.lists.proofs.Choice.{pick_elim}
 use Rattle.message.specs.declared.Carrier.{Carrier}
 use Rattle.message.specs.declared.Kind.{Kind}
@@ -15,9 +14,7 @@ use Rattle.desk.specs.declared.letter.Identifier.{Identifier}
 use Rattle.desk.specs.declared.letter.Letter.{Letter}
 use Rattle.desk.specs.declared.sends.Elements.{Elements}
 use Rattle.desk.specs.declared.sends.Sends.{Sends}
-use Rattle.desk.specs.declared.sends.Sends.TheVariants as Sends
 use Rattle.terms.specs.declared.means.Means.{Means}
-use Rattle.terms.specs.declared.means.Means.TheVariants as Means
 use Rattle.terms.specs.declared.request.Name.{Name}
 use Rattle.places.specs.Places.{one}
 use Rattle.clerk_table.specs.Inputs.{names_of, message_for, row_for, reply_unfit}
@@ -27,7 +24,6 @@ use Rattle.clerk_table.specs.declared.record.Decision.{Decision}
 use Rattle.clerk_table.specs.declared.record.Decision.TheVariants.{Take}
 use Rattle.clerk_table.specs.declared.record.Plan.{Plan}
 use Rattle.clerk_table.specs.declared.inputs.Input.{Input}
-use Rattle.clerk_table.specs.declared.inputs.Input.TheVariants as Input
 use Rattle.clerk_table.specs.declared.inputs.RecordMessage.{RecordMessage}
 use Rattle.clerk_table.specs.declared.inputs.RecordMessage.TheVariants as Message
 use Rattle.clerk_records.specs.Records.{blank, used, place}

@@ -1,5 +1,5 @@
 -- One request's part of a world: where its records stand, its messages and its history, as a net of crate pair_request. A step is about one request, whose net it moves, or leaves it.
-use Prim.Native.Nat.{ℕ, suc, ◌+◌, ◌<◌}
+use Prim.Native.Nat.{ℕ, suc, ◌<◌}
 use mathlib.Core.Path.{◌≡◌, refl, sym, ◌∙◌, ap, subst}
 use mathlib.Core.Bool.{Bool, true, false}
 use mathlib.Core.Logic.{◌⊎◌, inl, inr}

@@ -12,7 +12,6 @@ use Rattle.clerk_table.specs.declared.table.Timer.{Timer}
 use Rattle.clerk_records.specs.Layout as ClerkLayout
 use Rattle.clerk_records.specs.Deadlines as ClerkDeadlines
 use Rattle.clerk_records.specs.declared.deadlines.Expiring.{Expiring}
-use Rattle.clerk_records.specs.declared.deadlines.Expiring.TheVariants as Expiring
 use Rattle.clerk.specs.Steps as ClerkSteps
 use Rattle.clerk.specs.Ticks as Clerk
 use Rattle.clerk.specs.declared.Desk.{Desk as ClerkDesk}

@@ -14,7 +14,6 @@ use Rattle.lists.proofs.WordsLaws.{same-words-true, length-bytes_of, bytes-bytes
 use Rattle.message.specs.Format.{in_range}
 use Rattle.message.specs.declared.Message.{Message}
 use Rattle.message.specs.declared.Service.{Service}
-use Rattle.message.specs.declared.Service.TheVariants as Service
 use Rattle.desk.specs.Letter.{is_identified, identifier_words}
 use Rattle.desk.specs.declared.letter.Identifier.{Identifier}
 use Rattle.terms.specs.Request.{can_keep_sent}

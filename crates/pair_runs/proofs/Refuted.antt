@@ -15,9 +15,7 @@ use Rattle.desk.specs.Letter.{is_identified, number_words}
 use Rattle.desk.specs.declared.letter.Identifier.TheVariants.{Absent, Is}
 use Rattle.terms.specs.declared.means.Means.{Means}
 use Rattle.desk.specs.declared.Connection.{Connection}
-use Rattle.desk.specs.declared.Connection.TheVariants as Connection
 use Rattle.desk.specs.declared.Keep.{Keep}
-use Rattle.desk.specs.declared.Keep.TheVariants as Keep
 use Rattle.places.specs.Places.{Held, none, one}
 use Rattle.clerk_table.specs.declared.inputs.Act.TheVariants as User
 use Rattle.clerk_table.specs.declared.inputs.Input.TheVariants as AtClerk

@@ -1,6 +1,6 @@
 -- Two identifiers are the same only where both are there and have the same words: by what each is.
 use mathlib.Core.Path.{◌≡◌, refl, sym, ap, ◌∙◌}
-use mathlib.Core.Bool.{Bool, true, false}
+use mathlib.Core.Bool.{true}
 use Rattle.lists.specs.declared.words.Words.{Words}
 use Rattle.lists.proofs.Choice.{no_true}
 use Rattle.lists.proofs.WordsLaws.{same-words-true, words_same}

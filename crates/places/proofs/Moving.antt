@@ -1,5 +1,5 @@
 -- A step about the record of one place keeps a list placed, in order and whole, and every other record: each kind of step by the law of its put, add or removal.
-use Prim.Native.Nat.{ℕ, suc, ◌+◌, ◌≤◌, ◌<◌}
+use Prim.Native.Nat.{ℕ}
 use mathlib.Core.Path.{◌≡◌, sym, ap, ◌∙◌, subst}
 use mathlib.Core.Bool.{true}
 use mathlib.Core.List.{List}

@@ -14,7 +14,6 @@ use Rattle.lists.specs.declared.Found.TheVariants.{At, Nothing}
 use Rattle.lists.proofs.Lists.{both_true, both_false, first_hit, first_miss, first-end}
 use Rattle.terms.specs.Means.{means_of, oldest}
 use Rattle.terms.specs.declared.means.Means.{Means}
-use Rattle.terms.specs.declared.means.Means.TheVariants as Means
 use Rattle.store.specs.Rows.{rows, blank_row, drop_row}
 use Rattle.store.proofs.RowsLaws.{rows-length, rows_at, place_rest}
 

@@ -9,7 +9,6 @@ use Rattle.lists.specs.declared.words.Words.{Words}
 use Rattle.terms.specs.Means.{fits, oldest}
 use Rattle.terms.specs.Terms as Terms
 use Rattle.terms.specs.declared.means.Means.{Means}
-use Rattle.terms.specs.declared.means.Means.TheVariants as Means
 use Rattle.terms.specs.declared.request.Names.{Names}
 use Rattle.store.specs.declared.For.{For}
 use Rattle.store.specs.declared.For.TheVariants.{Every, State}

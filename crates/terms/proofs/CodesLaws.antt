@@ -5,9 +5,7 @@ use lib.Dec.{eqb}
 use Rattle.message.specs.declared.Kind.{Kind}
 use Rattle.message.specs.declared.Kind.TheVariants.{Ccbs, Ccnr}
 use Rattle.desk.specs.declared.Connection.{Connection}
-use Rattle.desk.specs.declared.Connection.TheVariants as Connection
 use Rattle.desk.specs.declared.Keep.{Keep}
-use Rattle.desk.specs.declared.Keep.TheVariants as Keep
 use Rattle.terms.specs.Codes.{kind_of, kind_code, keep_of, keep_code, connection_of, connection_code, flag_code}
 
 pub kind-back : (k : Kind) → kind_of (kind_code k) ≡ k

@@ -1,18 +1,16 @@
 -- What the oldest that fits says of the list: by the laws of the two searches that it is made of.
-use Prim.Native.Nat.{ℕ, zero, suc, ◌<◌}
-use mathlib.Core.Path.{◌≡◌, refl, sym, ap, ◌∙◌, subst}
-use mathlib.Core.Bool.{Bool, true, false}
+use Prim.Native.Nat.{ℕ, ◌<◌}
+use mathlib.Core.Path.{◌≡◌, refl, sym, ◌∙◌, subst}
+use mathlib.Core.Bool.{Bool}
 use mathlib.Core.List.{List}
 use native.Mathlib.Nat.{zero-add}
 use native.Mathlib.Omega.{arith}
 use lib.ListN.{length, get_or}
 use Rattle.lists.specs.Lists.{both, first}
 use Rattle.lists.specs.declared.Found.{Found}
-use Rattle.lists.specs.declared.Found.TheVariants as Found
 use Rattle.lists.proofs.Lists.{both_parts, first_below, first_holds, first-earlier, first-none, first-map, first-same}
 use mathlib.Core.List.{map}
 use Rattle.terms.specs.Means.{means_of, oldest, OldestAt, FitNotNow, NoneFits, Told}
-use Rattle.terms.specs.declared.means.Means.{Means}
 use Rattle.terms.specs.declared.means.Means.TheVariants.{Nothing, NotNow, At}
 
 module _ {A : Type 0} (fit ready : A → Bool) (xs : List A) (d : A) where

@@ -14,7 +14,6 @@ use Rattle.desk.specs.Letter.{is_identified, identifier_words}
 use Rattle.desk.specs.declared.Connection.{Connection}
 use Rattle.desk.specs.declared.Keep.{Keep}
 use Rattle.desk.specs.declared.letter.Identifier.{Identifier}
-use Rattle.desk.specs.declared.letter.Identifier.TheVariants as Identifier
 use Rattle.terms.specs.Codes.{kind_code, flag_code}
 use Rattle.terms.specs.Terms.{width, choices_at, kind_at, terms_of, choice_words, terms_words, terms_at, terms_put, with_choices, with_kind}
 use Rattle.terms.specs.declared.Terms.{Terms}

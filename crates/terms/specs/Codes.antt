@@ -4,9 +4,7 @@ use Rattle.lists.specs.Choice.{pick}
 use Rattle.message.specs.declared.Kind.{Kind}
 use Rattle.message.specs.declared.Kind.TheVariants.{Ccbs, Ccnr}
 use Rattle.desk.specs.declared.Connection.{Connection}
-use Rattle.desk.specs.declared.Connection.TheVariants as Connection
 use Rattle.desk.specs.declared.Keep.{Keep}
-use Rattle.desk.specs.declared.Keep.TheVariants as Keep
 
 unfoldable pub kind_of : ℕ → Kind
 kind_of code = pick (eqb code 2) Ccnr Ccbs

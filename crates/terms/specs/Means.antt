@@ -4,13 +4,10 @@ use Rattle.lists.specs.Choice.{pick}
 use Rattle.lists.specs.Lists.{both, first}
 use Rattle.lists.specs.Words.{same_words}
 use Rattle.lists.specs.declared.Found.{Found}
-use Rattle.lists.specs.declared.Found.TheVariants as Found
 use Rattle.lists.specs.declared.words.Words.{Words}
 use Rattle.message.specs.declared.Service.{Service}
-use Rattle.message.specs.declared.Service.TheVariants as Service
 use Rattle.desk.specs.Sends.{no_number}
 use Rattle.desk.specs.declared.letter.Identifier.{Identifier}
-use Rattle.desk.specs.declared.letter.Identifier.TheVariants as Identifier
 use Rattle.terms.specs.declared.Terms.{Terms}
 use Rattle.terms.specs.declared.request.Names.{Names}
 use Rattle.terms.specs.declared.means.Means.{Means}

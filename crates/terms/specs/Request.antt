@@ -8,7 +8,6 @@ use Rattle.desk.specs.Sends.{no_number}
 use Rattle.desk.specs.declared.Connection.{Connection}
 use Rattle.desk.specs.declared.Keep.{Keep}
 use Rattle.desk.specs.declared.letter.Identifier.{Identifier}
-use Rattle.desk.specs.declared.letter.Identifier.TheVariants as Identifier
 use Rattle.desk.specs.declared.letter.Letter.{Letter}
 use Rattle.terms.specs.declared.Terms.{Terms}
 use Rattle.terms.specs.declared.request.Names.{Names}

@@ -7,7 +7,6 @@ use Rattle.desk.specs.Letter.{is_identified, identifier_words}
 use Rattle.desk.specs.declared.Connection.{Connection}
 use Rattle.desk.specs.declared.Keep.{Keep}
 use Rattle.desk.specs.declared.letter.Identifier.{Identifier}
-use Rattle.desk.specs.declared.letter.Identifier.TheVariants as Identifier
 use Rattle.desk.specs.declared.sends.Elements.{Elements}
 use Rattle.terms.specs.Codes.{kind_of, kind_code, keep_of, keep_code, connection_of, connection_code, flag_code}
 use Rattle.terms.specs.declared.Becomes.{Becomes}

@@ -2,7 +2,6 @@
 use Rattle.std.specs.Prelude.{ℕ, ◌+◌, List, [], ◌∷◌}
 use Rattle.lists.specs.Choice.{pick}
 use Rattle.lists.specs.declared.Found.{Found}
-use Rattle.lists.specs.declared.Found.TheVariants as Found
 use Rattle.terms.specs.Codes.{flag_code}
 use Rattle.desk.specs.Letter.{message_of}
 use Rattle.desk.specs.declared.outcome.Timers.{Timers}

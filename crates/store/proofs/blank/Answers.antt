@@ -1,8 +1,8 @@
 -- Before each turn the first j words of the row are 0, and the words are as many as at first. Assumes nothing.
-use Prim.Native.Nat.{◌+◌, ◌-◌}
+use Prim.Native.Nat.{◌+◌}
 use mathlib.Core.Path.{◌∙◌}
 use native.Mathlib.Omega.{arith}
-use lib.ListN.{length, length-set}
+use lib.ListN.{length-set}
 use Rattle.store.proofs.Turns.{blank_turn}
 use Rattle.store.proofs.blank.Goals as goal
 

@@ -1,15 +1,12 @@
 -- Before each turn the answer is what a search from row i on gives, with what was seen before, and row i starts at word `at`. Assumes nothing.
-use Prim.Native.Nat.{ℕ, ◌+◌, ◌-◌}
-use mathlib.Core.Bool.{Bool, true, false}
+use Prim.Native.Nat.{ℕ, ◌+◌}
+use mathlib.Core.Bool.{Bool}
 use mathlib.Core.List.{List}
-use mathlib.Core.Logic.{⊎_elim}
-use mathlib.Core.Path.{◌≡◌, sym, ap, ◌∙◌}
+use mathlib.Core.Path.{sym, ap, ◌∙◌}
 use native.Mathlib.Omega.{arith}
-use lib.ListN.{take}
 use Rattle.store.specs.Rows.{fits_row, is_for, rows}
 use Rattle.store.proofs.RowsLaws.{fits-take, for-take}
 use Rattle.store.proofs.Turns.{oldest_from, oldest-start, oldest_hit, oldest-not-ready, oldest_miss, oldest-end}
-use Rattle.terms.specs.Means.{oldest}
 use Rattle.store.proofs.find_fitting_in.Goals.{then-fits_row+else-is_for, else-fits_row}
 use Rattle.store.proofs.find_fitting_in.Goals as goal
 

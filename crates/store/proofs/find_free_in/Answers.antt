@@ -1,9 +1,8 @@
 -- Before each turn the answer is what a search from row i on gives, and row i starts at word `at`. Assumes nothing.
-use Prim.Native.Nat.{ℕ, ◌-◌}
+use Prim.Native.Nat.{ℕ}
 use mathlib.Core.List.{List}
-use mathlib.Core.Path.{◌≡◌, sym, ◌∙◌}
+use mathlib.Core.Path.{sym, ◌∙◌}
 use native.Mathlib.Omega.{arith}
-use lib.ListN.{take}
 use Rattle.store.specs.Rows.{free}
 use Rattle.store.proofs.RowsLaws.{free-take}
 use Rattle.store.proofs.Turns.{search_hit, search_miss, search-end}

@@ -1,7 +1,7 @@
 -- Before each turn the answer is what a search from row i on gives, and row i starts at word `at`. Assumes nothing.
-use Prim.Native.Nat.{ℕ, ◌-◌}
+use Prim.Native.Nat.{ℕ}
 use mathlib.Core.List.{List}
-use mathlib.Core.Path.{◌≡◌, sym, ◌∙◌}
+use mathlib.Core.Path.{sym, ◌∙◌}
 use native.Mathlib.Omega.{arith}
 use Rattle.store.specs.Rows.{has_identifier}
 use Rattle.store.proofs.RowsLaws.{identifier-take}

@@ -3,7 +3,7 @@ use Prim.Native.Nat.{◌*◌}
 use mathlib.Core.List.{[]}
 use mathlib.Core.Path.{sym, ◌∙◌}
 use native.Mathlib.Omega.{arith}
-use lib.ListN.{length, drop}
+use lib.ListN.{drop}
 use Rattle.store.specs.Rows.{live, rows, live_at}
 use Rattle.store.proofs.RowsLaws.{fit_parts, rows-length, rows_at, live-take, get_d_past}
 use Rattle.store.proofs.is_live_at.Goals as goal

@@ -2,7 +2,6 @@
 use Rattle.std.proofs.Common.{ℕ, ◌+◌, ◌-◌, ◌*◌, ◌<◌, ◌≡◌, ◌∙◌, ap, arith}
 use Rattle.std.proofs.Math.Seq.{paste}
 use Rattle.store.specs.Rows.{blank_row}
-use Rattle.store.proofs.RowsLaws.{place_rest}
 use Rattle.store.proofs.Turns.{remove-end}
 use Rattle.store.proofs.remove_in.Goals as goal
 

@@ -1,5 +1,4 @@
 -- The end is moved on, place by place.
-use Prim.Native.Nat.{◌-◌}
 use mathlib.Core.Path.{sym, ◌∙◌}
 use Rattle.clerk_records.specs.Layout.{places}
 use Rattle.clerk.specs.Steps.{desk_of}

@@ -1,5 +1,4 @@
 -- The end is moved on, place by place.
-use Prim.Native.Nat.{◌-◌}
 use mathlib.Core.Path.{sym, ◌∙◌}
 use Rattle.line_records.specs.Layout.{places}
 use Rattle.line.specs.Steps.{desk_of}

@@ -1,6 +1,4 @@
 -- What is left of the tick stays the same, turn by turn.
-use Prim.Native.Nat.{◌-◌}
-use lib.ListN as ListN
 use Rattle.line_records.specs.Layout.{places}
 use Rattle.ticks.specs.Line.{line_onwards}
 use Rattle.ticks.proofs.Places.{left-ends}
