@@ -35,6 +35,7 @@ fn first_due(words: &[u64; WORDS], count: u32) -> usize
 }
 
 // Where what the record at a place sends would end, behind what ends at `end`; nothing is sent where nothing is due.
+#[tactic(auto, unfolding(told::specs::Ticking::end_of, clerk::specs::Ticks::sendings_from))]
 fn end_at(words: &[u64; WORDS], i: usize, count: u32, out: &[u8], end: usize) -> Written
     ensures { result ≡ end_of out.now end (sendings_from 1 i count (desk_of words.now)) }
 {
@@ -49,6 +50,7 @@ fn end_at(words: &[u64; WORDS], i: usize, count: u32, out: &[u8], end: usize) ->
 }
 
 // Where all that a tick sends from a place on would end, or the writer's first refusal.
+#[tactic(auto, using(crate::proofs::Places::room_next), unfolding(told::specs::Ticking::end_of, clerk::specs::Ticks::sendings_from))]
 fn room(words: &[u64; WORDS], first: usize, count: u32, out: &[u8]) -> Written
     ensures { result ≡ end_of out.now 0 (sendings_from (places - first) first count (desk_of words.now)) }
 {
@@ -69,6 +71,7 @@ fn room(words: &[u64; WORDS], first: usize, count: u32, out: &[u8]) -> Written
 }
 
 // The record that stood at place i before the tick, and has moved up by those that expired. What is left of the tick is the same before and after.
+#[tactic(auto, using(crate::proofs::ClerkLaws::turn_one))]
 fn turn(
     words: &mut [u64; WORDS],
     i: usize,
@@ -113,6 +116,7 @@ fn run(words: &mut [u64; WORDS], first: usize, count: u32, out: &mut [u8], told:
 }
 
 // A tick: the refusal's number, and then nothing changes, or 0.
+#[tactic(auto, unfolding(crate::specs::Clerk::clerk_ticked, crate::specs::Clerk::clerk_onwards, clerk::specs::Ticks::ticked))]
 pub fn clerk_tick(
     words: &mut [u64; WORDS],
     count: u32,

@@ -1,5 +1,7 @@
 // A tick of either desk with a lent buffer (document 02, Ask 6). The room of all its messages is known before the first record goes: without it nothing changes. An inner room of
 // the library's face and of the programs: its functions are no public operations.
+#![tactic(auto)]
+
 pub mod clerk_tick;
 pub mod line_tick;
 
@@ -40,6 +42,7 @@ fn end_within(out: &[u8], end: usize, n: usize) -> Written
 
 // Where something that is sent would end, behind what ends at a place of the buffer; or the writer's refusal. It is written aside to learn its size: were the writer's test of
 // room a function that is called here too, LLVM would inline it into neither caller, and every message written would cost 30 instructions more.
+#[tactic(auto, unfolding(told::specs::Ticking::end_of, told::specs::Told::sent_written))]
 pub fn end_behind(out: &[u8], end: usize, sending: Sending) -> Written
     ensures { result ≡ end_of out.now end (sending ∷ []) }
 {
