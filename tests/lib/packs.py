@@ -4,22 +4,27 @@ A part is its name, what is meant, the place at which it must be refused, and it
 
     # digits_in_range_always
     # what does not read as a number is not in range
-    # refused at: proofs/digits/digits_in_range/Proof.antt returns
+    # refused at: src/digits.rt digits_in_range returns
     file: src/digits.rt
     old:         NumberRead::Refused(_) => false,
     new:         NumberRead::Refused(_) => true,
 
-A place is `FILE DECLARATION` of an .antt file of the crate, or `src/FILE.rt FUNCTION NEED` where the function has no proof file.
+A place is `src/FILE.rt FUNCTION GOAL`, whether the prover answers that goal or a proof file does, or `FILE DECLARATION` of an .antt file of the crate.
 """
 import glob
 import os
 import re
 
 PLACE = re.compile(r'(?:proofs|specs)/\S+\.antt \S+|src/\S+\.rt \w+ \S+')
-# the two lines of a log that refuse: a declaration that is not admitted, and a function whose needs the proof that rattle made leaves open
-REFUSED = re.compile(r'(\S+?):\d+:\d+: error: `([^`]+)`: (.*)')
-OPEN = re.compile(r'(fn ([\w:]+): no proof: .*; `search` does not close )(`[^`]+`(?:, `[^`]+`)*)(.*)')
-FOLLOWS = 'was not admitted'
+# the lines of a log that refuse: a declaration of an .antt file; a goal that is open in a function, by the line of the code that has to meet it; and the open goals
+# of a function that has no answers of its own
+REFUSED = re.compile(r'(\S+?\.antt):\d+:\d+: error: `([^`]+)`: (.*)')
+NOT_PROVED = re.compile(r'note: (\S+?\.rt):(\d+):\d+: it is not proved that .*\(`([^`\s]+)`\)(?:;.*)?$')
+OPEN = re.compile(r'(fn (\w+(?:::\w+)*): no proof: .*; `search` did not prove )(`[^`]+`(?:, `[^`]+`)*)(.*)')
+# what refuses a declaration for another's sake: what it cites was not admitted, or is gone
+FOLLOWS = re.compile(r'was not admitted|has no field|is not in scope|has no `')
+# the files that hold a function's proof
+ANSWERS = re.compile(r'proofs/(.+)/(?:Answers|Invariants|Proof)\.antt')
 
 
 class Part:
@@ -98,41 +103,67 @@ def edited(found, parts):
     return found
 
 
-def source_of(folder, function):
-    """The file of a function that a log names by its path, crate::module::function."""
-    modules = function.split('::')[1:-1]
-    names = [f'src/{"/".join(modules)}.rt', f'src/{"/".join(modules)}/mod.rt'] if modules else ['src/lib.rt', 'src/main.rt']
+def source_of(folder, modules):
+    """The source file of a function that stands in these modules, or in a type of them."""
+    names = [f'src/{"/".join(modules[:upto])}{end}' for upto in range(len(modules), 0, -1) for end in ('.rt', '/mod.rt')] + ['src/lib.rt', 'src/main.rt']
     return next((name for name in names if os.path.exists(f'{folder}/{name}')), names[0])
 
 
+def function_at(folder, source, line):
+    """The function whose code has this line."""
+    found = '?'
+    for number, text in enumerate(open(f'{folder}/{source}', encoding='utf-8'), 1):
+        named = re.search(r'\bfn (\w+)', text.split('//')[0])
+        if named and number <= line:
+            found = named.group(1)
+    return found
+
+
+def places(line, folder):
+    """The places that a line of a log refuses, and whether it does so for another's sake alone."""
+    found = REFUSED.match(line)
+    if found:
+        path, declaration, said = found.groups()
+        path = os.path.relpath(path, folder) if os.path.isabs(path) else os.path.normpath(path)
+        made = [f'{path} {declaration}']
+        of_function = ANSWERS.fullmatch(path)
+        if of_function:
+            # (a cycle of functions has its proofs in a folder that begins with +)
+            *modules, function = [part.lstrip('+') for part in of_function.group(1).split('/')]
+            made.append(f'{source_of(folder, modules)} {function} {declaration}')
+        return made, bool(FOLLOWS.search(said))
+    found = NOT_PROVED.match(line)
+    if found:
+        source = os.path.normpath(found.group(1))
+        return [f'{source} {function_at(folder, source, int(found.group(2)))} {found.group(3)}'], False
+    found = OPEN.match(line)
+    if found:
+        *modules, function = found.group(2).split('::')[1:]
+        return [f'{source_of(folder, modules)} {function} {goal}' for goal in re.findall(r'`([^`]+)`', found.group(3))], False
+    return [], False
+
+
 def refusals(log, folder):
-    """The places that a log refuses, in its order, and those that it refuses only because another was not admitted."""
+    """The places that a log refuses, in its order, and those that it refuses only for another's sake."""
     own, after = [], []
     for line in log.split('\n'):
-        found = REFUSED.match(line)
-        if found:
-            path, declaration, said = found.groups()
-            place = f'{os.path.relpath(path, folder) if os.path.isabs(path) else os.path.normpath(path)} {declaration}'
-            (after if FOLLOWS in said else own).append(place)
-        found = OPEN.match(line)
-        if found:
-            source = source_of(folder, found.group(2))
-            own += [f'{source} {found.group(2).split("::")[-1]} {need}' for need in re.findall(r'`([^`]+)`', found.group(3))]
+        made, follows = places(line, folder)
+        (after if follows else own).extend(made)
     return list(dict.fromkeys(own)), list(dict.fromkeys(after))
 
 
 def without(log, folder, place):
-    """The log with this one refusal taken out."""
+    """The log with this one refusal taken out, in each line that tells of it."""
     kept = []
     for line in log.split('\n'):
         found = OPEN.match(line)
         if found:
-            needs = re.findall(r'`[^`]+`', found.group(3))
-            left = [need for need in needs if place not in refusals(found.group(1) + need, folder)[0]]
+            goals = re.findall(r'`[^`]+`', found.group(3))
+            left = [goal for goal in goals if place not in places(found.group(1) + goal, folder)[0]]
             if not left:
                 continue
             line = found.group(1) + ', '.join(left) + found.group(4)
-        elif place in refusals(line, folder)[0]:
+        elif place in places(line, folder)[0]:
             continue
         kept.append(line)
     return '\n'.join(kept)
