@@ -217,7 +217,7 @@ module _ {K : Type 0} {n : Naming K} (tells : Tells n) {Holds : K → World → 
   follows_over {p} (steps r heard) h = over-next p r h
 
   run-over :
-      {p : R.Policy} {first w : World} {k : K} → Run (Holds k) first w → Good p first → (x : Known n fines.Inv k p first) → O.Over x.net →
+      {p : R.Policy} {first : World} {k : K} {w : World} → Run (Holds k) first w → Good p first → (x : Known n fines.Inv k p first) → O.Over x.net →
       (y : Known n fines.Inv k p w) × O.Over y.net
   run-over stop g x h = (x, h)
   run-over (then run e allowed so) g x h =
