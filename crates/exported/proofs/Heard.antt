@@ -16,7 +16,6 @@ use Rattle.message.specs.Format.{elements_complete, complete, writable, message_
 use Rattle.message.specs.declared.Body.{Body}
 use Rattle.message.specs.declared.Carrier.{Carrier}
 use Rattle.message.specs.declared.Service.{Service}
-use Rattle.message.specs.declared.Service.TheVariants as Service
 use Rattle.message.specs.Equality.{normal_identifier, normal_number, normal_service, normal, Formed}
 use Rattle.message.specs.Wire.{message_at}
 use Rattle.message.specs.declared.Kind.TheVariants.{Ccbs, Ccnr}

@@ -69,7 +69,7 @@ use Rattle.tollherring.specs.Line.{line_start_words, line_started_words, line_st
 use Rattle.tollherring.proofs.Claims.{no-room-nothing}
 use Rattle.line_table.specs.Inputs.{names_of}
 use Rattle.pair_request.specs.Signal.{Signal, call_died, rejected}
-use Rattle.pair.specs.World.{Of, from, Note, taken_up, World, Event, clerk_does, line_does, clerk_is_told, clerk_hears, line_hears, name_of, new_label, label_of, clerk_touched, line_touched, clerk_notes, line_notes, sent_by, clerk_stepped, line_stepped, clerkHeard, lineHeard, signal_letter, signal_entry, next, Allowed, start_world, Any, Once}
+use Rattle.pair.specs.World.{Of, from, Note, taken_up, World, Event, clerk_does, line_does, clerk_is_told, clerk_hears, line_hears, name_of, new_label, label_of, clerk_touched, line_touched, clerk_notes, line_notes, sent_by, clerk_stepped, line_stepped, clerkHeard, lineHeard, signal_letter, signal_entry, next, Allowed, start_world, Once}
 use Rattle.exported.specs.Calls.{End, carried, clerk_end, line_end, IsStep, done, refused}
 use Rattle.exported.specs.Claims.{ClerkHearsBytes, LineHearsBytes, ClerkCall, LineCall, ask_event, FaceIsStep, StartsAsRun}
 use Rattle.exported.proofs.Heard.{heard-as-bytes}

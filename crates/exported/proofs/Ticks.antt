@@ -1,8 +1,8 @@
 -- A tick is the run of its reports. Each of its messages is one that a step of the run would put on a wire, so it is in range and has at most 54 bytes: only room can be missing.
 use Prim.Native.Nat.{ℕ, zero, suc, ◌+◌, ◌*◌, ◌≤◌, ◌<◌}
-use mathlib.Core.Path.{◌≡◌, refl, sym, ◌∙◌, ap, subst}
+use mathlib.Core.Path.{◌≡◌, refl, sym, ◌∙◌, ap}
 use mathlib.Core.Bool.{Bool, true, false}
-use mathlib.Core.Logic.{◌⊎◌, inl, inr}
+use mathlib.Core.Logic.{inl, inr}
 use mathlib.Core.List.{List, [], ◌∷◌, ◌++◌, map}
 use lib.ListN.{length}
 use lib.Dec.{leb}
@@ -19,14 +19,12 @@ use Rattle.desk.specs.declared.outcome.Sending.TheVariants.{Nothing, Send}
 use Rattle.writer.specs.Write.{bytes_written, message_written}
 use Rattle.writer.specs.declared.Written.{Written}
 use Rattle.writer.specs.declared.Written.TheVariants.{Wrote, Refused}
-use Rattle.told.specs.Face.{Face}
 use Rattle.told.specs.Told.{sent_written}
 use Rattle.told.specs.Ticking.{onwards, end_of, tick_face}
 use Rattle.clerk_table.specs.declared.table.Timer.{Timer}
 use Rattle.clerk_records.specs.Layout as ClerkLayout
 use Rattle.clerk_records.specs.Deadlines as ClerkDeadlines
 use Rattle.clerk_records.specs.declared.deadlines.Expiring.{Expiring}
-use Rattle.clerk_records.specs.declared.deadlines.Expiring.TheVariants as Expiring
 use Rattle.clerk.specs.Steps as ClerkSteps
 use Rattle.clerk.specs.Ticks as Clerk
 use Rattle.clerk.specs.declared.Desk.{Desk as ClerkDesk}
@@ -41,12 +39,12 @@ use Rattle.clerk_sound.proofs.Ticking.{tick-sends as clerk-tick-sends}
 use Rattle.line_sound.proofs.Ticking.{tick-sends as line-tick-sends}
 use Rattle.ticks.specs.Clerk.{clerk_ticked}
 use Rattle.ticks.specs.Line.{line_ticked}
-use Rattle.pair.specs.World.{World, Event, clerk_does, line_does, new_label, clerk_notes, line_notes, sent_by, next, Allowed, Reached, Any}
+use Rattle.pair.specs.World.{World, clerk_does, line_does, new_label, clerk_notes, line_notes, sent_by, next, Allowed, Reached, Any}
 use Rattle.pair.specs.Ticks as Run
 use Rattle.pair.proofs.Ticks.{tick-is-reports}
 use Rattle.pair.proofs.Grounds.{clerk-full, line-full}
 use Rattle.pair.proofs.Runs.{good-world}
-use Rattle.exported.specs.Calls.{End, carried, clerk_end, line_end, Puts, sendings_of, IsTick, ran, unroomy}
+use Rattle.exported.specs.Calls.{End, carried, clerk_end, line_end, sendings_of, IsTick, ran, unroomy}
 use Rattle.exported.specs.Claims.{AsBytes, TickIsRun}
 use Rattle.exported.proofs.Sent.{sent-as-bytes}
 use Rattle.exported.proofs.Steps.{clerk-after, line_after_lem}

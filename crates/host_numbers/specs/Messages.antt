@@ -8,14 +8,11 @@ use Rattle.message.specs.declared.Carrier.{Carrier}
 use Rattle.message.specs.declared.Carrier.TheVariants.{Setup, Connect, Facility, ReleaseComplete, Alerting}
 use Rattle.message.specs.declared.Message.{Message}
 use Rattle.message.specs.declared.Service.{Service}
-use Rattle.message.specs.declared.Service.TheVariants as Service
 use Rattle.writer.specs.Write.{message_written, message_buffer}
 use Rattle.writer.specs.declared.Written.{Written}
 use Rattle.writer.specs.declared.Written.TheVariants.{Wrote, Refused}
 use Rattle.host_numbers.specs.declared.messages.BodyGiven.{BodyGiven}
-use Rattle.host_numbers.specs.declared.messages.BodyGiven.TheVariants as BodyGiven
 use Rattle.host_numbers.specs.declared.messages.CarrierGiven.{CarrierGiven}
-use Rattle.host_numbers.specs.declared.messages.CarrierGiven.TheVariants as CarrierGiven
 
 -- ---- the four numbers: type, carrier, service (of a request its own, of another type the one beside it: types 5, 6, 9 and 10 in Setup have one), and the one other field (flags, keep
 -- or error); 0 where a message has none

@@ -17,6 +17,7 @@ use terms::codes::kind_of;
 use terms::request::Name;
 
 // An act at the clerk's end, by its number.
+#[tactic(auto, unfolding(crate::specs::Given::clerk_act_named))]
 fn clerk_act_named(name: Name, number: u64) -> ClerkEntry
     ensures { result ≡ clerk_act_named name number }
 {
@@ -30,6 +31,7 @@ fn clerk_act_named(name: Name, number: u64) -> ClerkEntry
     }
 }
 
+#[tactic(auto, unfolding(crate::specs::Given::clerk_act_given))]
 pub fn clerk_act_given(identifier: [u8; BYTES], place: u64, number: u64) -> ClerkEntry
     ensures { result ≡ clerk_act_given identifier place number }
 {
@@ -41,6 +43,7 @@ pub fn clerk_act_given(identifier: [u8; BYTES], place: u64, number: u64) -> Cler
 }
 
 // A timer that ran out at the clerk's end, by its number.
+#[tactic(auto, unfolding(crate::specs::Given::timer_named))]
 fn timer_named(name: Name, number: u64) -> ClerkEntry
     ensures { result ≡ timer_named name number }
 {
@@ -52,6 +55,7 @@ fn timer_named(name: Name, number: u64) -> ClerkEntry
     }
 }
 
+#[tactic(auto, unfolding(crate::specs::Given::timer_given))]
 pub fn timer_given(identifier: [u8; BYTES], place: u64, number: u64) -> ClerkEntry
     ensures { result ≡ timer_given identifier place number }
 {
@@ -63,6 +67,7 @@ pub fn timer_given(identifier: [u8; BYTES], place: u64, number: u64) -> ClerkEnt
 }
 
 // An act at the line's end, by its number.
+#[tactic(auto, unfolding(crate::specs::Given::line_act_named))]
 fn line_act_named(name: Name, number: u64) -> LineEntry
     ensures { result ≡ line_act_named name number }
 {
@@ -75,6 +80,7 @@ fn line_act_named(name: Name, number: u64) -> LineEntry
     }
 }
 
+#[tactic(auto, unfolding(crate::specs::Given::line_act_given))]
 pub fn line_act_given(identifier: [u8; BYTES], place: u64, number: u64) -> LineEntry
     ensures { result ≡ line_act_given identifier place number }
 {
@@ -86,6 +92,7 @@ pub fn line_act_given(identifier: [u8; BYTES], place: u64, number: u64) -> LineE
 }
 
 // A guard that ran out at the line's end.
+#[tactic(auto, unfolding(crate::specs::Given::guard_given))]
 pub fn guard_given(identifier: [u8; BYTES], place: u64) -> LineEntry
     ensures { result ≡ guard_given identifier place }
 {
@@ -97,6 +104,7 @@ pub fn guard_given(identifier: [u8; BYTES], place: u64) -> LineEntry
 }
 
 // A line report: 0 free, 1 busy.
+#[tactic(auto, unfolding(crate::specs::Given::report_given))]
 pub fn report_given(digits: [u8; 16], busy: u64) -> LineEntry
     ensures { result ≡ report_given digits busy }
 {
@@ -107,6 +115,7 @@ pub fn report_given(digits: [u8; 16], busy: u64) -> LineEntry
 }
 
 // Whether the identifier's length (16 or 0), kind (1 or 2) and can-keep (0 or 1) are words of an ask.
+#[tactic(auto, unfolding(crate::specs::Given::ask_words))]
 fn ask_words(identifier: [u8; BYTES], kind: u64, canKeep: u64) -> bool
     ensures { result ≡ ask_words identifier kind canKeep }
 {
@@ -152,6 +161,7 @@ fn asking(
 }
 
 // An ask.
+#[tactic(auto, unfolding(crate::specs::Given::ask_given))]
 pub fn ask_given(
     identifier: [u8; BYTES],
     kind: u64,
@@ -173,6 +183,7 @@ pub fn ask_given(
 }
 
 // Bytes at the clerk's end, with the host's word on User A, 0 not busy, 1 busy, and the place that it names.
+#[tactic(auto, unfolding(crate::specs::Given::clerk_bytes_given))]
 pub fn clerk_bytes_given(bytes: &[u8], busy: u64, place: u64) -> ClerkBytesEntry
     ensures { result ≡ clerk_bytes_given bytes.now busy place }
 {

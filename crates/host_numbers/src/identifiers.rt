@@ -10,6 +10,7 @@ use terms::request::Name;
 pub const BYTES: usize = 17;
 
 // Whether the length is one that an identifier can have.
+#[tactic(auto, unfolding(crate::specs::Identifiers::is_identifier))]
 pub fn is_identifier(given: [u8; BYTES]) -> bool
     ensures { result ≡ is_identifier given }
 {
@@ -50,6 +51,7 @@ pub fn name_given(given: [u8; BYTES], place: u64) -> Name
 }
 
 // The length and the bytes of an identifier; zeros where there is none.
+#[tactic(auto, unfolding(crate::specs::Identifiers::identifier_told))]
 pub fn identifier_told(identified: bool, bytes: [u8; 16]) -> [u8; BYTES]
     ensures { result ≡ identifier_told identified bytes }
 {
@@ -63,6 +65,7 @@ pub fn identifier_told(identified: bool, bytes: [u8; 16]) -> [u8; BYTES]
 }
 
 // The same of a record's.
+#[tactic(auto, unfolding(crate::specs::Identifiers::identifier_shown))]
 pub fn identifier_shown(identifier: Identifier) -> [u8; BYTES]
     ensures { result ≡ identifier_shown identifier }
 {

@@ -81,6 +81,7 @@ pub fn message_numbers(carrier: Carrier, service: Service, body: Body) -> [u64; 
 }
 
 // A service; one out of range stays out of range.
+#[tactic(auto, unfolding(crate::specs::Messages::least))]
 pub fn service_given(number: u64) -> u16
     ensures { result ≡ least 16384 number }
 {
@@ -91,6 +92,7 @@ pub fn service_given(number: u64) -> u16
 }
 
 // Flags, keep or error, none of which is over 5; one out of range stays out of range.
+#[tactic(auto, unfolding(crate::specs::Messages::least))]
 pub fn field_given(number: u64) -> u8
     ensures { result ≡ least 255 number }
 {
@@ -101,6 +103,7 @@ pub fn field_given(number: u64) -> u8
 }
 
 // The body of a type, by its number.
+#[tactic(auto, unfolding(crate::specs::Messages::body_given))]
 pub fn body_given(typeNumber: u64, service: u16, field: u8) -> BodyGiven
     ensures { result ≡ body_given typeNumber service field }
 {
@@ -127,6 +130,7 @@ pub fn body_given(typeNumber: u64, service: u16, field: u8) -> BodyGiven
     }
 }
 
+#[tactic(auto, unfolding(crate::specs::Messages::carrier_given))]
 pub fn carrier_given(number: u64) -> CarrierGiven
     ensures { result ≡ carrier_given number }
 {
@@ -141,6 +145,7 @@ pub fn carrier_given(number: u64) -> CarrierGiven
 }
 
 // The message at the place, and its length.
+#[tactic(auto, unfolding(crate::specs::Messages::message_face))]
 pub fn write_message(out: &mut [u8], place: usize, m: Message, written: &mut u64) -> u64
     ensures { write_face out.new written.new result ≡ message_face out.old place m written.old }
 {

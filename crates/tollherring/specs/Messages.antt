@@ -8,9 +8,7 @@ use Rattle.message.specs.declared.Carrier.{Carrier}
 use Rattle.message.specs.declared.Message.{Message}
 use Rattle.message.specs.declared.Service.TheVariants.{Is}
 use Rattle.host_numbers.specs.declared.messages.BodyGiven.{BodyGiven}
-use Rattle.host_numbers.specs.declared.messages.BodyGiven.TheVariants as BodyGiven
 use Rattle.host_numbers.specs.declared.messages.CarrierGiven.{CarrierGiven}
-use Rattle.host_numbers.specs.declared.messages.CarrierGiven.TheVariants as CarrierGiven
 use Rattle.host_numbers.specs.Identifiers.{is_identifier, is_given, bytes_given, identifier_told}
 use Rattle.host_numbers.specs.Messages.{message_numbers, least, body_given, carrier_given, WriteFace, write_face, message_face}
 

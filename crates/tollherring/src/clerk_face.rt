@@ -15,8 +15,8 @@ use ticks::clerk_tick::clerk_tick;
 use told::{TOLD, refuse, ticking};
 
 // An empty desk, with the lengths of its timers in seconds: 2, and then the words stay as they were.
-#[unsafe(no_mangle)]
-pub extern "C" fn tollherring_clerk_start(
+#[tactic(auto, unfolding(crate::specs::Clerk::clerk_started_words, crate::specs::Clerk::clerk_started_answer))]
+pub fn tollherring_clerk_start(
     words: &mut [u64; WORDS],
     t1: u32,
     t2Ccbs: u32,
@@ -42,8 +42,8 @@ pub extern "C" fn tollherring_clerk_start(
 }
 
 // User A asks to be rung back: 2, 4, 5, 12.
-#[unsafe(no_mangle)]
-pub extern "C" fn tollherring_clerk_ask(
+#[tactic(auto, unfolding(crate::specs::Clerk::clerk_asked, crate::specs::Clerk::clerk_entered))]
+pub fn tollherring_clerk_ask(
     words: &mut [u64; WORDS],
     count: u32,
     identifier: &[u8; BYTES],
@@ -74,8 +74,8 @@ pub extern "C" fn tollherring_clerk_ask(
 }
 
 // Bytes reach the clerk's end: 1, 2, 3, 6, 7, 8, 12. Bytes that cannot be read have the place of the fault.
-#[unsafe(no_mangle)]
-pub extern "C" fn tollherring_clerk_receive(
+#[tactic(auto, unfolding(crate::specs::Clerk::clerk_received, crate::specs::Clerk::clerk_entered))]
+pub fn tollherring_clerk_receive(
     words: &mut [u64; WORDS],
     count: u32,
     place: u64,
@@ -96,8 +96,8 @@ pub extern "C" fn tollherring_clerk_receive(
 }
 
 // User A's act: 2, 6, 7, 12.
-#[unsafe(no_mangle)]
-pub extern "C" fn tollherring_clerk_act(
+#[tactic(auto, unfolding(crate::specs::Clerk::clerk_acted, crate::specs::Clerk::clerk_entered))]
+pub fn tollherring_clerk_act(
     words: &mut [u64; WORDS],
     count: u32,
     place: u64,
@@ -116,8 +116,8 @@ pub extern "C" fn tollherring_clerk_act(
 }
 
 // A timer ran out at the clerk's end: 2, 6, 9, 12.
-#[unsafe(no_mangle)]
-pub extern "C" fn tollherring_clerk_report(
+#[tactic(auto, unfolding(crate::specs::Clerk::clerk_reported, crate::specs::Clerk::clerk_entered))]
+pub fn tollherring_clerk_report(
     words: &mut [u64; WORDS],
     count: u32,
     place: u64,
@@ -136,8 +136,7 @@ pub extern "C" fn tollherring_clerk_report(
 }
 
 // Every record with a timer that is due expires: 12, and then nothing changes.
-#[unsafe(no_mangle)]
-pub extern "C" fn tollherring_clerk_tick(
+pub fn tollherring_clerk_tick(
     words: &mut [u64; WORDS],
     count: u32,
     out: &mut [u8],

@@ -25,6 +25,7 @@ use told::{TOLD, refuse, send, tell};
 use writer::Written;
 
 // A refusal, with its reply: whatever the desk's words are, they stay.
+#[tactic(auto, unfolding(crate::specs::Face::faced))]
 fn refuse_in(
     input: Input,
     refusal: u8,
@@ -48,6 +49,7 @@ fn refuse_in(
 }
 
 // A row taken for the record of a place.
+#[tactic(auto, unfolding(crate::specs::Face::faced))]
 fn take_in(
     words: &mut [u64; WORDS],
     count: u32,
@@ -78,6 +80,7 @@ fn take_in(
 }
 
 // A request stored at a place.
+#[tactic(auto, unfolding(crate::specs::Face::faced))]
 fn store_in(
     words: &mut [u64; WORDS],
     count: u32,
@@ -108,6 +111,7 @@ fn store_in(
 }
 
 // The step of an input; what was refused at the entry is told at once, without it.
+#[tactic(auto, unfolding(clerk::specs::Steps::step, clerk_plan::specs::Plan::plan_for, clerk_plan::specs::Plan::plan_of, clerk_records::specs::Records::applied, clerk_records::specs::Deadlines::timed))]
 pub fn step_in(
     words: &mut [u64; WORDS],
     count: u32,

@@ -30,13 +30,8 @@ fn start_in(words: &mut [u64; WORDS], given: &[u8], keep: bool, retain: bool) ->
 }
 
 // A desk with its lines, all free, and its settings: 2, and then the words stay as they were.
-#[unsafe(no_mangle)]
-pub extern "C" fn tollherring_line_start(
-    words: &mut [u64; WORDS],
-    given: &[u8],
-    keep: u64,
-    retain: u64,
-) -> u64
+#[tactic(auto, unfolding(crate::specs::Line::line_started_words, crate::specs::Line::line_started_answer))]
+pub fn tollherring_line_start(words: &mut [u64; WORDS], given: &[u8], keep: u64, retain: u64) -> u64
     ensures { (result ≡ line_started_answer given.now keep retain) × (words.new ≡ line_started_words words.old given.now keep retain) }
 {
     if keep <= 1 {
@@ -49,8 +44,8 @@ pub extern "C" fn tollherring_line_start(
 }
 
 // Bytes reach the line's end: 1, 2, 3, 6, 7, 8, 12. Bytes that cannot be read have the place of the fault.
-#[unsafe(no_mangle)]
-pub extern "C" fn tollherring_line_receive(
+#[tactic(auto, unfolding(crate::specs::Line::line_received, crate::specs::Line::line_entered))]
+pub fn tollherring_line_receive(
     words: &mut [u64; WORDS],
     count: u32,
     place: u64,
@@ -70,8 +65,8 @@ pub extern "C" fn tollherring_line_receive(
 }
 
 // A line is busy or free: 2, 10.
-#[unsafe(no_mangle)]
-pub extern "C" fn tollherring_line_report(
+#[tactic(auto, unfolding(crate::specs::Line::line_status_reported, crate::specs::Line::line_entered))]
+pub fn tollherring_line_report(
     words: &mut [u64; WORDS],
     count: u32,
     digits: &[u8; 16],
@@ -89,8 +84,8 @@ pub extern "C" fn tollherring_line_report(
 }
 
 // A Look at a line: 10, 11, 12.
-#[unsafe(no_mangle)]
-pub extern "C" fn tollherring_line_look(
+#[tactic(auto, unfolding(crate::specs::Line::line_looked, crate::specs::Line::line_entered))]
+pub fn tollherring_line_look(
     words: &mut [u64; WORDS],
     count: u32,
     digits: &[u8; 16],
@@ -107,8 +102,8 @@ pub extern "C" fn tollherring_line_look(
 }
 
 // An act at the line's end: 2, 6, 7, 12.
-#[unsafe(no_mangle)]
-pub extern "C" fn tollherring_line_act(
+#[tactic(auto, unfolding(crate::specs::Line::line_acted, crate::specs::Line::line_entered))]
+pub fn tollherring_line_act(
     words: &mut [u64; WORDS],
     count: u32,
     place: u64,
@@ -127,8 +122,8 @@ pub extern "C" fn tollherring_line_act(
 }
 
 // The guard of a record ran out: 2, 6, 12.
-#[unsafe(no_mangle)]
-pub extern "C" fn tollherring_line_guard(
+#[tactic(auto, unfolding(crate::specs::Line::line_guarded, crate::specs::Line::line_entered))]
+pub fn tollherring_line_guard(
     words: &mut [u64; WORDS],
     count: u32,
     place: u64,
@@ -146,8 +141,7 @@ pub extern "C" fn tollherring_line_guard(
 }
 
 // Every record whose guard is due expires: 12, and then nothing changes.
-#[unsafe(no_mangle)]
-pub extern "C" fn tollherring_line_tick(
+pub fn tollherring_line_tick(
     words: &mut [u64; WORDS],
     count: u32,
     out: &mut [u8],

@@ -30,6 +30,7 @@ use told::{TOLD, refuse, send, tell};
 use writer::Written;
 
 // A refusal, with its reply: whatever the desk's words are, they stay.
+#[tactic(auto, unfolding(crate::specs::Face::faced))]
 fn refuse_in(
     input: Input,
     refusal: u8,
@@ -55,6 +56,7 @@ fn refuse_in(
 }
 
 // A request that is not accepted: nothing is stored.
+#[tactic(auto, unfolding(crate::specs::Face::faced))]
 fn deny_in(input: Input, error: u8, next: usize, out: &mut [u8], told: &mut [u64; TOLD]) -> u64
     ensures { WordsStay out.new told.new result out.old (denied_plan (names_of input).identifier error).outcome next }
 {
@@ -73,6 +75,7 @@ fn deny_in(input: Input, error: u8, next: usize, out: &mut [u8], told: &mut [u64
 }
 
 // A row taken for the record of a place. No row of this desk starts a timer.
+#[tactic(auto, unfolding(crate::specs::Face::faced))]
 fn take_in(
     words: &mut [u64; WORDS],
     place: usize,
@@ -98,6 +101,7 @@ fn take_in(
 }
 
 // A request stored at a place, its line busy or not.
+#[tactic(auto, unfolding(crate::specs::Face::faced, line_records::specs::Change::applied))]
 fn store_in(
     words: &mut [u64; WORDS],
     count: u32,
@@ -129,6 +133,7 @@ fn store_in(
 }
 
 // A line reported busy or free: nothing is sent, so the buffer stays, whatever is in it.
+#[tactic(auto, unfolding(crate::specs::Face::faced, line_records::specs::Change::applied, told::specs::Told::sent_written, told::specs::Told::sent_buffer))]
 fn report_in(
     words: &mut [u64; WORDS],
     input: Input,
@@ -149,6 +154,7 @@ fn report_in(
 }
 
 // The step of an input; what was refused at the entry is told at once, without it.
+#[tactic(auto, unfolding(line::specs::Steps::step, line_plan::specs::Plan::plan_for, line_plan::specs::Plan::plan_of, line_records::specs::Change::applied, line_records::specs::Deadlines::timed, line_table::specs::Step::row_taken))]
 pub fn step_in(
     words: &mut [u64; WORDS],
     count: u32,

@@ -13,8 +13,8 @@ use message::digits::PlaceRead;
 use message::{Message, Service};
 
 // One message from the front of some bytes, and how many it takes: 1, 2, and then the place of the fault is written and nothing else.
-#[unsafe(no_mangle)]
-pub extern "C" fn tollherring_message_read(
+#[tactic(auto, unfolding(crate::specs::Messages::message_read))]
+pub fn tollherring_message_read(
     bytes: &[u8],
     identifier: &mut [u8; BYTES],
     numberA: &mut [u8; 16],
@@ -51,6 +51,7 @@ pub extern "C" fn tollherring_message_read(
 }
 
 // A message whose identifier has a length that there is.
+#[tactic(auto, unfolding(crate::specs::Messages::numbers_faced))]
 fn write_numbers(
     identifier: [u8; BYTES],
     numberA: [u8; 16],
@@ -87,8 +88,8 @@ fn write_numbers(
 }
 
 // A message at a place of a buffer, and how many bytes it takes: 2, 12, and then nothing is written.
-#[unsafe(no_mangle)]
-pub extern "C" fn tollherring_message_write(
+#[tactic(auto, unfolding(crate::specs::Messages::message_faced))]
+pub fn tollherring_message_write(
     identifier: &[u8; BYTES],
     numberA: &[u8; 16],
     numberB: &[u8; 16],

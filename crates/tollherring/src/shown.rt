@@ -15,8 +15,8 @@ use lists::words::{Words, bytes_of, same_words};
 use terms::codes::flag_code;
 
 // The record at a place of the clerk's desk: 6 if there is none.
-#[unsafe(no_mangle)]
-pub extern "C" fn tollherring_clerk_record(
+#[tactic(auto, unfolding(crate::specs::Shown::clerk_shown))]
+pub fn tollherring_clerk_record(
     words: &[u64; clerk_records::WORDS],
     place: u64,
     identifier: &mut [u8; BYTES],
@@ -40,8 +40,8 @@ pub extern "C" fn tollherring_clerk_record(
 }
 
 // The record at a place of the line desk: 6 if there is none.
-#[unsafe(no_mangle)]
-pub extern "C" fn tollherring_line_record(
+#[tactic(auto, unfolding(crate::specs::Shown::line_shown))]
+pub fn tollherring_line_record(
     words: &[u64; line_records::WORDS],
     place: u64,
     identifier: &mut [u8; BYTES],
@@ -65,8 +65,8 @@ pub extern "C" fn tollherring_line_record(
 }
 
 // The line at a place, its kinds and whether it is busy: 10 if there is none.
-#[unsafe(no_mangle)]
-pub extern "C" fn tollherring_line_at(
+#[tactic(auto, unfolding(crate::specs::Shown::line_at_shown))]
+pub fn tollherring_line_at(
     words: &[u64; line_records::WORDS],
     place: u64,
     number: &mut [u8; 16],
