@@ -110,13 +110,23 @@ def source_of(folder, modules):
 
 
 def function_at(folder, source, line):
-    """The function whose code has this line."""
-    found = '?'
-    for number, text in enumerate(open(f'{folder}/{source}', encoding='utf-8'), 1):
-        named = re.search(r'\bfn (\w+)', text.split('//')[0])
-        if named and number <= line:
-            found = named.group(1)
-    return found
+    """The function whose code has this line; a goal of the whole function is told by the line where it begins, with its attributes."""
+    lines = [text.split('//')[0] for text in open(f'{folder}/{source}', encoding='utf-8').read().split('\n')]
+    heads = [(number, named.group(1)) for number, text in enumerate(lines, 1) for named in [re.search(r'\bfn (\w+)', text)] if named]
+    if lines[line - 1].lstrip().startswith('#['):
+        return next((name for number, name in heads if number >= line), '?')
+    return next((name for number, name in reversed(heads) if number <= line), '?')
+
+
+def canonical(place, folder):
+    """A place as the function's goal, where it names the file of its answers."""
+    file, *name = (place or '?').split()
+    of_function = ANSWERS.fullmatch(file)
+    if not of_function:
+        return place
+    # (a cycle of functions has its proofs in a folder that begins with +)
+    *modules, function = [part.lstrip('+') for part in of_function.group(1).split('/')]
+    return ' '.join([source_of(folder, modules), function, *name])
 
 
 def places(line, folder):
@@ -125,13 +135,8 @@ def places(line, folder):
     if found:
         path, declaration, said = found.groups()
         path = os.path.relpath(path, folder) if os.path.isabs(path) else os.path.normpath(path)
-        made = [f'{path} {declaration}']
-        of_function = ANSWERS.fullmatch(path)
-        if of_function:
-            # (a cycle of functions has its proofs in a folder that begins with +)
-            *modules, function = [part.lstrip('+') for part in of_function.group(1).split('/')]
-            made.append(f'{source_of(folder, modules)} {function} {declaration}')
-        return made, bool(FOLLOWS.search(said))
+        made = [f'{path} {declaration}', canonical(f'{path} {declaration}', folder)]
+        return list(dict.fromkeys(made)), bool(FOLLOWS.search(said))
     found = NOT_PROVED.match(line)
     if found:
         source = os.path.normpath(found.group(1))
