@@ -1,5 +1,5 @@
 -- Each part is that of the guard's row, and nothing is started.
-use lib.ListN.{get_or}
+use Rattle.std.proofs.Common.{get_or, arith}
 use Rattle.line_table.specs.Step.{row_taken}
 use Rattle.line_records.specs.Records.{blank, records}
 use Rattle.line.proofs.TickLaws.{ends-made}
@@ -9,6 +9,4 @@ pub returns : goal.returns
 unfolding row_taken
 returns c =
     let a = c.args in
-    λ count.
-    rw (c.done.ensures, c.remove_record.ensures, c.only_guard-stops.ensures, c.no_timers-starts.ensures, c.sending_of-sending.ensures)
-    (ends-made a.words.now count a.at (get_or (records a.words.now) a.at blank))
+    λ count. grind (arith, ends-made a.words.now count a.at (get_or (records a.words.now) a.at blank))
