@@ -6,8 +6,8 @@ A part is its name, what is meant, the place at which it must be refused, and it
     # what does not read as a number is not in range
     # refused at: src/digits.rt digits_in_range returns
     file: src/digits.rt
-    old:         NumberRead::Refused(_) => false,
-    new:         NumberRead::Refused(_) => true,
+    old:         Err(_) => false,
+    new:         Err(_) => true,
 
 A place is `src/FILE.rt FUNCTION GOAL`, whether the prover answers that goal or a proof file does, or `FILE DECLARATION` of an .antt file of the crate.
 """

@@ -2,15 +2,16 @@
 use Prim.Native.Nat.{ℕ}
 use mathlib.Core.Path.{◌≡◌, ◌∙◌}
 use lib.ListN.{length}
-use Rattle.clerk_table.specs.declared.record.Plan.{Plan}
+use Rattle.desk.specs.declared.plan.Plan.{Plan}
 use Rattle.clerk_records.specs.Layout as Layout
 use Rattle.clerk_records.specs.Records.{records, records_after, applied}
 use Rattle.clerk_records.proofs.RecordsLaws.{applied-length, records-applied}
 use Rattle.clerk_records.proofs.DeadlinesLaws.{timed-length, records-timed}
 use Rattle.clerk.specs.Steps.{made}
 use Rattle.clerk.specs.declared.Desk.{Desk}
+use Rattle.clerk_table.specs.declared.record.Change.{Change}
 
-module _ (d : Desk) (full : length d.words ≡ Layout.words) (count : ℕ) (plan : Plan) where
+module _ (d : Desk) (full : length d.words ≡ Layout.words) (count : ℕ) (plan : Plan Change) where
   pub made-length : length (made d count plan).desk.words ≡ Layout.words
   made-length = timed-length (applied d.words plan.change) count plan.outcome.at plan.outcome.starts ∙ applied-length d.words full plan.change
 

@@ -5,11 +5,11 @@ ghost use Rattle.clerk.specs.Entry.{ask_flags, ask_request, request_message, ask
 
 use clerk_table::inputs::{Act, Input};
 use clerk_table::table::Timer;
+use desk::entry::BytesEntry;
 use desk::letter::{letter_of, read_letter};
-use lists::Found;
-use message::digits::PlaceRead;
 use message::range::in_range;
-use message::{Carrier, Kind, Message, Service, request_body};
+use message::refusal::Refusal;
+use message::{Carrier, Kind, Message, request_body};
 use terms::request::{Name, Request, letter_names};
 
 // What User A asks for: the data of the failed call, its identifier where there is one, whether it can keep, and its preference (0 none, 1 retain, 2 release).
@@ -25,20 +25,8 @@ pub struct Asking {
     pub preference: u8,
 }
 
-// What came in: refused with that number before the desk is asked, or an input.
-#[derive(Clone, Copy)]
-pub enum Entry {
-    Refused(u8),
-    Given(Input),
-}
-
-// The same of bytes, with the first unread place; where they cannot be read, 0 and the place of the fault.
-#[derive(Clone, Copy)]
-pub struct BytesEntry {
-    pub entry: Entry,
-    pub next: usize,
-    pub fault: Found,
-}
+// What came in: an input, or its refusal before the desk is asked.
+pub type Entry = Result<Input, Refusal>;
 
 // can-keep plus 2 × preference.
 fn ask_flags(canKeep: bool, preference: u8) -> u8
@@ -78,7 +66,7 @@ fn request_message(a: Asking, q: Request) -> Message
         identifier,
         numberA,
         numberB,
-        service: Service::Absent,
+        service: None,
         body,
     }
 }
@@ -93,11 +81,11 @@ pub fn ask_entry(a: Asking) -> Entry
         let m = request_message(a, q);
         if in_range(m) {
             let l = letter_of(m);
-            return Entry::Given(Input::Ask(letter_names(l), q));
+            return Ok(Input::Ask(letter_names(l), q));
         }
-        return Entry::Refused(2);
+        return Err(Refusal::OutOfRange);
     }
-    Entry::Refused(2)
+    Err(Refusal::OutOfRange)
 }
 
 // A message received, with the host's word on User A and the place that the host names for it: 2.
@@ -106,45 +94,45 @@ pub fn message_entry(m: Message, busy: bool, place: usize) -> Entry
     ensures { result ≡ message_entry m busy place }
 {
     if in_range(m) {
-        return Entry::Given(Input::Message(letter_of(m), busy, place));
+        return Ok(Input::Message(letter_of(m), busy, place));
     }
-    Entry::Refused(2)
+    Err(Refusal::OutOfRange)
 }
 
 // User A's act: accept, resume, go on to recall, cancel; or that the connection fell.
 pub fn act_entry(name: Name, act: Act) -> Entry
     ensures { result ≡ act_entry name act }
 {
-    Entry::Given(Input::Act(name, act))
+    Ok(Input::Act(name, act))
 }
 
 // A timer that ran out at the host.
 pub fn timer_entry(name: Name, timer: Timer) -> Entry
     ensures { result ≡ timer_entry name timer }
 {
-    Entry::Given(Input::Timer(name, timer))
+    Ok(Input::Timer(name, timer))
 }
 
 // Raw bytes received: the reader's 1 and 2. What was read is in range and its own normal form, so neither is tested or made again.
 #[tactic(auto, using(message::proofs::RangeLaws::writable_parts), unfolding(crate::specs::Entry::bytes_entry, crate::specs::Entry::message_entry))]
-pub fn bytes_entry(s: &[u8], busy: bool, place: usize) -> BytesEntry
+pub fn bytes_entry(s: &[u8], busy: bool, place: usize) -> BytesEntry<Entry>
     ensures { result ≡ bytes_entry s.now busy place }
 {
     let answer = reader::read(s);
     let verdict = answer.verdict;
     match verdict {
-        PlaceRead::Refused(fault) => BytesEntry {
-            entry: Entry::Refused(fault.number),
+        Err(fault) => BytesEntry {
+            entry: Err(fault.refusal),
             next: 0,
-            fault: Found::At(fault.place),
+            fault: Some(fault.place),
         },
-        PlaceRead::Taken(next) => {
+        Ok(next) => {
             let m = answer.message;
             let l = read_letter(m);
             BytesEntry {
-                entry: Entry::Given(Input::Message(l, busy, place)),
+                entry: Ok(Input::Message(l, busy, place)),
                 next,
-                fault: Found::Nothing,
+                fault: None,
             }
         }
     }

@@ -1,15 +1,16 @@
 // A step on the desk's words, lent: what stands there afterwards and the outcome are those of the step. No word is copied but those that change. An inner room of the
 // clerk's desk: its functions are no public operations.
 ghost use Rattle.std.specs.Prelude.{◌≡◌};
-ghost use Rattle.clerk.specs.Steps.{desk_of, answered, answered_bytes, step, entered, received_bytes};
+ghost use Rattle.desk.specs.Steps.{answered};
+ghost use Rattle.clerk.specs.Steps.{desk_of, step, entered};
 
-use crate::entry::{Entry, bytes_entry};
+use crate::entry::Entry;
 use clerk_plan::plan_for;
 use clerk_records::WORDS;
 use clerk_records::deadlines::start_timers;
 use clerk_records::places::apply;
 use clerk_table::inputs::Input;
-use desk::outcome::{BytesOutcome, Outcome, Sending, refused};
+use desk::outcome::{Outcome, refused};
 
 // An input: what the desk plans for it, made on the words, with the deadlines of the timers that it starts.
 #[tactic(auto, unfolding(crate::specs::Steps::step))]
@@ -32,29 +33,7 @@ pub fn step(words: &mut [u64; WORDS], count: u32, entry: Entry) -> Outcome
     ensures { answered (desk_of words.new) result ≡ entered (desk_of words.old) count entry }
 {
     match entry {
-        Entry::Refused(number) => refused(number, Sending::Nothing),
-        Entry::Given(input) => step_input(words, count, input),
-    }
-}
-
-// Raw bytes received: the reader's 1 and 2, which change nothing, with the place of the fault; else the message's step, and the first unread place.
-#[tactic(auto, unfolding(crate::specs::Steps::received_bytes))]
-pub fn step_bytes(
-    words: &mut [u64; WORDS],
-    count: u32,
-    s: &[u8],
-    busy: bool,
-    place: usize,
-) -> BytesOutcome
-    ensures { answered_bytes (desk_of words.new) result ≡ received_bytes (desk_of words.old) count s.now busy place }
-{
-    let read = bytes_entry(s, busy, place);
-    let entry = read.entry;
-    let fault = read.fault;
-    let outcome = step(words, count, entry);
-    BytesOutcome {
-        outcome,
-        next: read.next,
-        fault,
+        Err(refusal) => refused(refusal, None),
+        Ok(input) => step_input(words, count, input),
     }
 }

@@ -3,10 +3,9 @@ ghost use Rattle.std.specs.Prelude.{◌≡◌};
 ghost use Rattle.clerk.specs.Start.{from, good_lengths, started_desk, started};
 
 use crate::Desk;
-use crate::steps::Stepped;
 use clerk_records::{LENGTHS_AT, WORDS};
-use desk::outcome::{Sending, done, no_timers, refused};
-use lists::Found;
+use desk::outcome::{NO_TIMERS, Stepped, done, refused};
+use message::refusal::Refusal;
 
 // T2's length goes by the kind.
 #[derive(Clone, Copy)]
@@ -58,16 +57,15 @@ fn started_desk(l: Lengths) -> Desk
 
 // A desk with no record: 2 for a length out of range.
 #[tactic(auto, unfolding(crate::specs::Start::started))]
-pub fn start(l: Lengths) -> Stepped
+pub fn start(l: Lengths) -> Stepped<Desk>
     ensures { result ≡ started l }
 {
     if are_good(l) {
         let desk = started_desk(l);
-        let none = no_timers();
-        let outcome = done(Sending::Nothing, none, none, Found::Nothing);
+        let outcome = done(None, NO_TIMERS, NO_TIMERS, None);
         return Stepped { desk, outcome };
     }
-    let outcome = refused(2, Sending::Nothing);
+    let outcome = refused(Refusal::OutOfRange, None);
     Stepped {
         desk: Desk {
             words: [0u64; WORDS],

@@ -1,50 +1,36 @@
-// The operations of the clerk's desk, each total on every desk: the desk goes in by value and comes back with the outcome. The words of the desk that comes back are lent
-// to `on_words`.
+// The operations of the clerk's desk, each total on every desk: the desk goes in by value and comes back with the outcome. What a step does is `desk::steps`, of the one
+// step that is this desk's own; `entry` makes what is put in an entry.
 ghost use Rattle.std.specs.Prelude.{◌≡◌};
 ghost use Rattle.clerk.specs.Steps.{entered, received_bytes};
 
-use crate::entry::Entry;
+use crate::entry::{Entry, bytes_entry};
 use crate::{Desk, on_words};
-use desk::outcome::Outcome;
-use lists::Found;
+use desk::outcome::{Outcome, Stepped, SteppedBytes};
+use desk::steps::{Steps, stepped, stepped_read};
 
-// The desk afterwards and the outcome.
-#[derive(Clone, Copy)]
-pub struct Stepped {
-    pub desk: Desk,
-    pub outcome: Outcome,
-}
+// The words of the desk that is lent are lent on.
+impl Steps for Desk {
+    type Entry = Entry;
 
-// The same for bytes, with the first unread place; where they cannot be read, 0 and the place of the fault.
-#[derive(Clone, Copy)]
-pub struct SteppedBytes {
-    pub desk: Desk,
-    pub outcome: Outcome,
-    pub next: usize,
-    pub fault: Found,
+    ghost entered = { entered };
+
+    fn step(&mut self, count: u32, entry: Entry) -> Outcome {
+        on_words::step(&mut self.words, count, entry)
+    }
 }
 
 // What came in at the entry: an ask, a message, User A's act, a timer's report, or a refusal of it.
-pub fn step(d: Desk, count: u32, entry: Entry) -> Stepped
+pub fn step(d: Desk, count: u32, entry: Entry) -> Stepped<Desk>
     ensures { result ≡ entered d count entry }
 {
-    let mut e = d;
-    let outcome = on_words::step(&mut e.words, count, entry);
-    Stepped { desk: e, outcome }
+    stepped(d, count, entry)
 }
 
 // Raw bytes received: the reader's 1 and 2, which change nothing, with the place of the fault; else the message's step, and the first unread place.
-pub fn step_bytes(d: Desk, count: u32, s: &[u8], busy: bool, place: usize) -> SteppedBytes
+#[tactic(auto, unfolding(crate::specs::Steps::received_bytes))]
+pub fn step_bytes(d: Desk, count: u32, s: &[u8], busy: bool, place: usize) -> SteppedBytes<Desk>
     ensures { result ≡ received_bytes d count s.now busy place }
 {
-    let mut e = d;
-    let answer = on_words::step_bytes(&mut e.words, count, s, busy, place);
-    let outcome = answer.outcome;
-    let fault = answer.fault;
-    SteppedBytes {
-        desk: e,
-        outcome,
-        next: answer.next,
-        fault,
-    }
+    let read = bytes_entry(s, busy, place);
+    stepped_read(d, count, read)
 }

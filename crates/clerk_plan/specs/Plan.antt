@@ -1,15 +1,14 @@
 -- What the clerk's desk decides about each input, by the list of records: the refusals in document 01's order, then the row of the table. And what it plans: the change and the outcome that a decision means.
-use Rattle.std.specs.Prelude.{ℕ, Bool, false, List, get_or}
+use Rattle.std.specs.Prelude.{ℕ, Bool, false, List, get_or, Option, Some, None}
 use Rattle.lists.specs.Choice.{pick}
-use Rattle.lists.specs.declared.Found.{Found}
+use Rattle.message.specs.declared.refusal.Refusal.{Refusal}
+use Rattle.message.specs.declared.refusal.Refusal.TheVariants.{NotHere, Live, Full, NoRecord, NoRow, NotInCarrier, NotRunning}
 use Rattle.desk.specs.Carriers.{carrier_fits}
 use Rattle.desk.specs.Outcome.{no_timers, done_with}
 use Rattle.desk.specs.Sends.{answered}
 use Rattle.desk.specs.declared.Connection.TheVariants as Connection
 use Rattle.desk.specs.declared.Keep.TheVariants as Keep
 use Rattle.desk.specs.declared.letter.Letter.{Letter}
-use Rattle.desk.specs.declared.outcome.Sending.TheVariants as Sending
-use Rattle.desk.specs.declared.sends.Sends.TheVariants as Sends
 use Rattle.terms.specs.Request.{can_keep_sent, request_terms, request_letter}
 use Rattle.terms.specs.declared.means.Means.{Means}
 use Rattle.terms.specs.declared.means.Means.TheVariants.{Nothing, NotNow, At}
@@ -28,30 +27,30 @@ use Rattle.clerk_table.specs.declared.record.Record.{Record}
 use Rattle.clerk_table.specs.declared.record.Decision.{Decision}
 use Rattle.clerk_table.specs.declared.record.Decision.TheVariants.{Refuse, Take, Store}
 use Rattle.clerk_table.specs.declared.record.Change.TheVariants.{Put}
-use Rattle.clerk_table.specs.declared.record.Plan.{Plan}
+use Rattle.desk.specs.declared.plan.Plan.{Plan}
 use Rattle.clerk_table.specs.declared.inputs.Act.{Act}
 use Rattle.clerk_table.specs.declared.inputs.Input.{Input}
 use Rattle.clerk_table.specs.declared.inputs.RecordMessage.{RecordMessage}
-use Rattle.clerk_table.specs.declared.inputs.Meant.{Meant}
 use Rattle.clerk_records.specs.Records.{blank, place}
 use Rattle.clerk_records.specs.Meaning.{identifier_means, meaning, named}
+use Rattle.clerk_table.specs.declared.record.Change.{Change}
 
 abbrev pub holds_for : Row → Record → Bool
 holds_for row r = holds_in (home_of row) r.state r.terms.connection
 
 -- ---- ask: 4, which one without an identifier never is, 5, then stored at the first place that is not used
-abbrev pub ask_place : Request → Found → Decision
-ask_place q Found.Nothing = Refuse 5 Sends.Nothing
-ask_place q (Found.At i) = Store i q
+abbrev pub ask_place : Request → Option ℕ → Decision
+ask_place q None = Refuse Full None
+ask_place q (Some i) = Store i q
 
-abbrev pub ask_found : List Record → Request → Found → Decision
-ask_found rs q (Found.At i) = Refuse 4 Sends.Nothing
-ask_found rs q Found.Nothing = ask_place q (place rs)
+abbrev pub ask_found : List Record → Request → Option ℕ → Decision
+ask_found rs q (Some i) = Refuse Live None
+ask_found rs q None = ask_place q (place rs)
 
 -- by the record that an ask means, which is one with its identifier
 abbrev pub ask_meant : List Record → Request → Means → Decision
-ask_meant rs q (At i) = Refuse 4 Sends.Nothing
-ask_meant rs q NotNow = Refuse 4 Sends.Nothing
+ask_meant rs q (At i) = Refuse Live None
+ask_meant rs q NotNow = Refuse Live None
 ask_meant rs q Nothing = ask_place q (place rs)
 
 abbrev pub ask_decision : List Record → Names → Request → Decision
@@ -64,36 +63,36 @@ row_decision i r l message row =
     pick (holds_for row r)
     (pick (carrier_fits l.body r.terms.connection l.carrier)
     (Take i row)
-    (Refuse 8 (reply_unfit message l.carrier)))
-    (Refuse 7 (reply_unfit message l.carrier))
+    (Refuse NotInCarrier (reply_unfit message l.carrier)))
+    (Refuse NoRow (reply_unfit message l.carrier))
 
 abbrev pub record_decision : ℕ → Record → Letter → Bool → RecordMessage → Decision
 record_decision i r l busy message = row_decision i r l message (row_for message busy r.terms.keep r.terms.kind)
 
 -- no record is meant: 6; some fit, and none is in a state that the message is for: 7
 abbrev pub message_found : List Record → Letter → Bool → RecordMessage → Means → Decision
-message_found rs l busy message Nothing = Refuse 6 (reply_unmatched message)
-message_found rs l busy message NotNow = Refuse 7 (reply_unfit message l.carrier)
+message_found rs l busy message Nothing = Refuse NoRecord (reply_unmatched message)
+message_found rs l busy message NotNow = Refuse NoRow (reply_unfit message l.carrier)
 message_found rs l busy message (At i) = record_decision i (get_or rs i blank) l busy message
 
-abbrev pub message_meant : List Record → Letter → Bool → Means → Meant → Decision
-message_meant rs l busy means Meant.NotHere = Refuse 3 Sends.Nothing
-message_meant rs l busy means (Meant.Record message) = message_found rs l busy message means
+abbrev pub message_meant : List Record → Letter → Bool → Means → Option RecordMessage → Decision
+message_meant rs l busy means None = Refuse NotHere None
+message_meant rs l busy means (Some message) = message_found rs l busy message means
 
 abbrev pub message_decision : List Record → Letter → Bool → ℕ → Decision
 message_decision rs l busy place = message_meant rs l busy (meaning l place rs) (message_for l.body)
 
 -- ---- acts: 6, 7; timers: 6, 9. A name fits nothing, so it never means "not now"
-abbrev pub own_found : List Record → Row → ℕ → Means → Decision
-own_found rs row refusal Nothing = Refuse 6 Sends.Nothing
-own_found rs row refusal NotNow = Refuse refusal Sends.Nothing
-own_found rs row refusal (At i) = pick (holds_for row (get_or rs i blank)) (Take i row) (Refuse refusal Sends.Nothing)
+abbrev pub own_found : List Record → Row → Refusal → Means → Decision
+own_found rs row refusal Nothing = Refuse NoRecord None
+own_found rs row refusal NotNow = Refuse refusal None
+own_found rs row refusal (At i) = pick (holds_for row (get_or rs i blank)) (Take i row) (Refuse refusal None)
 
 abbrev pub act_decision : List Record → Name → Act → Decision
-act_decision rs name act = own_found rs (row_of_act act) 7 (named name rs)
+act_decision rs name act = own_found rs (row_of_act act) NoRow (named name rs)
 
 abbrev pub timer_decision : List Record → Name → Timer → Decision
-timer_decision rs name timer = own_found rs (row_of_timer timer) 9 (named name rs)
+timer_decision rs name timer = own_found rs (row_of_timer timer) NotRunning (named name rs)
 
 -- ---- every input
 unfoldable pub decided : List Record → Input → Decision
@@ -108,17 +107,17 @@ abbrev pub new_record : Names → Request → Record
 new_record names q = record { terms = request_terms names q Keep.Empty Connection.Empty; state = WaitAck; canKeep = can_keep_sent q.flags; down = false }
 
 -- the request is sent, T1 starts (8.1.1.1 to 8.1.1.3, 11.4.1)
-abbrev pub stored_plan : ℕ → Names → Request → Plan
-stored_plan i names q = record { change = Put i (new_record names q); outcome = done_with (Sending.Send (request_letter names q)) (only T1) no_timers (Found.At i) }
+abbrev pub stored_plan : ℕ → Names → Request → Plan Change
+stored_plan i names q = record { change = Put i (new_record names q); outcome = done_with (Some (request_letter names q)) (only T1) no_timers (Some i) }
 
 -- the row finds the record with the choices that a result brings
-abbrev pub taken_plan : List Record → Input → ℕ → Row → Plan
+abbrev pub taken_plan : List Record → Input → ℕ → Row → Plan Change
 taken_plan rs input i row = row_taken i (settled_by input (get_or rs i blank)) row
 
-unfoldable pub plan_of : List Record → Input → Decision → Plan
-plan_of rs input (Refuse number reply) = refused_plan number (answered (names_of input).identifier reply)
+unfoldable pub plan_of : List Record → Input → Decision → Plan Change
+plan_of rs input (Refuse refusal reply) = refused_plan refusal (answered (names_of input).identifier reply)
 plan_of rs input (Take i row) = taken_plan rs input i row
 plan_of rs input (Store i q) = stored_plan i (names_of input) q
 
-unfoldable pub plan_for : List Record → Input → Plan
+unfoldable pub plan_for : List Record → Input → Plan Change
 plan_for rs input = plan_of rs input (decided rs input)

@@ -13,18 +13,20 @@ use clerk_records::WORDS;
 use clerk_records::meaning::find_meant;
 use clerk_records::places::{find_place, load};
 use clerk_table::inputs::{
-    Input, Meant, RecordMessage, message_for, names_of, reply_unfit, reply_unmatched, row_for,
-    row_of_act, row_of_timer, settle_by,
+    Input, RecordMessage, message_for, names_of, reply_unfit, reply_unmatched, row_for, row_of_act,
+    row_of_timer, settle_by,
 };
-use clerk_table::record::{Change, Decision, Plan, Record, refused_plan};
+use clerk_table::record::{Change, Decision, Record, refused_plan};
 use clerk_table::step::take_row;
 use clerk_table::table::{Row, State, holds_in, home_of};
 use desk::carriers::carrier_fits;
 use desk::letter::Letter;
-use desk::outcome::{Sending, Timers, done, no_timers};
-use desk::sends::{Sends, answer_with};
+use desk::outcome::{NO_TIMERS, Timers, done};
+use desk::plan::Plan;
+use desk::sends::answer_with;
 use desk::{Connection, Keep};
-use lists::Found;
+use message::Body;
+use message::refusal::Refusal;
 use terms::means::Means;
 use terms::request::{Names, Request, can_keep_sent, request_letter, request_terms};
 
@@ -43,11 +45,11 @@ fn decide_ask(words: &[u64; WORDS], q: Request, means: Means) -> Decision
     ensures { result ≡ ask_meant (records words.now) q means }
 {
     match means {
-        Means::At(_) => Decision::Refuse(4, Sends::Nothing),
-        Means::NotNow => Decision::Refuse(4, Sends::Nothing),
+        Means::At(_) => Decision::Refuse(Refusal::Live, None),
+        Means::NotNow => Decision::Refuse(Refusal::Live, None),
         Means::Nothing => match find_place(words) {
-            Found::Nothing => Decision::Refuse(5, Sends::Nothing),
-            Found::At(place) => Decision::Store(place, q),
+            None => Decision::Refuse(Refusal::Full, None),
+            Some(place) => Decision::Store(place, q),
         },
     }
 }
@@ -64,9 +66,9 @@ fn decide_row(place: usize, r: Record, l: Letter, message: RecordMessage, row: R
         if carrier_fits(body, connection, carrier) {
             return Decision::Take(place, row);
         }
-        return Decision::Refuse(8, reply_unfit(message, carrier));
+        return Decision::Refuse(Refusal::NotInCarrier, reply_unfit(message, carrier));
     }
-    Decision::Refuse(7, reply_unfit(message, carrier))
+    Decision::Refuse(Refusal::NoRow, reply_unfit(message, carrier))
 }
 
 // A message about the record of a place.
@@ -85,30 +87,30 @@ fn decide_message(words: &[u64; WORDS], l: Letter, busy: bool, means: Means) -> 
 {
     let body = l.body;
     match message_for(body) {
-        Meant::NotHere => Decision::Refuse(3, Sends::Nothing),
-        Meant::Record(message) => match means {
-            Means::Nothing => Decision::Refuse(6, reply_unmatched(message)),
+        None => Decision::Refuse(Refusal::NotHere, None),
+        Some(message) => match means {
+            Means::Nothing => Decision::Refuse(Refusal::NoRecord, reply_unmatched(message)),
             Means::NotNow => {
                 let carrier = l.carrier;
-                Decision::Refuse(7, reply_unfit(message, carrier))
+                Decision::Refuse(Refusal::NoRow, reply_unfit(message, carrier))
             }
             Means::At(place) => decide_record(place, load(words, place), l, busy, message),
         },
     }
 }
 
-// User A's own row, of an act or a timer, by the record that is named: 6, or the number given.
-fn decide_own(words: &[u64; WORDS], row: Row, refusal: u8, means: Means) -> Decision
+// User A's own row, of an act or a timer, by the record that is named: 6, or the refusal given.
+fn decide_own(words: &[u64; WORDS], row: Row, refusal: Refusal, means: Means) -> Decision
     ensures { result ≡ own_found (records words.now) row refusal means }
 {
     match means {
-        Means::Nothing => Decision::Refuse(6, Sends::Nothing),
-        Means::NotNow => Decision::Refuse(refusal, Sends::Nothing),
+        Means::Nothing => Decision::Refuse(Refusal::NoRecord, None),
+        Means::NotNow => Decision::Refuse(refusal, None),
         Means::At(place) => {
             if holds_for(row, load(words, place)) {
                 return Decision::Take(place, row);
             }
-            Decision::Refuse(refusal, Sends::Nothing)
+            Decision::Refuse(refusal, None)
         }
     }
 }
@@ -122,13 +124,18 @@ pub fn decide(words: &[u64; WORDS], input: Input) -> Decision
     match input {
         Input::Ask(_, q) => decide_ask(words, q, means),
         Input::Message(l, busy, _) => decide_message(words, l, busy, means),
-        Input::Act(_, act) => decide_own(words, row_of_act(act), 7, means),
-        Input::Timer(_, timer) => decide_own(words, row_of_timer(timer), 9, means),
+        Input::Act(_, act) => decide_own(words, row_of_act(act), Refusal::NoRow, means),
+        Input::Timer(_, timer) => decide_own(
+            words,
+            row_of_timer(timer),
+            Refusal::NotRunning,
+            means,
+        ),
     }
 }
 
 // A refusal with its reply: the identifier that the input names, or none.
-pub fn plan_refused(input: Input, refusal: u8, reply: Sends) -> Plan
+pub fn plan_refused(input: Input, refusal: Refusal, reply: Option<Body>) -> Plan<Change>
     ensures { result ≡ refused_plan refusal (answered (names_of input).identifier reply) }
 {
     let names = names_of(input);
@@ -137,7 +144,7 @@ pub fn plan_refused(input: Input, refusal: u8, reply: Sends) -> Plan
 }
 
 // A row taken for the record of a place.
-pub fn plan_taken(words: &[u64; WORDS], input: Input, place: usize, row: Row) -> Plan
+pub fn plan_taken(words: &[u64; WORDS], input: Input, place: usize, row: Row) -> Plan<Change>
     ensures { result ≡ taken_plan (records words.now) input place row }
 {
     take_row(place, settle_by(input, load(words, place)), row)
@@ -157,7 +164,7 @@ pub fn new_record(names: Names, q: Request) -> Record
 }
 
 // The request is sent and T1 starts.
-pub fn plan_stored(place: usize, names: Names, q: Request) -> Plan
+pub fn plan_stored(place: usize, names: Names, q: Request) -> Plan<Change>
     ensures { result ≡ stored_plan place names q }
 {
     let record = new_record(names, q);
@@ -168,8 +175,7 @@ pub fn plan_stored(place: usize, names: Names, q: Request) -> Plan
         t3: false,
         guard: false,
     };
-    let none = no_timers();
-    let outcome = done(Sending::Send(letter), started, none, Found::At(place));
+    let outcome = done(Some(letter), started, NO_TIMERS, Some(place));
     Plan {
         change: Change::Put(place, record),
         outcome,
@@ -178,7 +184,7 @@ pub fn plan_stored(place: usize, names: Names, q: Request) -> Plan
 
 // What a decision about an input means, whichever it is.
 #[tactic(auto, unfolding(crate::specs::Plan::plan_of))]
-fn plan_of(words: &[u64; WORDS], input: Input, decision: Decision) -> Plan
+fn plan_of(words: &[u64; WORDS], input: Input, decision: Decision) -> Plan<Change>
     ensures { result ≡ plan_of (records words.now) input decision }
 {
     match decision {
@@ -190,7 +196,7 @@ fn plan_of(words: &[u64; WORDS], input: Input, decision: Decision) -> Plan
 
 // What the desk plans for an input.
 #[tactic(auto, unfolding(crate::specs::Plan::plan_for))]
-pub fn plan_for(words: &[u64; WORDS], input: Input) -> Plan
+pub fn plan_for(words: &[u64; WORDS], input: Input) -> Plan<Change>
     ensures { result ≡ plan_for (records words.now) input }
 {
     let decision = decide(words, input);

@@ -1,4 +1,5 @@
 -- The words of the deadlines and of the lengths are words of the desk, and what a record is does not depend on them.
+use Rattle.std.specs.Prelude.{Option, Some, None}
 use Prim.Native.Nat.{ℕ, ◌+◌, ◌*◌, ◌%◌, ◌≤◌, ◌<◌}
 use mathlib.Core.Path.{◌≡◌, refl, sym, ◌∙◌, ap}
 use mathlib.Core.Bool.{Bool, true, false}
@@ -9,7 +10,6 @@ use lib.Dec.{ltb}
 use native.Mathlib.Omega.{arith}
 use borrow.Author.Tests.{ltb-true}
 use Rattle.lists.specs.Parts.{over}
-use Rattle.lists.specs.declared.Found.{Found}
 use Rattle.lists.proofs.Choice.{pick_elim}
 use Rattle.clock.specs.Clock.{turn}
 use Rattle.message.specs.declared.Kind.{Kind}
@@ -100,16 +100,16 @@ if-length ws true count i timer = started-length ws count i timer
 if-length ws false count i timer = refl
 
 -- ---- what a step starts leaves every record as it is, and as many words
-pub timed-length : (ws : List ℕ) (count : ℕ) (at : Found) (starts : Timers) → length (timed count at starts ws) ≡ length ws
+pub timed-length : (ws : List ℕ) (count : ℕ) (at : Option ℕ) (starts : Timers) → length (timed count at starts ws) ≡ length ws
 unfolding timed
-timed-length ws count Found.Nothing starts = refl
-timed-length ws count (Found.At i) starts =
+timed-length ws count None starts = refl
+timed-length ws count (Some i) starts =
     if-length _ starts.t3 count i T3 ∙ if-length _ starts.t2 count i T2 ∙ if-length ws starts.t1 count i T1
 
-pub records-timed : (ws : List ℕ) → length ws ≡ words → (count : ℕ) (at : Found) (starts : Timers) → records (timed count at starts ws) ≡ records ws
+pub records-timed : (ws : List ℕ) → length ws ≡ words → (count : ℕ) (at : Option ℕ) (starts : Timers) → records (timed count at starts ws) ≡ records ws
 unfolding timed
-records-timed ws l count Found.Nothing starts = refl
-records-timed ws l count (Found.At i) starts =
+records-timed ws l count None starts = refl
+records-timed ws l count (Some i) starts =
     let one = started_if starts.t1 count i T1 ws in
     let two = started_if starts.t2 count i T2 one in
     let l1 : length one ≡ words = if-length ws starts.t1 count i T1 ∙ l in
@@ -117,7 +117,7 @@ records-timed ws l count (Found.At i) starts =
     if-records two l2 starts.t3 count i T3 ∙ if-records one l1 starts.t2 count i T2 ∙ if-records ws l starts.t1 count i T1
 
 -- a step that starts nothing leaves every word
-pub timed-none : (ws : List ℕ) (count : ℕ) (at : Found) → timed count at no_timers ws ≡ ws
+pub timed-none : (ws : List ℕ) (count : ℕ) (at : Option ℕ) → timed count at no_timers ws ≡ ws
 unfolding timed
-timed-none ws count Found.Nothing = refl
-timed-none ws count (Found.At i) = refl
+timed-none ws count None = refl
+timed-none ws count (Some i) = refl

@@ -1,4 +1,5 @@
 -- The deadlines of a record go with it: what puts or turns a record leaves every deadline at its place, a removal moves those behind it up, and a start puts its own.
+use Rattle.std.specs.Prelude.{Option, Some, None}
 use Prim.Native.Nat.{ℕ, ◌+◌, ◌*◌, ◌%◌, ◌≤◌, ◌<◌}
 use mathlib.Core.Path.{◌≡◌, refl, sym, ◌∙◌, ap}
 use mathlib.Core.Bool.{Bool, true, false}
@@ -12,7 +13,6 @@ use borrow.Author.Tests.{ltb-true, ltb-false}
 use Rattle.lists.specs.Choice.{pick}
 use Rattle.lists.specs.Lists.{without}
 use Rattle.lists.specs.Parts.{over}
-use Rattle.lists.specs.declared.Found.{Found}
 use Rattle.lists.proofs.Choice.{pick_elim}
 use Rattle.lists.proofs.Lists.{without-past}
 use Rattle.clock.specs.Clock.{turn, deadline_of}
@@ -183,10 +183,10 @@ if-same a b r e starts count i timer ds =
     ∙ ap (deadline_of count) (length-same a b e timer (get_or (records b) i blank).terms.kind))
 
 pub deadlines-timed :
-    (ws : List ℕ) → length ws ≡ words → (count : ℕ) (at : Found) (starts : Timers) → deadlines (timed count at starts ws) ≡ deadlines_started count at starts ws (deadlines ws)
+    (ws : List ℕ) → length ws ≡ words → (count : ℕ) (at : Option ℕ) (starts : Timers) → deadlines (timed count at starts ws) ≡ deadlines_started count at starts ws (deadlines ws)
 unfolding timed
-deadlines-timed ws l count Found.Nothing starts = refl
-deadlines-timed ws l count (Found.At i) starts =
+deadlines-timed ws l count None starts = refl
+deadlines-timed ws l count (Some i) starts =
     let one = started_if starts.t1 count i T1 ws in
     let two = started_if starts.t2 count i T2 one in
     let l1 : length one ≡ words = if-length ws starts.t1 count i T1 ∙ l in

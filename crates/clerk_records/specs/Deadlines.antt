@@ -1,8 +1,7 @@
 -- The deadlines of the clerk's records (document 02, Ask 6): a timer that is started has its deadline put into its record's words; and which timer of a record runs out in a tick.
-use Rattle.std.specs.Prelude.{ℕ, ◌+◌, ◌*◌, ◌%◌, Bool, List, [], map, get_or, set, ltb}
+use Rattle.std.specs.Prelude.{ℕ, ◌+◌, ◌*◌, ◌%◌, Bool, List, [], map, get_or, set, ltb, Option, Some, None}
 use Rattle.lists.specs.Choice.{pick}
 use Rattle.lists.specs.Lists.{both, without}
-use Rattle.lists.specs.declared.Found.{Found}
 use Rattle.clock.specs.Clock.{turn, deadline_of, due}
 use Rattle.message.specs.declared.Kind.{Kind}
 use Rattle.message.specs.declared.Kind.TheVariants.{Ccbs, Ccnr}
@@ -18,8 +17,6 @@ use Rattle.clerk_table.specs.declared.record.Change.TheVariants.{Stay, Put, Turn
 use Rattle.clerk_records.specs.Layout.{width, places, deadlines_at, lengths_at}
 use Rattle.clerk_records.specs.Records.{blank, records}
 use Rattle.clerk_records.specs.declared.deadlines.Deadlines.{Deadlines}
-use Rattle.clerk_records.specs.declared.deadlines.Expiring.{Expiring}
-use Rattle.clerk_records.specs.declared.deadlines.Expiring.TheVariants.{Nothing, One}
 
 -- ---- at rest: T1 is stopped where T2 is started, so they have one word; T3 has its own. Of a word that is too large the lowest 32 bits
 abbrev pub deadline_at : Timer → ℕ
@@ -63,9 +60,9 @@ abbrev pub started_if : Bool → ℕ → ℕ → Timer → List ℕ → List ℕ
 started_if starts count i timer words = pick starts (started_at count i timer words) words
 
 -- each timer that a step starts, at the place that its outcome tells
-unfoldable pub timed : ℕ → Found → Timers → List ℕ → List ℕ
-timed count Found.Nothing starts words = words
-timed count (Found.At i) starts words =
+unfoldable pub timed : ℕ → Option ℕ → Timers → List ℕ → List ℕ
+timed count None starts words = words
+timed count (Some i) starts words =
     started_if starts.t3 count i T3 (started_if starts.t2 count i T2 (started_if starts.t1 count i T1 words))
 
 -- ---- the same for the deadlines of a desk with all its words: a record's go with it, and a start puts one
@@ -84,9 +81,9 @@ with_deadline T3 x d = record { t1 = d.t1; t2 = d.t2; t3 = x }
 abbrev pub deadlines_if : Bool → ℕ → ℕ → Timer → List ℕ → List Deadlines → List Deadlines
 deadlines_if starts count i timer words ds = pick starts (set ds i (with_deadline timer (new_deadline count i timer words) (get_or ds i no_deadlines))) ds
 
-abbrev pub deadlines_started : ℕ → Found → Timers → List ℕ → List Deadlines → List Deadlines
-deadlines_started count Found.Nothing starts words ds = ds
-deadlines_started count (Found.At i) starts words ds =
+abbrev pub deadlines_started : ℕ → Option ℕ → Timers → List ℕ → List Deadlines → List Deadlines
+deadlines_started count None starts words ds = ds
+deadlines_started count (Some i) starts words ds =
     deadlines_if starts.t3 count i T3 words (deadlines_if starts.t2 count i T2 words (deadlines_if starts.t1 count i T1 words ds))
 
 -- ---- a tick
@@ -96,21 +93,21 @@ deadline_in d T2 = d.t2
 deadline_in d T3 = d.t3
 
 -- a timer if it is due, or else the other
-abbrev pub due_or : ℕ → Deadlines → Timer → Expiring → Expiring
-due_or count d timer other = pick (due count (deadline_in d timer)) (One timer) other
+abbrev pub due_or : ℕ → Deadlines → Timer → Option Timer → Option Timer
+due_or count d timer other = pick (due count (deadline_in d timer)) (Some timer) other
 
 -- a timer runs out if the table has a row for its report in the record's state, and it is due
 abbrev pub runs_out : ℕ → Record → Deadlines → Timer → Bool
 runs_out count r d timer = both (holds_in (home_of (row_of_timer timer)) r.state r.terms.connection) (due count (deadline_in d timer))
 
 -- at most one of a record's: T1 before T2 before T3
-unfoldable pub expiring : ℕ → Record → Deadlines → Expiring
+unfoldable pub expiring : ℕ → Record → Deadlines → Option Timer
 expiring count r d =
-    pick (runs_out count r d T1) (One T1)
-    (pick (runs_out count r d T2) (One T2)
-    (pick (runs_out count r d T3) (One T3)
-    Nothing))
+    pick (runs_out count r d T1) (Some T1)
+    (pick (runs_out count r d T2) (Some T2)
+    (pick (runs_out count r d T3) (Some T3)
+    None))
 
 -- of the record at a place
-abbrev pub expiring_at : ℕ → List ℕ → ℕ → Expiring
+abbrev pub expiring_at : ℕ → List ℕ → ℕ → Option Timer
 expiring_at count words i = expiring count (get_or (records words) i blank) (get_or (deadlines words) i no_deadlines)

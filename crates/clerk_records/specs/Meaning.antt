@@ -1,13 +1,11 @@
 -- Which record is meant at the clerk's desk (document 02, Ask 1): by its identifier (a), by the elements of a message in Setup (b), or by the place that the host names (c).
-use Rattle.std.specs.Prelude.{ℕ, Bool, true, List, eqb, get_or}
+use Rattle.lists.specs.declared.words.Words.{Words}
+use Rattle.std.specs.Prelude.{ℕ, Bool, true, List, eqb, get_or, Option, Some, None}
 use Rattle.lists.specs.Choice.{pick}
 use Rattle.lists.specs.Lists.{both}
-use Rattle.lists.specs.declared.Found.{Found}
 use Rattle.message.specs.Format.{has_elements}
 use Rattle.message.specs.declared.Body.{Body}
 use Rattle.message.specs.declared.Body.TheVariants.{CcbsRequest, CcnrRequest, RequestResult, RequestError, CcExecPossible, CcRingout, RingoutError, CcSuspend, CcResume, CcCancel, CallAlerts, CallFailed}
-use Rattle.desk.specs.declared.letter.Identifier.{Identifier}
-use Rattle.desk.specs.declared.letter.Identifier.TheVariants.{Absent, Is}
 use Rattle.desk.specs.declared.letter.Letter.{Letter}
 use Rattle.terms.specs.Means.{fits, oldest}
 use Rattle.terms.specs.Request.{letter_names}
@@ -25,9 +23,9 @@ use Rattle.clerk_table.specs.declared.record.Record.{Record}
 use Rattle.clerk_records.specs.Records.{blank, used, meant}
 
 -- ---- (a) the record with the identifier, whatever its elements and state
-abbrev pub identifier_means : Identifier → List Record → Found
-identifier_means Absent rs = Found.Nothing
-identifier_means (Is identifier) rs = meant identifier rs
+abbrev pub identifier_means : Option Words → List Record → Option ℕ
+identifier_means None rs = None
+identifier_means (Some identifier) rs = meant identifier rs
 
 -- ---- (b) the oldest record that fits, in a state that the message is for: type 5 Invoked, 10 every state. Types 6 and 9 are for the line's end, and no other can fit
 abbrev pub states_for : Body → For
@@ -58,14 +56,14 @@ unfoldable pub elements_mean : Letter → List Record → Means
 elements_mean l rs = oldest (fitting (letter_names l)) (is_for l.body) rs
 
 -- ---- (c) the record at the named place; with an identifier the place is not looked at
-abbrev pub place_means : Identifier → ℕ → List Record → Means
-place_means Absent place rs = pick (used (get_or rs place blank)) (At place) Nothing
-place_means (Is identifier) place rs = Nothing
+abbrev pub place_means : Option Words → ℕ → List Record → Means
+place_means None place rs = pick (used (get_or rs place blank)) (At place) Nothing
+place_means (Some identifier) place rs = Nothing
 
 -- ---- one after the other
-abbrev pub or_else : Found → Means → Means
-or_else (Found.At i) otherwise = At i
-or_else Found.Nothing otherwise = otherwise
+abbrev pub or_else : Option ℕ → Means → Means
+or_else (Some i) otherwise = At i
+or_else None otherwise = otherwise
 
 -- a message
 unfoldable pub meaning : Letter → ℕ → List Record → Means

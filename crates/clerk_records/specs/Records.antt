@@ -1,11 +1,9 @@
 -- The clerk's records: what the words of a desk are, as a list of sixteen records, and what a planned change makes of the words.
-use Rattle.std.specs.Prelude.{ℕ, Bool, true, false, List, [], ◌∷◌, ◌++◌, map, get_or, set, ltb, eqb}
+use Rattle.std.specs.Prelude.{ℕ, Bool, true, false, List, [], ◌∷◌, ◌++◌, map, get_or, set, ltb, eqb, Option, Some}
 use Rattle.lists.specs.Choice.{pick}
 use Rattle.lists.specs.Lists.{both, first, without}
-use Rattle.lists.specs.declared.Found.{Found}
 use Rattle.lists.specs.declared.words.Words.{Words}
 use Rattle.desk.specs.Letter.{same_identifier}
-use Rattle.desk.specs.declared.letter.Identifier.TheVariants.{Is}
 use Rattle.store.specs.Rows.{state_word, rows, put_row, turn_row, removed_row}
 use Rattle.terms.specs.Codes.{flag_code}
 use Rattle.terms.specs.Terms.{choices_at, terms_of, choice_words, terms_words, with_choices, with_kind}
@@ -48,13 +46,13 @@ unused r = pick (used r) false true
 
 -- the record in use with that identifier
 abbrev pub identified : Words → Record → Bool
-identified identifier r = both (same_identifier r.terms.identifier (Is identifier)) (used r)
+identified identifier r = both (same_identifier r.terms.identifier (Some identifier)) (used r)
 
-unfoldable pub meant : Words → List Record → Found
+unfoldable pub meant : Words → List Record → Option ℕ
 meant identifier rs = first (identified identifier) rs
 
 -- the first place that is not used
-unfoldable pub place : List Record → Found
+unfoldable pub place : List Record → Option ℕ
 place rs = first unused rs
 
 -- ---- a planned change

@@ -10,7 +10,6 @@ use crate::{DEADLINES_AT, LENGTHS_AT, PLACES, WIDTH, WORDS};
 use clerk_table::table::{State, Timer};
 use clock::{count_of, deadline_of, is_due};
 use desk::outcome::Timers;
-use lists::Found;
 use message::Kind;
 
 // When each timer of a record runs out, in counts of seconds; that of a timer that does not run is not looked at.
@@ -19,13 +18,6 @@ pub struct Deadlines {
     pub t1: u32,
     pub t2: u32,
     pub t3: u32,
-}
-
-// The timer of a record that runs out in a tick, if one does.
-#[derive(Clone, Copy)]
-pub enum Expiring {
-    Nothing,
-    One(Timer),
 }
 
 fn deadline_at(timer: Timer) -> usize
@@ -82,12 +74,12 @@ fn start_if(words: &mut [u64; WORDS], starts: bool, count: u32, i: usize, timer:
 
 // Each timer that a step starts, at the place that its outcome tells.
 #[tactic(auto, unfolding(crate::specs::Deadlines::timed))]
-pub fn start_timers(words: &mut [u64; WORDS], count: u32, at: Found, starts: Timers)
+pub fn start_timers(words: &mut [u64; WORDS], count: u32, at: Option<usize>, starts: Timers)
     ensures { words.new ≡ timed count at starts words.old }
 {
     match at {
-        Found::Nothing => {}
-        Found::At(i) => {
+        None => {}
+        Some(i) => {
             start_if(words, starts.t1, count, i, Timer::T1);
             start_if(words, starts.t2, count, i, Timer::T2);
             start_if(words, starts.t3, count, i, Timer::T3);
@@ -126,11 +118,17 @@ fn state_at(words: &[u64; WORDS], i: usize) -> State
 }
 
 // A timer of the record at a place if it is due, or else the other.
-fn due_or(words: &[u64; WORDS], i: usize, count: u32, timer: Timer, other: Expiring) -> Expiring
+fn due_or(
+    words: &[u64; WORDS],
+    i: usize,
+    count: u32,
+    timer: Timer,
+    other: Option<Timer>,
+) -> Option<Timer>
     ensures { result ≡ due_or count (get_or (deadlines words.now) i no_deadlines) timer other }
 {
     if is_due(count, deadline_in(words, i, timer)) {
-        return Expiring::One(timer);
+        return Some(timer);
     }
     other
 }
@@ -138,19 +136,19 @@ fn due_or(words: &[u64; WORDS], i: usize, count: u32, timer: Timer, other: Expir
 // The timer of the record at a place that runs out in a tick, by its state: T2 runs on in Ringout, and does not run out there. Of its words only the state's and the deadlines
 // of the timers that run are read.
 #[tactic(auto, unfolding(crate::specs::Deadlines::expiring))]
-pub fn expiring_at(words: &[u64; WORDS], i: usize, count: u32) -> Expiring
+pub fn expiring_at(words: &[u64; WORDS], i: usize, count: u32) -> Option<Timer>
     ensures { result ≡ expiring_at count words.now i }
 {
     let state = state_at(words, i);
     match state {
-        State::Free => Expiring::Nothing,
-        State::WaitAck => due_or(words, i, count, Timer::T1, Expiring::Nothing),
-        State::Invoked => due_or(words, i, count, Timer::T2, Expiring::Nothing),
+        State::Free => None,
+        State::WaitAck => due_or(words, i, count, Timer::T1, None),
+        State::Invoked => due_or(words, i, count, Timer::T2, None),
         State::WaitAnswer => {
-            let t3 = due_or(words, i, count, Timer::T3, Expiring::Nothing);
+            let t3 = due_or(words, i, count, Timer::T3, None);
             due_or(words, i, count, Timer::T2, t3)
         }
-        State::Ringout => Expiring::Nothing,
-        State::Suspended => due_or(words, i, count, Timer::T2, Expiring::Nothing),
+        State::Ringout => None,
+        State::Suspended => due_or(words, i, count, Timer::T2, None),
     }
 }

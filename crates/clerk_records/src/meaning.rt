@@ -9,8 +9,8 @@ ghost use Rattle.clerk_records.specs.Meaning.{identifier_means, states_for, elem
 use crate::{LAST_STATE, PLACES, WIDTH, WORDS};
 use clerk_table::inputs::{Input, names_of};
 use clerk_table::table::{State, state_code};
-use desk::letter::{Identifier, Letter};
-use lists::Found;
+use desk::letter::Letter;
+use lists::words::Words;
 use message::{Body, has_elements};
 use store::For;
 use terms::means::Means;
@@ -43,12 +43,12 @@ fn states_for(body: Body) -> For
 }
 
 // (a) The record in use with that identifier.
-fn find_identified(words: &[u64; WORDS], identifier: Identifier) -> Found
+fn find_identified(words: &[u64; WORDS], identifier: Option<Words>) -> Option<usize>
     ensures { result ≡ identifier_means identifier (records words.now) }
 {
     match identifier {
-        Identifier::Absent => Found::Nothing,
-        Identifier::Is(id) => store::find(words, WIDTH, PLACES, id, LAST_STATE),
+        None => None,
+        Some(id) => store::find::<WIDTH, PLACES>(words, id, LAST_STATE),
     }
 }
 
@@ -59,21 +59,21 @@ fn find_fitting(words: &[u64; WORDS], l: Letter) -> Means
     let body = l.body;
     let names = letter_names(l);
     let states = states_for(body);
-    store::find_fitting(words, WIDTH, PLACES, names, LAST_STATE, states)
+    store::find_fitting::<WIDTH, PLACES>(words, names, LAST_STATE, states)
 }
 
 // (c) Without an identifier, the record at the named place.
-fn find_placed(words: &[u64; WORDS], identifier: Identifier, place: usize) -> Means
+fn find_placed(words: &[u64; WORDS], identifier: Option<Words>, place: usize) -> Means
     ensures { result ≡ place_means identifier place (records words.now) }
 {
     match identifier {
-        Identifier::Absent => {
-            if store::is_live_at(words, WIDTH, PLACES, place, LAST_STATE) {
+        None => {
+            if store::is_live_at::<WIDTH, PLACES>(words, place, LAST_STATE) {
                 return Means::At(place);
             }
             Means::Nothing
         }
-        Identifier::Is(_) => Means::Nothing,
+        Some(_) => Means::Nothing,
     }
 }
 
@@ -116,7 +116,7 @@ pub fn find_meant(words: &[u64; WORDS], input: Input) -> Means
     let names = names_of(input);
     let identifier = names.identifier;
     match find_identified(words, identifier) {
-        Found::Nothing => find_otherwise(words, input),
-        Found::At(i) => Means::At(i),
+        None => find_otherwise(words, input),
+        Some(i) => Means::At(i),
     }
 }

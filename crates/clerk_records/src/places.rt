@@ -11,7 +11,6 @@ use crate::codes::{state_code, state_of};
 use crate::{CAN_KEEP_AT, DOWN_AT, LAST_STATE, PLACES, WIDTH, WORDS};
 use clerk_table::record::{Change, Record, Turned};
 use clerk_table::table::State;
-use lists::Found;
 use terms::codes::{connection_code, flag_code, keep_code, kind_code};
 use terms::{no_terms, put_terms, terms_of};
 
@@ -46,10 +45,10 @@ fn put_words(row: &mut [u64], r: Record)
 
 // The first place that is not used.
 #[tactic(auto, using(crate::proofs::RecordsLaws::place_found))]
-pub fn find_place(words: &[u64; WORDS]) -> Found
+pub fn find_place(words: &[u64; WORDS]) -> Option<usize>
     ensures { result ≡ place (records words.now) }
 {
-    store::find_free(words, WIDTH, PLACES, LAST_STATE)
+    store::find_free::<WIDTH, PLACES>(words, LAST_STATE)
 }
 
 #[tactic(auto, using(lists::proofs::Parts::tail_of_lem))]
@@ -133,7 +132,7 @@ pub fn put(words: &mut [u64; WORDS], i: usize, r: Record)
 pub fn remove(words: &mut [u64; WORDS], i: usize)
     ensures { words.new ≡ applied words.old (Remove i) }
 {
-    store::remove(words, WIDTH, PLACES, i);
+    store::remove::<WIDTH, PLACES>(words, i);
 }
 
 // A planned change, made in place.

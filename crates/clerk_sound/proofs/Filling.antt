@@ -1,4 +1,5 @@
 -- The first free place of a sound list is behind all used ones, and each ask that is taken is one more: so as many asks as there are places fill a desk.
+use Rattle.std.specs.Prelude.{Some, None, Ok, Result}
 use Prim.Native.Nat.{ℕ, suc, ◌≤◌, ◌<◌}
 use mathlib.Core.Path.{◌≡◌, refl, sym, ap, ◌∙◌, subst}
 use mathlib.Core.Bool.{true}
@@ -7,9 +8,9 @@ use lib.ListN.{length, set}
 use native.Mathlib.Omega.{arith}
 use borrow.Author.Tests.{lt-ltb}
 use Rattle.lists.specs.Lists.{without}
-use Rattle.lists.specs.declared.Found.TheVariants.{At, Nothing}
+use Rattle.message.specs.declared.refusal.Refusal.TheVariants.{Full}
+use Rattle.message.specs.declared.refusal.Refusal.{Refusal}
 use Rattle.desk.specs.Letter.{letter_of}
-use Rattle.desk.specs.declared.sends.Sends.TheVariants as Sends
 use Rattle.terms.specs.declared.request.Names.{Names}
 use Rattle.terms.specs.declared.request.Request.{Request}
 use Rattle.places.specs.Places.{stored}
@@ -30,20 +31,18 @@ use Rattle.clerk.specs.declared.start.Lengths.{Lengths}
 use Rattle.clerk.proofs.StepsLaws.{records-made}
 use Rattle.clerk.specs.declared.Desk.{Desk}
 use Rattle.clerk.specs.declared.entry.Asking.{Asking}
-use Rattle.clerk.specs.declared.entry.Entry.{Entry}
-use Rattle.clerk.specs.declared.entry.Entry.TheVariants.{Given}
-use Rattle.clerk.specs.declared.steps.Stepped.{Stepped}
+use Rattle.desk.specs.declared.outcome.Stepped.{Stepped}
 use Rattle.clerk_sound.specs.Sound as S
 use Rattle.clerk_sound.specs.Sound.{clerk_view, Sound, Reached, Sixteen, AskSixteen, Proper, asked_record, AskedBehind, Asks, SeventeenthRefused}
 use Rattle.clerk_sound.proofs.Start.{blank-unused, start-blank}
 use Rattle.clerk_sound.proofs.Reaching.{reached-sound, reached-full}
 
 -- ---- the first free place, and counts
-place_at : (rs : List Record) → Sound rs → length rs ≡ places → stored clerk_view rs < places → place rs ≡ At (stored clerk_view rs)
+place_at : (rs : List Record) → Sound rs → length rs ≡ places → stored clerk_view rs < places → place rs ≡ Some (stored clerk_view rs)
 unfolding place
 place_at rs sound l h = place-room clerk_view rs places sound.placed l h
 
-place_none : (rs : List Record) → length rs ≡ places → stored clerk_view rs ≡ places → place rs ≡ Nothing
+place_none : (rs : List Record) → length rs ≡ places → stored clerk_view rs ≡ places → place rs ≡ None
 unfolding place
 place_none rs l h = place-full clerk_view rs places l h
 
@@ -65,12 +64,12 @@ sixteen =
     }
 
 -- ---- asks
-module _ (rs : List Record) (names : Names) (q : Request) (sound : Sound rs) (n : length rs ≡ places) (new : identifier_means names.identifier rs ≡ Nothing) where
+module _ (rs : List Record) (names : Names) (q : Request) (sound : Sound rs) (n : length rs ≡ places) (new : identifier_means names.identifier rs ≡ None) where
   ask-taken : stored clerk_view rs < places → decided rs (Input.Ask names q) ≡ Store (stored clerk_view rs) q
   unfolding decided
   ask-taken h = rw (new, place_at rs sound n h)
 
-  ask-refused : stored clerk_view rs ≡ places → decided rs (Input.Ask names q) ≡ Refuse 5 Sends.Nothing
+  ask-refused : stored clerk_view rs ≡ places → decided rs (Input.Ask names q) ≡ Refuse Full None
   unfolding decided
   ask-refused h = rw (new, place_none rs n h)
 
@@ -81,7 +80,7 @@ ask-sixteen = record { taken = ask-taken; refused = ask-refused }
 abbrev ask_input : Asking → Input
 ask_input a = Input.Ask (ask_names a) (ask_request a)
 
-asked_entry : (d : Desk) (a : Asking) → Proper d a → ask_entry a ≡ Given (ask_input a)
+asked_entry : (d : Desk) (a : Asking) → Proper d a → ask_entry a ≡ Ok (ask_input a)
 unfolding ask_entry
 asked_entry d a proper = rw (lt-ltb a.preference 3 proper.preference, proper.ranged)
 
@@ -96,7 +95,7 @@ module _ (d : Desk) (reached : Reached d) (count : ℕ) (a : Asking) (proper : P
   abbrev rs : List Record
   rs = records d.words
 
-  new : identifier_means (ask_names a).identifier rs ≡ Nothing
+  new : identifier_means (ask_names a).identifier rs ≡ None
   unfolding letter_of
   new = proper.new
 
@@ -104,23 +103,23 @@ module _ (d : Desk) (reached : Reached d) (count : ℕ) (a : Asking) (proper : P
   asked-taken h =
       asked-decision d count a proper _ (ask-taken rs (ask_names a) (ask_request a) (reached-sound d reached) (records-length d.words) new h)
 
-  asked-full : stored clerk_view rs ≡ places → (asked d count a).outcome.refusal ≡ 5
+  asked-full : stored clerk_view rs ≡ places → (asked d count a).outcome.refusal ≡ Some Full
   unfolding plan_of
   asked-full h =
-      ap (λ (x : Stepped). x.outcome.refusal)
+      ap (λ (x : Stepped Desk). x.outcome.refusal)
       (asked-decision d count a proper _ (ask-refused rs (ask_names a) (ask_request a) (reached-sound d reached) (records-length d.words) new h))
 
   asked-records : stored clerk_view rs < places → records (asked d count a).desk.words ≡ set rs (stored clerk_view rs) (asked_record a)
   unfolding plan_of
-  asked-records h = ap (λ (x : Stepped). records x.desk.words) (asked-taken h) ∙ records-made d (reached-full d reached) count (plan_of rs (ask_input a) (Store (stored clerk_view rs) (ask_request a)))
+  asked-records h = ap (λ (x : Stepped Desk). records x.desk.words) (asked-taken h) ∙ records-made d (reached-full d reached) count (plan_of rs (ask_input a) (Store (stored clerk_view rs) (ask_request a)))
 
-  asked-accepted : stored clerk_view rs < places → (asked d count a).outcome.refusal ≡ 0
+  asked-accepted : stored clerk_view rs < places → (asked d count a).outcome.refusal ≡ None
   unfolding plan_of
-  asked-accepted h = ap (λ (x : Stepped). x.outcome.refusal) (asked-taken h)
+  asked-accepted h = ap (λ (x : Stepped Desk). x.outcome.refusal) (asked-taken h)
 
-  asked-told : stored clerk_view rs < places → (asked d count a).outcome.at ≡ At (stored clerk_view rs)
+  asked-told : stored clerk_view rs < places → (asked d count a).outcome.at ≡ Some (stored clerk_view rs)
   unfolding plan_of
-  asked-told h = ap (λ (x : Stepped). x.outcome.at) (asked-taken h)
+  asked-told h = ap (λ (x : Stepped Desk). x.outcome.at) (asked-taken h)
 
 pub asked-behind : AskedBehind
 asked-behind =
@@ -138,7 +137,7 @@ asks-reached : {d : Desk} {n : ℕ} → Asks d n → Reached d
 unfolding entered
 asks-reached (S.none lengths) = S.starts lengths
 asks-reached (S.more {d} count a proper before) =
-    subst (λ (entry : Entry). Reached (entered d count entry).desk) (sym (asked_entry d a proper))
+    subst (λ (entry : Result Input Refusal). Reached (entered d count entry).desk) (sym (asked_entry d a proper))
     (S.steps count (S.asks a proper.typed (asked_entry d a proper)) (asks-reached before))
 
 start-count : (lengths : Lengths) → stored clerk_view (records (started_desk lengths).words) ≡ 0

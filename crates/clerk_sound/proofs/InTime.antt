@@ -1,4 +1,5 @@
 -- The reports of a tick are steps, and afterwards none is due: so a tick carries a desk on. It takes those that are due, and in true time those are the ones whose seconds have passed.
+use Rattle.std.specs.Prelude.{Option, Some, None}
 use Prim.Native.Nat.{ℕ, zero, suc, ◌+◌, ◌%◌, ◌≤◌, ◌<◌}
 use mathlib.Core.Path.{◌≡◌, refl, ap, ◌∙◌, subst}
 use mathlib.Core.Bool.{Bool, true, false}
@@ -9,7 +10,6 @@ use native.Mathlib.Omega.{arith}
 use borrow.Author.Tests.{ltb-true, ltb-false}
 use Rattle.lists.specs.Choice.{pick}
 use Rattle.lists.specs.Lists.{count, without}
-use Rattle.lists.specs.declared.Found.{Found}
 use Rattle.lists.proofs.Lists.{get_or-without-before}
 use Rattle.clock.specs.Clock.{turn}
 use Rattle.desk.specs.Outcome.{no_timers}
@@ -24,8 +24,6 @@ use Rattle.clerk_table.specs.declared.record.Change.{Change}
 use Rattle.clerk_records.specs.Layout as Layout
 use Rattle.clerk_records.specs.Records.{blank, records, records_after}
 use Rattle.clerk_records.specs.Deadlines.{no_deadlines, deadlines, expiring_at}
-use Rattle.clerk_records.specs.declared.deadlines.Expiring.{Expiring}
-use Rattle.clerk_records.specs.declared.deadlines.Expiring.TheVariants.{Nothing, One}
 use Rattle.clerk_records.proofs.RecordsLaws.{records-length}
 use Rattle.clerk_plan.specs.Plan.{plan_for}
 use Rattle.clerk.specs.Steps.{step}
@@ -42,12 +40,12 @@ use Rattle.clerk_sound.proofs.Ticking.{due-expires, due-removes, tick-expires, n
 use Rattle.clerk_sound.proofs.Time.{nothing-early, due-in-tick, lasting-full}
 
 -- ---- the notes of a record whose report is taken go with it
-started_none : (l : Lengths) (now : ℕ) (at : Found) (rs : List Record) (ns : List Notes) → notes_started l now at no_timers rs ns ≡ ns
-started_none l now Found.Nothing rs ns = refl
-started_none l now (Found.At i) rs ns = refl
+started_none : (l : Lengths) (now : ℕ) (at : Option ℕ) (rs : List Record) (ns : List Notes) → notes_started l now at no_timers rs ns ≡ ns
+started_none l now None rs ns = refl
+started_none l now (Some i) rs ns = refl
 
 report-notes :
-    (l : Lengths) (count : ℕ) (words : List ℕ) (i : ℕ) (timer : Timer) → expiring_at count words i ≡ One timer → (now : ℕ) (ns : List Notes) →
+    (l : Lengths) (count : ℕ) (words : List ℕ) (i : ℕ) (timer : Timer) → expiring_at count words i ≡ Some timer → (now : ℕ) (ns : List Notes) →
     notes_after l (records words) (plan_for (records words) (report i timer)) now ns ≡ without no_notes ns i
 report-notes l count words i timer e now ns =
     let plan = plan_for (records words) (report i timer) in
@@ -68,10 +66,10 @@ gone-not-long d after ns now i gone bound j = rw gone (by (ltb j i) refl)
 
 -- ---- a tick carries a desk on
 by_both :
-    {A B : Type 0} (P : A → B → Type 0) (e : Expiring) {a : Timer → A} {x : A} {b : Timer → B} {y : B} → ((timer : Timer) → e ≡ One timer → P (a timer) (b timer)) →
-    (e ≡ Nothing → P x y) → P (by_timer e a x) (by_timer e b y)
-by_both P (One timer) f g = f timer refl
-by_both P Nothing f g = g refl
+    {A B : Type 0} (P : A → B → Type 0) (e : Option Timer) {a : Timer → A} {x : A} {b : Timer → B} {y : B} → ((timer : Timer) → e ≡ Some timer → P (a timer) (b timer)) →
+    (e ≡ None → P x y) → P (by_timer e a x) (by_timer e b y)
+by_both P (Some timer) f g = f timer refl
+by_both P None f g = g refl
 
 abbrev Carried : Lengths → ℕ → ℕ → Desk → List Notes → Type 0
 Carried l now last d ns = Lasting l d ns now last × NotLong d ns now
@@ -99,12 +97,12 @@ tick-lasts l d ns now last run soon bound =
     ticks soon (none-due d (now % turn) (lasting-full run)) left.1 left.0
 
 -- ---- how often a tick takes a place
-abbrev one : Expiring → Bool
+abbrev one : Option Timer → Bool
 one e = by_timer e (λ timer. true) false
 
-by_one : {A : Type 0} (e : Expiring) (x y : A) → by_timer e (λ timer. x) y ≡ pick (one e) x y
-by_one (One timer) x y = refl
-by_one Nothing x y = refl
+by_one : {A : Type 0} (e : Option Timer) (x y : A) → by_timer e (λ timer. x) y ≡ pick (one e) x y
+by_one (Some timer) x y = refl
+by_one None x y = refl
 
 module _ (d : Desk) (ticks : ℕ) (full : length d.words ≡ Layout.words) (place : ℕ) where
   abbrev times : ℕ
@@ -120,11 +118,11 @@ module _ (d : Desk) (ticks : ℕ) (full : length d.words ≡ Layout.words) (plac
   unfolding due_from
   some n i = by_one (expiring_at ticks d.words i) (i ∷ listed n (suc i)) (listed n (suc i))
 
-  not_taken : expiring_at ticks d.words place ≡ Nothing → times ≡ 0
+  not_taken : expiring_at ticks d.words place ≡ None → times ≡ 0
   unfolding due_from
   not_taken f = ap (count (eqb place)) (tick-expires d ticks full) ∙ not_listed is-due listed (λ i. refl) some place (ap one f) Layout.places 0
 
-  taken-once : (timer : Timer) → place < Layout.places → expiring_at ticks d.words place ≡ One timer → times ≡ 1
+  taken-once : (timer : Timer) → place < Layout.places → expiring_at ticks d.words place ≡ Some timer → times ≡ 1
   unfolding due_from
   taken-once timer inside t =
       ap (count (eqb place)) (tick-expires d ticks full)
@@ -145,12 +143,12 @@ tick-in-time l d ns now last run soon place =
           taken-once d (now % turn) (lasting-full run) place due.timer (over-place d ns now place over) due.due;
     }
   where
-    by : 0 < times d (now % turn) (lasting-full run) place → (e : Expiring) → expiring_at (now % turn) d.words place ≡ e → Over d ns now place
-    by some (One timer) t =
+    by : 0 < times d (now % turn) (lasting-full run) place → (e : Option Timer) → expiring_at (now % turn) d.words place ≡ e → Over d ns now place
+    by some (Some timer) t =
         let r = get_or (records d.words) place blank in
         record {
           timer = timer;
           its = (due-runs (now % turn) r (get_or (deadlines d.words) place no_deadlines) timer t).0;
           passed = nothing-early l d ns now last run place timer t;
         }
-    by some Nothing f = absurd (omega (arith, some, not_taken d (now % turn) (lasting-full run) place f))
+    by some None f = absurd (omega (arith, some, not_taken d (now % turn) (lasting-full run) place f))

@@ -1,4 +1,5 @@
 -- The lengths of the timers stand behind the records, and no step changes a word there: so they are those of the start.
+use Rattle.std.specs.Prelude.{Option, Some, None}
 use Prim.Native.Nat.{ℕ, ◌+◌, ◌-◌, ◌*◌, ◌%◌, ◌≤◌, ◌<◌}
 use mathlib.Core.Path.{◌≡◌, refl, sym, ap, ◌∙◌}
 use mathlib.Core.Bool.{Bool, true}
@@ -10,7 +11,6 @@ use native.Mathlib.Nat.{mod-eq_of_lt}
 use native.Mathlib.Omega.{arith}
 use borrow.Author.Tests.{leb-true, ltb-true}
 use Rattle.lists.specs.Lists.{both}
-use Rattle.lists.specs.declared.Found.{Found}
 use Rattle.lists.proofs.Choice.{pick_elim}
 use Rattle.lists.proofs.Lists.{both_parts}
 use Rattle.clock.specs.Clock.{turn}
@@ -24,7 +24,7 @@ use Rattle.clerk_table.specs.declared.table.Timer.{Timer}
 use Rattle.clerk_table.specs.declared.table.Timer.TheVariants.{T1, T2, T3}
 use Rattle.clerk_table.specs.declared.record.Change.{Change}
 use Rattle.clerk_table.specs.declared.record.Change.TheVariants.{Stay, Put, Turn, Remove}
-use Rattle.clerk_table.specs.declared.record.Plan.{Plan}
+use Rattle.desk.specs.declared.plan.Plan.{Plan}
 use Rattle.clerk_records.specs.Layout.{width, places, lengths_at, words}
 use Rattle.clerk_records.specs.Records.{record_words, turned_words, applied}
 use Rattle.clerk_records.specs.Deadlines.{length_of, started_if, timed}
@@ -73,10 +73,10 @@ applied-behind ws l (Remove i) =
     (λ u. pick_elim (Behind ws) (ltb i places) (λ t. dropped-behind ws i (ltb-true i places t) l) (λ f. refl))
     (λ u. refl)
 
-timed-behind : (ws : List ℕ) → length ws ≡ words → (count : ℕ) (at : Found) (starts : Timers) → Behind ws (timed count at starts ws)
+timed-behind : (ws : List ℕ) → length ws ≡ words → (count : ℕ) (at : Option ℕ) (starts : Timers) → Behind ws (timed count at starts ws)
 unfolding timed
-timed-behind ws l count Found.Nothing starts = refl
-timed-behind ws l count (Found.At i) starts =
+timed-behind ws l count None starts = refl
+timed-behind ws l count (Some i) starts =
     let one = started_if starts.t1 count i T1 ws in
     let two = started_if starts.t2 count i T2 one in
     let l1 : length one ≡ words = if-length ws starts.t1 count i T1 ∙ l in
@@ -96,7 +96,7 @@ start-measured l = drop_at (replicate lengths_at 0) (length_words l) lengths_at 
 pub applied-measured : (l : Lengths) (ws : List ℕ) → length ws ≡ words → (change : Change) → Measured l ws → Measured l (applied ws change)
 applied-measured l ws full change so = applied-behind ws full change ∙ so
 
-pub made-measured : (l : Lengths) (d : Desk) → length d.words ≡ words → (count : ℕ) (plan : Plan) → Measured l d.words → Measured l (made d count plan).desk.words
+pub made-measured : (l : Lengths) (d : Desk) → length d.words ≡ words → (count : ℕ) (plan : Plan Change) → Measured l d.words → Measured l (made d count plan).desk.words
 made-measured l d full count plan so =
     timed-behind (applied d.words plan.change) (applied-length d.words full plan.change) count plan.outcome.at plan.outcome.starts
     ∙ applied-measured l d.words full plan.change so

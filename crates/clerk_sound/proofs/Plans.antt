@@ -1,4 +1,6 @@
 -- Every plan is about the record at the place that its outcome tells, and keeps it whole: what is meant is used and keeps its identifier, no row leads to Free, only a result leaves Wait-Ack and it brings both choices, and an ask is stored under a new identifier or none.
+use Rattle.lists.specs.declared.words.Words.{Words}
+use Rattle.std.specs.Prelude.{Option, Some, None}
 use Prim.Native.Nat.{ℕ}
 use mathlib.Core.Path.{◌≡◌, refl, sym, ap, ◌∙◌, subst}
 use mathlib.Core.Bool.{Bool, true, false}
@@ -6,12 +8,12 @@ use mathlib.Core.List.{List}
 use lib.ListN.{get_or}
 use lib.Dec.{eqb}
 use native.Mathlib.Omega.{arith}
-use Rattle.lists.specs.declared.Found.{Found}
 use Rattle.lists.proofs.Choice.{pick_elim, no_true}
 use Rattle.message.specs.declared.Kind.{Kind}
 use Rattle.message.specs.declared.Kind.TheVariants.{Ccbs, Ccnr}
 use Rattle.message.specs.declared.Carrier.{Carrier}
 use Rattle.message.specs.declared.Carrier.TheVariants.{Setup, Connect, Facility, ReleaseComplete, Alerting}
+use Rattle.message.specs.declared.refusal.Refusal.TheVariants.{NoRow, NotRunning}
 use Rattle.desk.specs.Carriers.{carrier_fits}
 use Rattle.desk.specs.declared.Connection.{Connection}
 use Rattle.desk.proofs.CarriersLaws.{retained-holds}
@@ -22,8 +24,6 @@ use Rattle.terms.specs.declared.means.Means.TheVariants.{Nothing, NotNow, At}
 use Rattle.terms.specs.declared.request.Name.{Name}
 use Rattle.terms.specs.declared.request.Names.{Names}
 use Rattle.terms.specs.declared.request.Request.{Request}
-use Rattle.desk.specs.declared.letter.Identifier.{Identifier}
-use Rattle.desk.specs.declared.letter.Identifier.TheVariants.{Absent, Is}
 use Rattle.places.specs.Places.{known_in, Moved, stays, turns, stores, removes}
 use Rattle.clerk_table.specs.Table.{holds_in, behind, in_use}
 use Rattle.terms.specs.Terms.{with_kind}
@@ -41,26 +41,26 @@ use Rattle.clerk_table.specs.declared.table.Timer.TheVariants.{T1, T2, T3}
 use Rattle.clerk_table.specs.declared.record.Record.{Record}
 use Rattle.clerk_table.specs.declared.record.Decision.{Decision}
 use Rattle.clerk_table.specs.declared.record.Change.TheVariants.{Turn, Remove}
-use Rattle.clerk_table.specs.declared.record.Plan.{Plan}
+use Rattle.desk.specs.declared.plan.Plan.{Plan}
 use Rattle.clerk_table.specs.declared.inputs.Act.{Act}
 use Rattle.clerk_table.specs.declared.inputs.Act.TheVariants.{Accept, Resume, GoOn, Cancel, Fell}
 use Rattle.clerk_table.specs.declared.inputs.Input.{Input}
 use Rattle.clerk_table.specs.declared.inputs.RecordMessage.{RecordMessage}
 use Rattle.clerk_table.specs.declared.inputs.RecordMessage.TheVariants as Message
-use Rattle.clerk_table.specs.declared.inputs.Meant.{Meant}
 use Rattle.clerk_records.specs.Records.{blank, used, meant, place, records_after}
 use Rattle.clerk_records.specs.Meaning.{identifier_means, meaning, named}
 use Rattle.clerk_records.proofs.MeaningLaws.{meaning-used, named-used}
 use Rattle.clerk_plan.specs.Plan.{holds_for, ask_place, ask_found, row_decision, message_found, message_meant, own_found, decided, new_record, plan_of, plan_for}
 use Rattle.clerk_sound.specs.Sound.{clerk_view, Whole, Sound, Fair}
 use Rattle.clerk_sound.proofs.Ranges.{fair-whole}
+use Rattle.clerk_table.specs.declared.record.Change.{Change}
 
 -- what is put over a record is whole
 abbrev pub Turned : Record → Record → Type 0
 Turned a b = Whole b
 
 -- a plan, about the record at its outcome's place
-abbrev pub Goes : List Record → Plan → Type 0
+abbrev pub Goes : List Record → Plan Change → Type 0
 Goes rs plan = Moved clerk_view Turned Whole plan.outcome.at rs (records_after rs plan.change)
 
 -- ---- states: only Wait-Ack is before the acknowledgment
@@ -170,7 +170,7 @@ module _ (rs : List Record) (i : ℕ) (sound : Sound rs) (u : used (get_or rs i 
   -- from state to state behind the acknowledgment
   turned :
       (kind : Kind) (s : State) (down : Bool) → (down ≡ true → r.terms.connection ≡ Connection.Ret) → (r.state ≡ WaitAck → ⊥) → behind s ≡ true →
-      Moved clerk_view Turned Whole (Found.At i) rs
+      Moved clerk_view Turned Whole (Some i) rs
       (records_after rs (Turn i (record { keep = r.terms.keep; connection = r.terms.connection; kind = kind; state = s; down = down })))
   turned kind s down fell away b =
       turns i (with_down (with_state (with_terms r (with_kind r.terms kind)) s) down) refl u (behind-used s b) refl
@@ -184,7 +184,7 @@ module _ (rs : List Record) (i : ℕ) (sound : Sound rs) (u : used (get_or rs i 
       })
       refl
 
-  gone : Moved clerk_view Turned Whole (Found.At i) rs (records_after rs (Remove i))
+  gone : Moved clerk_view Turned Whole (Some i) rs (records_after rs (Remove i))
   gone = removes i refl u refl
 
   row-accepted : (keep : ℕ) (carrier : Carrier) → holds_for Accepted r ≡ true → Goes rs (row_taken i (acknowledged r keep carrier) Accepted)
@@ -229,7 +229,7 @@ module _ (rs : List Record) (i : ℕ) (sound : Sound rs) (u : used (get_or rs i 
 
   row-message :
       (message : RecordMessage) (carrier : Carrier) (busy : Bool) → holds_for (row_for message busy r.terms.keep r.terms.kind) r ≡ true →
-      Goes rs (row_taken i (settled (Meant.Record message) carrier r) (row_for message busy r.terms.keep r.terms.kind))
+      Goes rs (row_taken i (settled (Some message) carrier r) (row_for message busy r.terms.keep r.terms.kind))
   row-message (Message.Result keep) carrier busy h = row-accepted keep carrier h
   row-message (Message.Error error) carrier busy h = row-later (error_row error) (error-later error) h
   row-message Message.ExecPossible carrier busy h = row-later (possible_row busy) (possible-later busy) h
@@ -240,10 +240,10 @@ module _ (rs : List Record) (i : ℕ) (sound : Sound rs) (u : used (get_or rs i 
 
 -- ---- decisions
 -- what a record's desk knows of an identifier
-known_same : (identifier : Identifier) (rs : List Record) → known_in clerk_view identifier rs ≡ identifier_means identifier rs
+known_same : (identifier : Option Words) (rs : List Record) → known_in clerk_view identifier rs ≡ identifier_means identifier rs
 unfolding meant
-known_same Absent rs = refl
-known_same (Is words) rs = refl
+known_same None rs = refl
+known_same (Some words) rs = refl
 
 module _ (rs : List Record) (sound : Sound rs) where
   -- a decision about an input, planned
@@ -252,7 +252,7 @@ module _ (rs : List Record) (sound : Sound rs) where
 
   -- messages
   means-row :
-      (l : Letter) (busy : Bool) (place : ℕ) (message : RecordMessage) → message_for l.body ≡ Meant.Record message → (i : ℕ) → used (get_or rs i blank) ≡ true →
+      (l : Letter) (busy : Bool) (place : ℕ) (message : RecordMessage) → message_for l.body ≡ Some message → (i : ℕ) → used (get_or rs i blank) ≡ true →
       Means (Input.Message l busy place) (row_decision i (get_or rs i blank) l message (row_for message busy (get_or rs i blank).terms.keep (get_or rs i blank).terms.kind))
   unfolding plan_of
   means-row l busy place message e i u =
@@ -262,13 +262,13 @@ module _ (rs : List Record) (sound : Sound rs) where
       (λ h.
       pick_elim (Means (Input.Message l busy place)) (carrier_fits l.body r.terms.connection l.carrier)
       (λ g.
-      subst (λ (m : Meant). Goes rs (row_taken i (settled m l.carrier r) row)) (sym e)
+      subst (λ (m : Option RecordMessage). Goes rs (row_taken i (settled m l.carrier r) row)) (sym e)
       (row-message rs i sound u message l.carrier busy h))
       (λ g. stays refl refl))
       (λ h. stays refl refl)
 
   means-found :
-      (l : Letter) (busy : Bool) (place : ℕ) (message : RecordMessage) → message_for l.body ≡ Meant.Record message → (m : M.Means) → meaning l place rs ≡ m →
+      (l : Letter) (busy : Bool) (place : ℕ) (message : RecordMessage) → message_for l.body ≡ Some message → (m : M.Means) → meaning l place rs ≡ m →
       Means (Input.Message l busy place) (message_found rs l busy message m)
   unfolding plan_of
   means-found l busy place message e Nothing f = stays refl refl
@@ -276,13 +276,13 @@ module _ (rs : List Record) (sound : Sound rs) where
   means-found l busy place message e (At i) f = means-row l busy place message e i (meaning-used l place rs i f)
 
   means-message :
-      (l : Letter) (busy : Bool) (place : ℕ) (m : Meant) → message_for l.body ≡ m → Means (Input.Message l busy place) (message_meant rs l busy (meaning l place rs) m)
+      (l : Letter) (busy : Bool) (place : ℕ) (m : Option RecordMessage) → message_for l.body ≡ m → Means (Input.Message l busy place) (message_meant rs l busy (meaning l place rs) m)
   unfolding plan_of
-  means-message l busy place Meant.NotHere e = stays refl refl
-  means-message l busy place (Meant.Record message) e = means-found l busy place message e (meaning l place rs) refl
+  means-message l busy place None e = stays refl refl
+  means-message l busy place (Some message) e = means-found l busy place message e (meaning l place rs) refl
 
   -- acts and timers
-  means-act : (name : Name) (act : Act) (m : M.Means) → named name rs ≡ m → Means (Input.Act name act) (own_found rs (row_of_act act) 7 m)
+  means-act : (name : Name) (act : Act) (m : M.Means) → named name rs ≡ m → Means (Input.Act name act) (own_found rs (row_of_act act) NoRow m)
   unfolding plan_of
   means-act name act Nothing e = stays refl refl
   means-act name act NotNow e = stays refl refl
@@ -291,7 +291,7 @@ module _ (rs : List Record) (sound : Sound rs) where
       (λ h. row-later rs i sound (named-used name rs i e) (row_of_act act) (act-later act) h)
       (λ h. stays refl refl)
 
-  means-timer : (name : Name) (timer : Timer) (m : M.Means) → named name rs ≡ m → Means (Input.Timer name timer) (own_found rs (row_of_timer timer) 9 m)
+  means-timer : (name : Name) (timer : Timer) (m : M.Means) → named name rs ≡ m → Means (Input.Timer name timer) (own_found rs (row_of_timer timer) NotRunning m)
   unfolding plan_of
   means-timer name timer Nothing e = stays refl refl
   means-timer name timer NotNow e = stays refl refl
@@ -302,15 +302,15 @@ module _ (rs : List Record) (sound : Sound rs) where
 
   -- asks
   module _ (names : Names) (q : Request) (whole : Whole (new_record names q)) where
-    means-place : (f : Found) → identifier_means names.identifier rs ≡ Found.Nothing → place rs ≡ f → Means (Input.Ask names q) (ask_place q f)
+    means-place : (f : Option ℕ) → identifier_means names.identifier rs ≡ None → place rs ≡ f → Means (Input.Ask names q) (ask_place q f)
     unfolding plan_of place
-    means-place Found.Nothing new e = stays refl refl
-    means-place (Found.At i) new e = stores i (new_record names q) refl e (known_same names.identifier rs ∙ new) refl whole refl
+    means-place None new e = stays refl refl
+    means-place (Some i) new e = stores i (new_record names q) refl e (known_same names.identifier rs ∙ new) refl whole refl
 
-    means-ask : (f : Found) → identifier_means names.identifier rs ≡ f → Means (Input.Ask names q) (ask_found rs q f)
+    means-ask : (f : Option ℕ) → identifier_means names.identifier rs ≡ f → Means (Input.Ask names q) (ask_found rs q f)
     unfolding plan_of
-    means-ask (Found.At i) e = stays refl refl
-    means-ask Found.Nothing e = means-place (place rs) e refl
+    means-ask (Some i) e = stays refl refl
+    means-ask None e = means-place (place rs) e refl
 
   pub fair-goes : (input : Input) → Fair input → Goes rs (plan_for rs input)
   unfolding plan_for decided

@@ -1,4 +1,5 @@
 -- What an ask stores is in range: the entry makes an input only of an ask in range, and a number in range stays in range as words.
+use Rattle.std.specs.Prelude.{Ok, Err}
 use Prim.Native.Nat.{ℕ, ◌<◌}
 use mathlib.Core.Path.{◌≡◌, refl, subst}
 use mathlib.Core.Bool.{true}
@@ -11,6 +12,8 @@ use Rattle.message.specs.declared.Kind.{Kind}
 use Rattle.message.specs.declared.Kind.TheVariants.{Ccbs, Ccnr}
 use Rattle.message.specs.declared.Message.{Message}
 use Rattle.message.proofs.RangeLaws.{request-ranged, RequestRanged}
+use Rattle.message.specs.declared.refusal.Refusal.TheVariants.{OutOfRange}
+use Rattle.message.specs.declared.refusal.Refusal.{Refusal}
 use Rattle.desk.specs.Letter.{letter_of}
 use Rattle.desk.proofs.LetterLaws.{number-kept}
 use Rattle.terms.specs.declared.request.Names.{Names}
@@ -19,7 +22,6 @@ use Rattle.clerk_table.specs.declared.inputs.Input.{Input}
 use Rattle.clerk_plan.specs.Plan.{new_record}
 use Rattle.clerk.specs.Entry.{ask_flags, ask_request, ask_message, ask_names, ask_entry}
 use Rattle.clerk.specs.declared.entry.Asking.{Asking}
-use Rattle.clerk.specs.declared.entry.Entry.TheVariants.{Refused, Given}
 use Rattle.clerk_sound.specs.Sound.{Whole, Typed, Fair, asks}
 
 -- what is told of an ask that the entry makes an input of
@@ -29,14 +31,14 @@ pub record Entered (a : Asking) (names : Names) (q : Request) : Type 0 where
   pub its-names : ask_names a ≡ names
   pub its-request : ask_request a ≡ q
 
-pub no-input : {number : ℕ} {input : Input} → Refused number ≡ Given input → ⊥
+pub no-input : {refusal : Refusal} {input : Input} → Err refusal ≡ Ok input → ⊥
 no-input e = let z : ◌≡◌ {A = ℕ} 0 1 = cc in omega arith
 
-pub ask-entered : (a : Asking) (names : Names) (q : Request) → ask_entry a ≡ Given (Input.Ask names q) → Entered a names q
+pub ask-entered : (a : Asking) (names : Names) (q : Request) → ask_entry a ≡ Ok (Input.Ask names q) → Entered a names q
 unfolding ask_entry
 ask-entered a names q e =
-    let p = pick-then (ltb a.preference 3) _ (Refused 2) (Given (Input.Ask names q)) no-input e in
-    let r = pick-then (in_range (ask_message a)) _ (Refused 2) (Given (Input.Ask names q)) no-input p.1 in
+    let p = pick-then (ltb a.preference 3) _ (Err OutOfRange) (Ok (Input.Ask names q)) no-input e in
+    let r = pick-then (in_range (ask_message a)) _ (Err OutOfRange) (Ok (Input.Ask names q)) no-input p.1 in
     let same = r.1 in
     record { preference = ltb-true a.preference 3 p.0; ranged = r.0; its-names = cc; its-request = cc }
 

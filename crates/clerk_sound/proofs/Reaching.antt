@@ -1,14 +1,17 @@
 -- Every fair step is about one record or none, so every reached desk is sound and has all its words, its records stand in the order of storing, and a step leaves every other record as it was.
+use Rattle.std.specs.Prelude.{Ok, Err, Result}
 use Prim.Native.Nat.{ℕ}
 use mathlib.Core.Path.{◌≡◌, refl, sym, subst}
 use mathlib.Core.Bool.{Bool}
 use mathlib.Core.List.{List}
 use lib.ListN.{length}
 use Rattle.lists.proofs.Choice.{pick-then}
-use Rattle.message.specs.Reading.{Read, took, refused}
+use Rattle.message.specs.Reading.{Read}
 use Rattle.message.specs.Format.{in_range}
 use Rattle.message.specs.Wire.{message_at}
 use Rattle.message.specs.declared.Message.{Message}
+use Rattle.message.specs.declared.refusal.Refusal.TheVariants.{OutOfRange}
+use Rattle.message.specs.declared.refusal.Refusal.{Refusal}
 use Rattle.desk.specs.Letter.{letter_of}
 use Rattle.places.specs.Places.{Moved, same}
 use Rattle.places.proofs.Moving.{moved-placed, moved-each, moved_order, moved-others}
@@ -20,9 +23,7 @@ use Rattle.clerk_plan.specs.Plan.{plan_for}
 use Rattle.clerk.specs.Entry.{message_entry, read_entry, bytes_entry}
 use Rattle.clerk.specs.Steps.{step, entered, received, received_bytes}
 use Rattle.clerk.specs.declared.Desk.{Desk}
-use Rattle.clerk.specs.declared.entry.Entry.{Entry}
-use Rattle.clerk.specs.declared.entry.Entry.TheVariants.{Refused, Given}
-use Rattle.clerk.specs.declared.steps.Stepped.{Stepped}
+use Rattle.desk.specs.declared.outcome.Stepped.{Stepped}
 use Rattle.clerk_sound.specs.Sound as S
 use Rattle.clerk_sound.specs.Sound.{clerk_view, Whole, Sound, Fair, hears, Reached, ReachedSound, ReachedFull, InOrder, OrderOfStoring, OthersHeld}
 use Rattle.clerk_sound.proofs.Start.{start-sound}
@@ -35,7 +36,7 @@ record Good (d : Desk) : Type 0 where
   sound : Sound (records d.words)
 
 -- what a step makes of the records
-abbrev Steps : Desk → Stepped → Type 0
+abbrev Steps : Desk → Stepped Desk → Type 0
 Steps d step = Moved clerk_view Turned Whole step.outcome.at (records d.words) (records step.desk.words)
 
 good-moved : (d : Desk) → Good d → (count : ℕ) (input : Input) → Fair input → Steps d (step d count input)
@@ -58,29 +59,29 @@ good-step d good count input fair =
     }
 
 -- ---- what comes in at the entry: a fair input, or a refusal that leaves the desk
-abbrev FairEntry : Entry → Type 0
-FairEntry entry = (input : Input) → entry ≡ Given input → Fair input
+abbrev FairEntry : Result Input Refusal → Type 0
+FairEntry entry = (input : Input) → entry ≡ Ok input → Fair input
 
 message-fair : (m : Message) (busy : Bool) (place : ℕ) → FairEntry (message_entry m busy place)
 unfolding message_entry
 message-fair m busy place input e =
-    let p = pick-then (in_range m) (Given (Input.Message (letter_of m) busy place)) (Refused 2) (Given input) no-input e in
+    let p = pick-then (in_range m) (Ok (Input.Message (letter_of m) busy place)) (Err OutOfRange) (Ok input) no-input e in
     let q = p.1 in
     let same-input : Input.Message (letter_of m) busy place ≡ input = cc in
     subst Fair same-input (hears (letter_of m) busy place)
 
 read-fair : (busy : Bool) (place : ℕ) (r : Read Message) → FairEntry (read_entry busy place r).entry
-read-fair busy place (took m next) = message-fair m busy place
-read-fair busy place (refused number) = λ input e. absurd (no-input e)
+read-fair busy place (Ok (m, next)) = message-fair m busy place
+read-fair busy place (Err number) = λ input e. absurd (no-input e)
 
 bytes-fair : (bytes : List ℕ) (busy : Bool) (place : ℕ) → FairEntry (bytes_entry bytes busy place).entry
 unfolding bytes_entry
 bytes-fair bytes busy place = read-fair busy place (message_at bytes)
 
-good-entered : (d : Desk) → Good d → (count : ℕ) (entry : Entry) → FairEntry entry → Good (entered d count entry).desk
+good-entered : (d : Desk) → Good d → (count : ℕ) (entry : Result Input Refusal) → FairEntry entry → Good (entered d count entry).desk
 unfolding entered
-good-entered d good count (Refused number) fair = good
-good-entered d good count (Given input) fair = good-step d good count input (fair input refl)
+good-entered d good count (Err refusal) fair = good
+good-entered d good count (Ok input) fair = good-step d good count input (fair input refl)
 
 -- ---- every reached desk
 reached-good : {d : Desk} → Reached d → Good d
@@ -96,10 +97,10 @@ pub reached-full : ReachedFull
 reached-full d r = (reached-good r).full
 
 -- a desk that is reached, after what comes in at the entry
-pub reached-entered : (d : Desk) → Reached d → (count : ℕ) (entry : Entry) → FairEntry entry → Reached (entered d count entry).desk
+pub reached-entered : (d : Desk) → Reached d → (count : ℕ) (entry : Result Input Refusal) → FairEntry entry → Reached (entered d count entry).desk
 unfolding entered
-reached-entered d reached count (Refused number) fair = reached
-reached-entered d reached count (Given input) fair = S.steps count (fair input refl) reached
+reached-entered d reached count (Err refusal) fair = reached
+reached-entered d reached count (Ok input) fair = S.steps count (fair input refl) reached
 
 pub reached-received : (d : Desk) → Reached d → (count : ℕ) (m : Message) (busy : Bool) (place : ℕ) → Reached (received d count m busy place).desk
 reached-received d reached count m busy place = reached-entered d reached count (message_entry m busy place) (message-fair m busy place)
@@ -108,10 +109,10 @@ reached-received d reached count m busy place = reached-entered d reached count 
 pub step-moved : (d : Desk) → Reached d → (count : ℕ) (input : Input) → Fair input → Steps d (step d count input)
 step-moved d reached count input fair = good-moved d (reached-good reached) count input fair
 
-entered-order : (d : Desk) → Reached d → (count : ℕ) (entry : Entry) → FairEntry entry → InOrder d (entered d count entry).desk
+entered-order : (d : Desk) → Reached d → (count : ℕ) (entry : Result Input Refusal) → FairEntry entry → InOrder d (entered d count entry).desk
 unfolding entered
-entered-order d reached count (Refused number) fair = same
-entered-order d reached count (Given input) fair = moved_order clerk_view (reached-sound d reached).placed (step-moved d reached count input (fair input refl))
+entered-order d reached count (Err refusal) fair = same
+entered-order d reached count (Ok input) fair = moved_order clerk_view (reached-sound d reached).placed (step-moved d reached count input (fair input refl))
 
 pub order_of_storing : OrderOfStoring
 unfolding received_bytes

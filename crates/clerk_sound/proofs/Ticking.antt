@@ -1,4 +1,6 @@
 -- A timer that runs out has its row in the record's state, so its report is taken and the record removed: those before it stay, and those behind it move up to the place that is looked at next.
+use Rattle.desk.specs.declared.letter.Letter.{Letter}
+use Rattle.std.specs.Prelude.{Option, Some, None}
 use Prim.Native.Nat.{ℕ, zero, suc, ◌+◌, ◌≤◌, ◌<◌}
 use mathlib.Core.Path.{◌≡◌, refl, sym, ap, ap₂, ◌∙◌}
 use mathlib.Core.Bool.{false}
@@ -8,25 +10,21 @@ use lib.Dec.{eqb}
 use native.Mathlib.Omega.{arith}
 use borrow.Author.Tests.{ne_eqb}
 use Rattle.lists.specs.Lists as Lists
-use Rattle.lists.specs.declared.Found.TheVariants.{At}
 use Rattle.lists.proofs.Lists.{get_or-without-before}
 use Rattle.desk.specs.Outcome.{no_timers}
 use Rattle.desk.specs.Ticked.{Ticked}
-use Rattle.desk.specs.declared.outcome.Sending.{Sending}
 use Rattle.places.proofs.Staying.{moved_up}
 use Rattle.places.proofs.Passing.{Alike, alike-here, alike_next, alike-gone, to-here, everywhere}
 use Rattle.clerk_table.specs.declared.table.State.TheVariants.{Ringout}
 use Rattle.clerk_table.specs.declared.table.Timer.{Timer}
 use Rattle.clerk_table.specs.declared.record.Record.{Record}
 use Rattle.clerk_table.specs.declared.record.Change.TheVariants.{Remove}
-use Rattle.clerk_table.specs.declared.record.Plan.{Plan}
+use Rattle.desk.specs.declared.plan.Plan.{Plan}
 use Rattle.clerk_records.specs.Layout as Layout
 use Rattle.clerk_records.specs.Codes.{state_of}
 use Rattle.clerk_records.specs.Records.{record_of, blank, records, applied}
 use Rattle.clerk_records.specs.Deadlines.{no_deadlines, deadlines, expiring, expiring_at}
 use Rattle.clerk_records.specs.declared.deadlines.Deadlines.{Deadlines}
-use Rattle.clerk_records.specs.declared.deadlines.Expiring.{Expiring}
-use Rattle.clerk_records.specs.declared.deadlines.Expiring.TheVariants.{Nothing, One}
 use Rattle.clerk_records.proofs.RecordsLaws.{record-past}
 use Rattle.clerk_records.proofs.DeadlinesLaws.{timed-none}
 use Rattle.clerk_records.proofs.TimersLaws.{deadlines-applied}
@@ -36,17 +34,18 @@ use Rattle.clerk_plan.specs.Plan.{plan_for}
 use Rattle.clerk.specs.Steps.{made, step}
 use Rattle.clerk.specs.Ticks.{report, by_timer, ticking, ticked, sendings_from, sendings}
 use Rattle.clerk.specs.declared.Desk.{Desk}
-use Rattle.clerk.specs.declared.steps.Stepped.{Stepped}
+use Rattle.desk.specs.declared.outcome.Stepped.{Stepped}
 use Rattle.clerk_sound.specs.Sound as S
 use Rattle.clerk_sound.specs.Sound.{Reached}
 use Rattle.clerk_sound.specs.Ticking.{Expires, DueExpires, due_from, TickExpires, TickSends, RingoutStays, NoneDue, TickReached}
+use Rattle.clerk_table.specs.declared.record.Change.{Change}
 
 -- ---- by the timer that runs out, if one does
 by_elim :
-    {A : Type 0} (P : A → Type 0) (e : Expiring) {out : Timer → A} {otherwise : A} → ((timer : Timer) → e ≡ One timer → P (out timer)) → (e ≡ Nothing → P otherwise) →
+    {A : Type 0} (P : A → Type 0) (e : Option Timer) {out : Timer → A} {otherwise : A} → ((timer : Timer) → e ≡ Some timer → P (out timer)) → (e ≡ None → P otherwise) →
     P (by_timer e out otherwise)
-by_elim P (One timer) f g = f timer refl
-by_elim P Nothing f g = g refl
+by_elim P (Some timer) f g = f timer refl
+by_elim P None f g = g refl
 
 -- ---- the report of a timer that is due: its row ends the record, and starts nothing
 pub due-expires : DueExpires
@@ -57,13 +56,13 @@ due-expires d count i timer full e =
     let changed = applied d.words (Remove i) in
     let same : step d count (report i timer) ≡ made d count plan = due-step d count i timer e ∙ ap (made d count) (sym (row_ends_lem i r timer)) in
     record {
-      taken = ap (λ (s : Stepped). s.outcome.refusal) same;
-      told = ap (λ (s : Stepped). s.outcome.notice) same;
-      quiet = ap (λ (s : Stepped). s.outcome.clear) same;
-      gone = ap (λ (s : Stepped). records s.desk.words) same ∙ records-made d full count plan;
+      taken = ap (λ (s : Stepped Desk). s.outcome.refusal) same;
+      told = ap (λ (s : Stepped Desk). s.outcome.notice) same;
+      quiet = ap (λ (s : Stepped Desk). s.outcome.clear) same;
+      gone = ap (λ (s : Stepped Desk). records s.desk.words) same ∙ records-made d full count plan;
       forgotten =
-          ap (λ (s : Stepped). deadlines s.desk.words) same
-          ∙ ap deadlines (timed-none changed count (At i))
+          ap (λ (s : Stepped Desk). deadlines s.desk.words) same
+          ∙ ap deadlines (timed-none changed count (Some i))
           ∙ deadlines-applied d.words full (Remove i);
     }
 
@@ -124,11 +123,11 @@ tick-expires d count full = expires-from count d.words Layout.places 0 0 d full 
 
 -- ---- what the report of a timer that is due sends: what its row sends of the record, whatever its place
 due-sends :
-    (d : Desk) (count i : ℕ) (timer : Timer) → expiring_at count d.words i ≡ One timer →
+    (d : Desk) (count i : ℕ) (timer : Timer) → expiring_at count d.words i ≡ Some timer →
     (step d count (report i timer)).outcome.sending ≡ row_cancels (get_or (records d.words) i blank)
 due-sends d count i timer e =
-    ap (λ (s : Stepped). s.outcome.sending) (due-step d count i timer e)
-    ∙ ap (λ (p : Plan). p.outcome.sending) (sym (row_ends_lem i (get_or (records d.words) i blank) timer))
+    ap (λ (s : Stepped Desk). s.outcome.sending) (due-step d count i timer e)
+    ∙ ap (λ (p : Plan Change). p.outcome.sending) (sym (row_ends_lem i (get_or (records d.words) i blank) timer))
 
 abbrev record_at : Desk → ℕ → Record
 record_at d i = get_or (records d.words) i blank
@@ -153,7 +152,7 @@ module _ (count : ℕ) (before : Desk) where
       ∙ ap row_cancels (alike-here (record_at d) (record_at before) at i alike)
       ∙ sym (due-sends before count i timer (here ∙ t)) in
       rw (here ∙ t)
-      (ap₂ (λ (x : Sending) (xs : List Sending). x ∷ xs) sent
+      (ap₂ (λ (x : Option Letter) (xs : List (Option Letter)). x ∷ xs) sent
       (sends-from n (suc i) at next (step-full d count at timer full)
       (alike-gone now (expiring_at count next.words) was at i (due-behind d count at timer gone) same)
       (alike-gone (record_at d) (record_at next) (record_at before) at i (record-behind d count at timer gone) alike))))
@@ -167,7 +166,7 @@ tick-sends d count full = sends-from count d Layout.places 0 0 d full (λ k. ref
 
 -- ---- a place without a timer that is due is none of those
 not-due :
-    (count place : ℕ) (words : List ℕ) → expiring_at count words place ≡ Nothing → (n i : ℕ) → Lists.count (eqb place) (due_from n i count words) ≡ 0
+    (count place : ℕ) (words : List ℕ) → expiring_at count words place ≡ None → (n i : ℕ) → Lists.count (eqb place) (due_from n i count words) ≡ 0
 unfolding due_from Lists.count
 not-due count place words none zero i = refl
 not-due count place words none (suc n) i =
@@ -177,7 +176,7 @@ not-due count place words none (suc n) i =
     rw other (not-due count place words none n (suc i)))
     (λ f. not-due count place words none n (suc i))
 
-ringout-none : (count : ℕ) (r : Record) (d : Deadlines) → r.state ≡ Ringout → expiring count r d ≡ Nothing
+ringout-none : (count : ℕ) (r : Record) (d : Deadlines) → r.state ≡ Ringout → expiring count r d ≡ None
 unfolding expiring
 ringout-none count r d e = rw e
 
@@ -188,21 +187,21 @@ ringout-stays d count place full e =
 
 -- ---- afterwards: none before place `at` is due, and none behind the n places that are left
 none_from :
-    (count n i at : ℕ) (d : Desk) → length d.words ≡ Layout.words → ((j : ℕ) → j < at → expiring_at count d.words j ≡ Nothing) →
-    ((j : ℕ) → at + n ≤ j → expiring_at count d.words j ≡ Nothing) → (j : ℕ) → expiring_at count (ticking n i at count d).desk.words j ≡ Nothing
+    (count n i at : ℕ) (d : Desk) → length d.words ≡ Layout.words → ((j : ℕ) → j < at → expiring_at count d.words j ≡ None) →
+    ((j : ℕ) → at + n ≤ j → expiring_at count d.words j ≡ None) → (j : ℕ) → expiring_at count (ticking n i at count d).desk.words j ≡ None
 unfolding ticking
-none_from count zero i at d full below above j = everywhere (expiring_at count d.words) Nothing at below (λ k h. above k (omega (arith, h))) j
+none_from count zero i at d full below above j = everywhere (expiring_at count d.words) None at below (λ k h. above k (omega (arith, h))) j
 none_from count (suc n) i at d full below above j =
-    by_elim (λ (t : Ticked Desk). expiring_at count t.desk.words j ≡ Nothing) (expiring_at count d.words at)
+    by_elim (λ (t : Ticked Desk). expiring_at count t.desk.words j ≡ None) (expiring_at count d.words at)
     (λ timer t.
     let gone = due-expires d count at timer full t in
     none_from count n (suc i) at (step d count (report at timer)).desk (step-full d count at timer full)
     (λ k h. due-before d count at timer gone k h ∙ below k h)
     (λ k h. due-behind d count at timer gone k (omega (arith, h)) ∙ above (k + 1) (omega (arith, h)))
     j)
-    (λ f. none_from count n (suc i) (suc at) d full (to-here (expiring_at count d.words) Nothing at below f) (λ k h. above k (omega (arith, h))) j)
+    (λ f. none_from count n (suc i) (suc at) d full (to-here (expiring_at count d.words) None at below f) (λ k h. above k (omega (arith, h))) j)
 
-past-none : (count : ℕ) (words : List ℕ) (j : ℕ) → Layout.places ≤ j → expiring_at count words j ≡ Nothing
+past-none : (count : ℕ) (words : List ℕ) (j : ℕ) → Layout.places ≤ j → expiring_at count words j ≡ None
 unfolding expiring record_of state_of
 past-none count words j h = rw (record-past words j h)
 
@@ -226,8 +225,8 @@ tick-reached d reached count = ticking-reached count Layout.places 0 0 d reached
 
 -- ---- the report of a timer that is due plans that its record goes, and starts nothing
 pub due-removes :
-    (count : ℕ) (words : List ℕ) (i : ℕ) (timer : Timer) → expiring_at count words i ≡ One timer →
+    (count : ℕ) (words : List ℕ) (i : ℕ) (timer : Timer) → expiring_at count words i ≡ Some timer →
     let plan = plan_for (records words) (report i timer) in (plan.change ≡ Remove i) × (plan.outcome.starts ≡ no_timers)
 due-removes count words i timer e =
     let ends = due-plan count words i timer e ∙ sym (row_ends_lem i (get_or (records words) i blank) timer) in
-    (ap (λ (p : Plan). p.change) ends, ap (λ (p : Plan). p.outcome.starts) ends)
+    (ap (λ (p : Plan Change). p.change) ends, ap (λ (p : Plan Change). p.outcome.starts) ends)

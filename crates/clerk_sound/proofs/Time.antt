@@ -1,4 +1,6 @@
 -- Beside every used record stands the start of each timer that runs in its state, and its deadline is that of the start: so the clock's laws over true time are the desk's. In Ringout T2 keeps both, and is looked at again when the record is heeded.
+use Rattle.message.specs.declared.Body.{Body}
+use Rattle.std.specs.Prelude.{Option, Some, None, Ok, Err, Result}
 use Prim.Native.Nat.{ℕ, zero, suc, ◌+◌, ◌%◌, ◌≤◌, ◌<◌}
 use mathlib.Core.Path.{◌≡◌, refl, sym, ap, ◌∙◌, subst}
 use mathlib.Core.Bool.{Bool, true, false}
@@ -10,18 +12,18 @@ use native.Mathlib.Omega.{arith}
 use borrow.Author.Tests.{ltb-true, ltb-false, eqb-true, eqb-false}
 use Rattle.lists.specs.Choice.{pick}
 use Rattle.lists.specs.Lists.{without}
-use Rattle.lists.specs.declared.Found.{Found}
 use Rattle.lists.proofs.Choice.{pick_elim, no_true}
 use Rattle.lists.proofs.Lists.{both_true, without-length, get_or-without-before}
 use Rattle.clock.specs.Clock.{turn, half_turn, deadline_of, due}
 use Rattle.message.specs.declared.Kind.{Kind}
 use Rattle.message.specs.declared.Kind.TheVariants.{Ccbs}
 use Rattle.message.specs.declared.Carrier.{Carrier}
+use Rattle.message.specs.declared.refusal.Refusal.{Refusal}
+use Rattle.message.specs.declared.refusal.Refusal.TheVariants.{NoRow, NotRunning}
 use Rattle.desk.specs.Carriers.{carrier_fits}
 use Rattle.desk.specs.declared.Connection.{Connection}
 use Rattle.desk.specs.declared.letter.Letter.{Letter}
 use Rattle.desk.specs.declared.outcome.Timers.{Timers}
-use Rattle.desk.specs.declared.sends.Sends.{Sends}
 use Rattle.terms.specs.declared.means.Means as M
 use Rattle.terms.specs.declared.means.Means.TheVariants as Means
 use Rattle.terms.specs.declared.request.Name.{Name}
@@ -35,7 +37,6 @@ use Rattle.clerk_table.specs.Step.{row_taken, only, running, in_ringout}
 use Rattle.clerk_table.specs.declared.inputs.Input.{Input}
 use Rattle.clerk_table.specs.declared.inputs.RecordMessage.{RecordMessage}
 use Rattle.clerk_table.specs.declared.inputs.RecordMessage.TheVariants as Message
-use Rattle.clerk_table.specs.declared.inputs.Meant.{Meant}
 use Rattle.clerk_table.specs.declared.table.State.{State}
 use Rattle.clerk_table.specs.declared.table.State.TheVariants.{Free, WaitAck, Invoked, WaitAnswer, Ringout, Suspended}
 use Rattle.clerk_table.specs.declared.table.Row.{Row}
@@ -45,14 +46,13 @@ use Rattle.clerk_table.specs.declared.table.Timer.TheVariants.{T1, T2, T3}
 use Rattle.clerk_table.specs.declared.record.Record.{Record}
 use Rattle.clerk_table.specs.declared.record.Decision.{Decision}
 use Rattle.clerk_table.specs.declared.record.Decision.TheVariants.{Refuse, Take, Store}
-use Rattle.clerk_table.specs.declared.record.Plan.{Plan}
+use Rattle.desk.specs.declared.plan.Plan.{Plan}
 use Rattle.clerk_records.specs.Layout as Layout
 use Rattle.clerk_records.specs.Codes.{state_of}
 use Rattle.clerk_records.specs.Records.{blank, records, used, place, records_after, applied}
 use Rattle.clerk_records.specs.Meaning.{identifier_means, meaning, named}
 use Rattle.clerk_records.specs.Deadlines.{no_deadlines, deadlines, deadlines_after, with_deadline, length_of, deadlines_if, deadlines_started, deadline_in, timed, runs_out, expiring, expiring_at}
 use Rattle.clerk_records.specs.declared.deadlines.Deadlines.{Deadlines}
-use Rattle.clerk_records.specs.declared.deadlines.Expiring.TheVariants.{Nothing, One}
 use Rattle.clerk_records.proofs.RecordsLaws.{records-length, applied-length, records-applied}
 use Rattle.clerk_records.proofs.MeaningLaws.{meaning-used, named-used}
 use Rattle.clerk_records.proofs.TimersLaws.{deadlines-length, deadlines-applied, deadlines-timed}
@@ -64,13 +64,12 @@ use Rattle.clerk.specs.Entry.{bytes_entry}
 use Rattle.clerk.specs.Steps.{made, step, entered, received_bytes}
 use Rattle.clerk.specs.declared.start.Lengths.{Lengths}
 use Rattle.clerk.specs.declared.Desk.{Desk}
-use Rattle.clerk.specs.declared.entry.Entry.{Entry}
-use Rattle.clerk.specs.declared.entry.Entry.TheVariants.{Refused, Given}
 use Rattle.clerk_sound.specs.Sound.{clerk_view}
 use Rattle.clerk_sound.specs.Notes.{Notes, new_notes, no_notes, note_in, with_note, heeded_now, seconds_of, notes_after, notes_entered, notes_ticked}
 use Rattle.clerk_sound.specs.Time.{long, NotLong, Lasting, begins, passes, steps, reads, ticks, NothingEarly, Due, DueInTick}
 use Rattle.clerk_sound.proofs.Start.{blank-unused, start-blank}
 use Rattle.clerk_sound.proofs.Lengths.{Measured, start-measured, applied-measured, made-measured, short, measured}
+use Rattle.clerk_table.specs.declared.record.Change.{Change}
 
 -- ---- which timers run in a state, and which of them count
 abbrev among : Timers → Timer → Bool
@@ -203,15 +202,15 @@ record Kept (rs : List Record) (ds : List Deadlines) (ns : List Notes) (now last
 abbrev due_if : Bool → ℕ → Timer → ℕ → List Deadlines → List Deadlines
 due_if starts i timer x ds = pick starts (set ds i (with_deadline timer x (get_or ds i no_deadlines))) ds
 
-abbrev due_started : Lengths → ℕ → Found → Timers → List Record → List Deadlines → List Deadlines
-due_started l now Found.Nothing starts rs ds = ds
-due_started l now (Found.At i) starts rs ds =
+abbrev due_started : Lengths → ℕ → Option ℕ → Timers → List Record → List Deadlines → List Deadlines
+due_started l now None starts rs ds = ds
+due_started l now (Some i) starts rs ds =
     due_if starts.t3 i T3 (deadline_of (now % turn) (seconds_of l T3 (get_or rs i blank).terms.kind))
     (due_if starts.t2 i T2 (deadline_of (now % turn) (seconds_of l T2 (get_or rs i blank).terms.kind))
     (due_if starts.t1 i T1 (deadline_of (now % turn) (seconds_of l T1 (get_or rs i blank).terms.kind)) ds))
 
 -- what a plan makes of the three lists
-abbrev After : Lengths → List Record → List Deadlines → List Notes → ℕ → ℕ → Plan → Type 0
+abbrev After : Lengths → List Record → List Deadlines → List Notes → ℕ → ℕ → Plan Change → Type 0
 After l rs ds ns now last plan =
     let after = records_after rs plan.change in
     Kept after (due_started l now plan.outcome.at plan.outcome.starts after (deadlines_after ds plan.change)) (notes_after l rs plan now ns) now last
@@ -329,9 +328,9 @@ module _ {rs : List Record} {ds : List Deadlines} {ns : List Notes} {now last : 
 
 -- ---- every decision: a refusal, a store at the first free place, or a row that is taken for a used record in its state
 data Good (rs : List Record) : Decision → Type 0 where
-  refuses : {number : ℕ} {reply : Sends} → Good rs (Refuse number reply)
+  refuses : {refusal : Refusal} {reply : Option Body} → Good rs (Refuse refusal reply)
   takes : (i : ℕ) (row : Row) → used (get_or rs i blank) ≡ true → holds_for row (get_or rs i blank) ≡ true → Good rs (Take i row)
-  stores : (i : ℕ) (q : Request) → place rs ≡ Found.At i → Good rs (Store i q)
+  stores : (i : ℕ) (q : Request) → place rs ≡ Some i → Good rs (Store i q)
 
 module _ (rs : List Record) where
   good-row : (i : ℕ) (l : Letter) (message : RecordMessage) (row : Row) → used (get_or rs i blank) ≡ true → Good rs (row_decision i (get_or rs i blank) l message row)
@@ -346,40 +345,40 @@ module _ (rs : List Record) where
   good-found l busy at message (Means.At i) e =
       good-row i l message (row_for message busy (get_or rs i blank).terms.keep (get_or rs i blank).terms.kind) (meaning-used l at rs i e)
 
-  good-message : (l : Letter) (busy : Bool) (at : ℕ) (m : Meant) → Good rs (message_meant rs l busy (meaning l at rs) m)
-  good-message l busy at Meant.NotHere = refuses
-  good-message l busy at (Meant.Record message) = good-found l busy at message (meaning l at rs) refl
+  good-message : (l : Letter) (busy : Bool) (at : ℕ) (m : Option RecordMessage) → Good rs (message_meant rs l busy (meaning l at rs) m)
+  good-message l busy at None = refuses
+  good-message l busy at (Some message) = good-found l busy at message (meaning l at rs) refl
 
-  good-own : (name : Name) (row : Row) (refusal : ℕ) (m : M.Means) → named name rs ≡ m → Good rs (own_found rs row refusal m)
+  good-own : (name : Name) (row : Row) (refusal : Refusal) (m : M.Means) → named name rs ≡ m → Good rs (own_found rs row refusal m)
   good-own name row refusal Means.Nothing e = refuses
   good-own name row refusal Means.NotNow e = refuses
   good-own name row refusal (Means.At i) e = pick_elim (Good rs) (holds_for row (get_or rs i blank)) (λ h. takes i row (named-used name rs i e) h) (λ h. refuses)
 
-  good-place : (q : Request) (f : Found) → place rs ≡ f → Good rs (ask_place q f)
-  good-place q Found.Nothing e = refuses
-  good-place q (Found.At i) e = stores i q e
+  good-place : (q : Request) (f : Option ℕ) → place rs ≡ f → Good rs (ask_place q f)
+  good-place q None e = refuses
+  good-place q (Some i) e = stores i q e
 
-  good-ask : (q : Request) (f : Found) → Good rs (ask_found rs q f)
-  good-ask q (Found.At i) = refuses
-  good-ask q Found.Nothing = good-place q (place rs) refl
+  good-ask : (q : Request) (f : Option ℕ) → Good rs (ask_found rs q f)
+  good-ask q (Some i) = refuses
+  good-ask q None = good-place q (place rs) refl
 
   good-input : (input : Input) → Good rs (decided rs input)
   unfolding decided
   good-input (Input.Ask names q) = good-ask q (identifier_means names.identifier rs)
   good-input (Input.Message l busy at) = good-message l busy at (message_for l.body)
-  good-input (Input.Act name act) = good-own name (row_of_act act) 7 (named name rs) refl
-  good-input (Input.Timer name timer) = good-own name (row_of_timer timer) 9 (named name rs) refl
+  good-input (Input.Act name act) = good-own name (row_of_act act) NoRow (named name rs) refl
+  good-input (Input.Timer name timer) = good-own name (row_of_timer timer) NotRunning (named name rs) refl
 
 -- the choices that a result brings leave the state
-settled-state : (m : Meant) (carrier : Carrier) (r : Record) → (settled m carrier r).state ≡ r.state
-settled-state (Meant.Record (Message.Result keep)) carrier r = refl
-settled-state (Meant.Record (Message.Error error)) carrier r = refl
-settled-state (Meant.Record Message.ExecPossible) carrier r = refl
-settled-state (Meant.Record (Message.RingoutError error)) carrier r = refl
-settled-state (Meant.Record Message.Cancel) carrier r = refl
-settled-state (Meant.Record Message.Alerts) carrier r = refl
-settled-state (Meant.Record Message.Failed) carrier r = refl
-settled-state Meant.NotHere carrier r = refl
+settled-state : (m : Option RecordMessage) (carrier : Carrier) (r : Record) → (settled m carrier r).state ≡ r.state
+settled-state (Some (Message.Result keep)) carrier r = refl
+settled-state (Some (Message.Error error)) carrier r = refl
+settled-state (Some Message.ExecPossible) carrier r = refl
+settled-state (Some (Message.RingoutError error)) carrier r = refl
+settled-state (Some Message.Cancel) carrier r = refl
+settled-state (Some Message.Alerts) carrier r = refl
+settled-state (Some Message.Failed) carrier r = refl
+settled-state None carrier r = refl
 
 input-state : (input : Input) (r : Record) → (settled_by input r).state ≡ r.state
 input-state (Input.Ask names q) r = refl
@@ -406,10 +405,10 @@ module _ (l : Lengths) (good : good_lengths l ≡ true) (count i : ℕ) (ws : Li
       (ap (λ (xs : List Record). length_of ws timer (get_or xs i blank).terms.kind) same ∙ measured l ws good so timer (get_or rs i blank).terms.kind)
 
 started-due :
-    (l : Lengths) → good_lengths l ≡ true → (now : ℕ) (at : Found) (starts : Timers) (ws : List ℕ) (rs : List Record) → Measured l ws → records ws ≡ rs → (ds : List Deadlines) →
+    (l : Lengths) → good_lengths l ≡ true → (now : ℕ) (at : Option ℕ) (starts : Timers) (ws : List ℕ) (rs : List Record) → Measured l ws → records ws ≡ rs → (ds : List Deadlines) →
     deadlines_started (now % turn) at starts ws ds ≡ due_started l now at starts rs ds
-started-due l good now Found.Nothing starts ws rs so same ds = refl
-started-due l good now (Found.At i) starts ws rs so same ds =
+started-due l good now None starts ws rs so same ds = refl
+started-due l good now (Some i) starts ws rs so same ds =
     let count = now % turn in
     let kind = (get_or rs i blank).terms.kind in
     let one = due_if starts.t1 i T1 (deadline_of count (seconds_of l T1 kind)) ds in
@@ -427,7 +426,7 @@ record Sure (l : Lengths) (d : Desk) (ns : List Notes) (now last : ℕ) : Type 0
   kept : Kept (records d.words) (deadlines d.words) ns now last
 
 made_sure :
-    (l : Lengths) (d : Desk) {ns : List Notes} {now last : ℕ} → Sure l d ns now last → (plan : Plan) →
+    (l : Lengths) (d : Desk) {ns : List Notes} {now last : ℕ} → Sure l d ns now last → (plan : Plan Change) →
     After l (records d.words) (deadlines d.words) ns now last plan →
     Sure l (made d (now % turn) plan).desk (notes_after l (records d.words) plan now ns) now last
 made_sure l d {ns} {now} {last} s plan after =
@@ -483,7 +482,7 @@ ticked-at now (r ∷ rs) (n ∷ ns) zero h k = refl
 ticked-at now (r ∷ rs) (n ∷ ns) (suc j) h k = ticked-at now rs ns j (omega (arith, h)) (omega (arith, k))
 
 -- where no timer runs out, none that counts is due
-none-holds : (holds : Timer → Bool) (a b c : Bool) → holds T1 ≡ a → holds T2 ≡ b → holds T3 ≡ c → pick a (One T1) (pick b (One T2) (pick c (One T3) Nothing)) ≡ Nothing → (timer : Timer) → holds timer ≡ false
+none-holds : (holds : Timer → Bool) (a b c : Bool) → holds T1 ≡ a → holds T2 ≡ b → holds T3 ≡ c → pick a (Some T1) (pick b (Some T2) (pick c (Some T3) None)) ≡ None → (timer : Timer) → holds timer ≡ false
 none-holds holds true b c p q r e timer = absurd (none-one T1 (sym e))
 none-holds holds false true c p q r e timer = absurd (none-one T2 (sym e))
 none-holds holds false false true p q r e timer = absurd (none-one T3 (sym e))
@@ -492,7 +491,7 @@ none-holds holds false false false p q r e T2 = q
 none-holds holds false false false p q r e T3 = r
 
 not-due :
-    (count : ℕ) (r : Record) (d : Deadlines) → expiring count r d ≡ Nothing → (timer : Timer) → holds_for (row_of_timer timer) r ≡ true → due count (deadline_in d timer) ≡ false
+    (count : ℕ) (r : Record) (d : Deadlines) → expiring count r d ≡ None → (timer : Timer) → holds_for (row_of_timer timer) r ≡ true → due count (deadline_in d timer) ≡ false
 unfolding expiring
 not-due count r d none timer h =
     sym (both_true h) ∙ none-holds (runs_out count r d) (runs_out count r d T1) (runs_out count r d T2) (runs_out count r d T3) refl refl refl none timer
@@ -506,7 +505,7 @@ ringout Ringout e = refl
 ringout Suspended e = absurd (no_true e)
 
 ticked-beside :
-    {now last : ℕ} (r : Record) (n : Notes) (d : Deadlines) → now ≤ last + day → expiring (now % turn) r d ≡ Nothing → (r.state ≡ Ringout → now ≤ n.heeded + long) →
+    {now last : ℕ} (r : Record) (n : Notes) (d : Deadlines) → now ≤ last + day → expiring (now % turn) r d ≡ None → (r.state ≡ Ringout → now ≤ n.heeded + long) →
     Beside now last r.state n d → Beside now now r.state (pick (in_ringout r.state) n (heeded_now now n)) d
 ticked-beside {now} {last} r n d soon none bound b =
     pick_elim (λ (x : Notes). Beside now now r.state x d) (in_ringout r.state)
@@ -526,7 +525,7 @@ ticked-beside {now} {last} r n d soon none bound b =
     by T3 x = x
 
 ticked-kept :
-    (d : Desk) {ns : List Notes} {now last : ℕ} → now ≤ last + day → ((place : ℕ) → expiring_at (now % turn) d.words place ≡ Nothing) → NotLong d ns now →
+    (d : Desk) {ns : List Notes} {now last : ℕ} → now ≤ last + day → ((place : ℕ) → expiring_at (now % turn) d.words place ≡ None) → NotLong d ns now →
     Kept (records d.words) (deadlines d.words) ns now last →
     Kept (records d.words) (deadlines d.words) (notes_ticked now (records d.words) ns) now now
 ticked-kept d {ns} {now} {last} soon none bound kept =
@@ -548,11 +547,11 @@ step_sure l d s input =
     made_sure l d s (plan_for (records d.words) input) (plan-kept l s.good s.order s.kept input (good-input (records d.words) input))
 
 entered_sure :
-    (l : Lengths) (d : Desk) {ns : List Notes} {now last : ℕ} → Sure l d ns now last → (entry : Entry) →
+    (l : Lengths) (d : Desk) {ns : List Notes} {now last : ℕ} → Sure l d ns now last → (entry : Result Input Refusal) →
     Sure l (entered d (now % turn) entry).desk (notes_entered l d entry now ns) now last
 unfolding entered
-entered_sure l d s (Refused number) = s
-entered_sure l d s (Given input) = step_sure l d s input
+entered_sure l d s (Err refusal) = s
+entered_sure l d s (Ok input) = step_sure l d s input
 
 lasting : {l : Lengths} {d : Desk} {ns : List Notes} {now last : ℕ} → Lasting l d ns now last → Sure l d ns now last
 unfolding received_bytes
@@ -588,7 +587,7 @@ nothing-early l d ns now last run j timer e =
 -- ---- the first of those whose test holds
 some_first :
     (d : Desk) (count j : ℕ) (holds : Timer → Bool) (a b c : Bool) → holds T1 ≡ a → holds T2 ≡ b → holds T3 ≡ c →
-    expiring_at count d.words j ≡ pick a (One T1) (pick b (One T2) (pick c (One T3) Nothing)) → (timer : Timer) → holds timer ≡ true → Due d count j
+    expiring_at count d.words j ≡ pick a (Some T1) (pick b (Some T2) (pick c (Some T3) None)) → (timer : Timer) → holds timer ≡ true → Due d count j
 some_first d count j holds true b c p q r e timer h = record { timer = T1; due = e }
 some_first d count j holds false true c p q r e timer h = record { timer = T2; due = e }
 some_first d count j holds false false true p q r e timer h = record { timer = T3; due = e }

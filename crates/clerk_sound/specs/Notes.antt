@@ -1,17 +1,18 @@
 -- What is noted beside each place of the clerk's desk over true time (document 02, Ask 6), to say what its timers promise: when each was started, for how many seconds, and when a tick heeded the record last.
-use Rattle.std.specs.Prelude.{ℕ, zero, suc, Bool, List, [], ◌∷◌, get_or, set}
+use Rattle.std.specs.Prelude.{ℕ, zero, suc, Bool, List, [], ◌∷◌, get_or, set, Option, Some, None, Ok, Err, Result}
 use Rattle.lists.specs.Choice.{pick}
 use Rattle.lists.specs.Lists.{without}
-use Rattle.lists.specs.declared.Found.{Found}
 use Rattle.message.specs.declared.Kind.{Kind}
 use Rattle.message.specs.declared.Kind.TheVariants.{Ccbs, Ccnr}
+use Rattle.message.specs.declared.refusal.Refusal.{Refusal}
+use Rattle.clerk_table.specs.declared.inputs.Input.{Input}
 use Rattle.desk.specs.declared.outcome.Timers.{Timers}
 use Rattle.places.specs.Notes.{Note, unstarted, started}
 use Rattle.clerk_table.specs.Step.{in_ringout}
 use Rattle.clerk_table.specs.declared.table.Timer.{Timer}
 use Rattle.clerk_table.specs.declared.table.Timer.TheVariants.{T1, T2, T3}
 use Rattle.clerk_table.specs.declared.record.Record.{Record}
-use Rattle.clerk_table.specs.declared.record.Plan.{Plan}
+use Rattle.desk.specs.declared.plan.Plan.{Plan}
 use Rattle.clerk_table.specs.declared.record.Change.{Change}
 use Rattle.clerk_table.specs.declared.record.Change.TheVariants.{Stay, Put, Turn, Remove}
 use Rattle.clerk_records.specs.Layout as Layout
@@ -22,8 +23,6 @@ use Rattle.clerk.specs.Steps.{step}
 use Rattle.clerk.specs.Ticks.{report, by_timer}
 use Rattle.clerk.specs.declared.start.Lengths.{Lengths}
 use Rattle.clerk.specs.declared.Desk.{Desk}
-use Rattle.clerk.specs.declared.entry.Entry.{Entry}
-use Rattle.clerk.specs.declared.entry.Entry.TheVariants.{Refused, Given}
 
 -- of a place: each timer of its record, and when a tick heeded the record last. In Ringout none heeds it; and where none has yet, it is the time of its storing
 pub record Notes : Type 0 where
@@ -70,22 +69,22 @@ abbrev pub notes_if : Bool → ℕ → Timer → Note → List Notes → List No
 notes_if starts i timer note ns = pick starts (set ns i (with_note timer note (get_or ns i no_notes))) ns
 
 -- each timer that a step starts is noted, at the place that its outcome tells
-abbrev pub notes_started : Lengths → ℕ → Found → Timers → List Record → List Notes → List Notes
-notes_started l now Found.Nothing starts rs ns = ns
-notes_started l now (Found.At i) starts rs ns =
+abbrev pub notes_started : Lengths → ℕ → Option ℕ → Timers → List Record → List Notes → List Notes
+notes_started l now None starts rs ns = ns
+notes_started l now (Some i) starts rs ns =
     notes_if starts.t3 i T3 (started now (seconds_of l T3 (get_or rs i blank).terms.kind))
     (notes_if starts.t2 i T2 (started now (seconds_of l T2 (get_or rs i blank).terms.kind))
     (notes_if starts.t1 i T1 (started now (seconds_of l T1 (get_or rs i blank).terms.kind)) ns))
 
 -- by the plan that is made on these records
-abbrev pub notes_after : Lengths → List Record → Plan → ℕ → List Notes → List Notes
+abbrev pub notes_after : Lengths → List Record → Plan Change → ℕ → List Notes → List Notes
 notes_after l rs plan now ns =
     notes_started l now plan.outcome.at plan.outcome.starts (records_after rs plan.change) (notes_moved plan.change now ns)
 
 -- bytes that are read are the step of an input, or refused
-abbrev pub notes_entered : Lengths → Desk → Entry → ℕ → List Notes → List Notes
-notes_entered l d (Refused number) now ns = ns
-notes_entered l d (Given input) now ns = notes_after l (records d.words) (plan_for (records d.words) input) now ns
+abbrev pub notes_entered : Lengths → Desk → Result Input Refusal → ℕ → List Notes → List Notes
+notes_entered l d (Err refusal) now ns = ns
+notes_entered l d (Ok input) now ns = notes_after l (records d.words) (plan_for (records d.words) input) now ns
 
 -- ---- a tick: with a record that expires go its notes
 -- n places are left to look at, the next is place `at`, as in `ticking`

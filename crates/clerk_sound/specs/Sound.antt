@@ -1,15 +1,15 @@
 -- The sentences of document 01 on the clerk's desk as a whole: a refusal leaves it as it was, and what every reached desk is. Each claim is a type; its proof has its name.
-use Rattle.std.specs.Prelude.{ℕ, suc, ◌≤◌, ◌<◌, ◌≡◌, Bool, true, false, List, length, get_or, set}
+use Rattle.std.specs.Prelude.{ℕ, suc, ◌≤◌, ◌<◌, ◌≡◌, Bool, true, false, List, length, get_or, set, Some, None, Ok, Result}
 use Rattle.lists.specs.Lists.{without}
 use Rattle.lists.specs.Words.{Bytes, bytes_of}
-use Rattle.lists.specs.declared.Found.TheVariants.{At, Nothing}
 use Rattle.message.specs.Number.{digits_in_range}
 use Rattle.message.specs.Format.{in_range}
+use Rattle.message.specs.declared.refusal.Refusal.TheVariants.{Full}
+use Rattle.message.specs.declared.refusal.Refusal.{Refusal}
 use Rattle.desk.specs.Letter.{identifier_of}
 use Rattle.desk.specs.declared.letter.Letter.{Letter}
 use Rattle.desk.specs.Outcome.{refused_with}
 use Rattle.desk.specs.declared.outcome.Outcome.{Outcome}
-use Rattle.desk.specs.declared.sends.Sends.TheVariants as Sends
 use Rattle.desk.specs.declared.Connection.TheVariants as Connection
 use Rattle.desk.specs.declared.Keep.TheVariants as Keep
 use Rattle.terms.specs.declared.request.Name.{Name}
@@ -32,8 +32,6 @@ use Rattle.clerk.specs.Steps.{step, entered, asked, received_bytes}
 use Rattle.clerk.specs.declared.start.Lengths.{Lengths}
 use Rattle.clerk.specs.declared.Desk.{Desk}
 use Rattle.clerk.specs.declared.entry.Asking.{Asking}
-use Rattle.clerk.specs.declared.entry.Entry.{Entry}
-use Rattle.clerk.specs.declared.entry.Entry.TheVariants.{Given}
 
 -- how a record of the clerk's desk is looked at
 abbrev pub clerk_view : View Record
@@ -41,11 +39,11 @@ clerk_view = record { used = used; name = λ r. r.terms.identifier; blank = blan
 
 -- ---- a refusal leaves the desk as it was, and tells its number and perhaps a reply: no timer, no notice, no word to clear the call, no place
 abbrev pub Same : Desk → Desk → Outcome → Type 0
-Same before after outcome = (outcome.refusal ≡ 0 → ⊥) → (after ≡ before) × (outcome ≡ refused_with outcome.refusal outcome.sending)
+Same before after outcome = (refusal : Refusal) → outcome.refusal ≡ Some refusal → (after ≡ before) × (outcome ≡ refused_with refusal outcome.sending)
 
 pub record RefusedSame : Type 0 where
   -- whatever comes in at the entry: an ask, a message, an act, a timer's report
-  pub steps : (d : Desk) (count : ℕ) (entry : Entry) → Same d (entered d count entry).desk (entered d count entry).outcome
+  pub steps : (d : Desk) (count : ℕ) (entry : Result Input Refusal) → Same d (entered d count entry).desk (entered d count entry).outcome
   pub bytes :
       (d : Desk) (count : ℕ) (bytes : List ℕ) (busy : Bool) (place : ℕ) →
       Same d (received_bytes d count bytes busy place).desk (received_bytes d count bytes busy place).outcome
@@ -80,7 +78,7 @@ pub record Typed (a : Asking) : Type 0 where
 
 -- an input as the entry makes it: an ask of values of the code's type; of all others every one will do
 pub data Fair : Input → Type 0 where
-  asks : {names : Names} {q : Request} (a : Asking) → Typed a → ask_entry a ≡ Given (Input.Ask names q) → Fair (Input.Ask names q)
+  asks : {names : Names} {q : Request} (a : Asking) → Typed a → ask_entry a ≡ Ok (Input.Ask names q) → Fair (Input.Ask names q)
   hears : (l : Letter) (busy : Bool) (place : ℕ) → Fair (Input.Message l busy place)
   acts : (name : Name) (act : Act) → Fair (Input.Act name act)
   times : (name : Name) (timer : Timer) → Fair (Input.Timer name timer)
@@ -107,8 +105,8 @@ ReachedFull = (d : Desk) → Reached d → length d.words ≡ Layout.words
 pub record Sixteen : Type 0 where
   pub most : (rs : List Record) → length rs ≡ Layout.places → stored clerk_view rs ≤ Layout.places
   -- the first place that is not used is behind all that are, and there is one exactly if fewer than 16 are
-  pub room : (rs : List Record) → Sound rs → length rs ≡ Layout.places → stored clerk_view rs < Layout.places → place rs ≡ At (stored clerk_view rs)
-  pub full : (rs : List Record) → Sound rs → length rs ≡ Layout.places → stored clerk_view rs ≡ Layout.places → place rs ≡ Nothing
+  pub room : (rs : List Record) → Sound rs → length rs ≡ Layout.places → stored clerk_view rs < Layout.places → place rs ≡ Some (stored clerk_view rs)
+  pub full : (rs : List Record) → Sound rs → length rs ≡ Layout.places → stored clerk_view rs ≡ Layout.places → place rs ≡ None
   -- a new record is one more, a record in another state is none, a removed record is one less
   pub more :
       (rs : List Record) (r : Record) → Sound rs → length rs ≡ Layout.places → stored clerk_view rs < Layout.places → used r ≡ true →
@@ -119,18 +117,18 @@ pub record Sixteen : Type 0 where
 -- an ask without an identifier, or under one that no used record has: stored behind all used ones exactly if fewer than 16 are, and 5 when 16 are
 pub record AskSixteen : Type 0 where
   pub taken :
-      (rs : List Record) (names : Names) (q : Request) → Sound rs → length rs ≡ Layout.places → identifier_means names.identifier rs ≡ Nothing →
+      (rs : List Record) (names : Names) (q : Request) → Sound rs → length rs ≡ Layout.places → identifier_means names.identifier rs ≡ None →
       stored clerk_view rs < Layout.places → decided rs (Input.Ask names q) ≡ Store (stored clerk_view rs) q
   pub refused :
-      (rs : List Record) (names : Names) (q : Request) → Sound rs → length rs ≡ Layout.places → identifier_means names.identifier rs ≡ Nothing →
-      stored clerk_view rs ≡ Layout.places → decided rs (Input.Ask names q) ≡ Refuse 5 Sends.Nothing
+      (rs : List Record) (names : Names) (q : Request) → Sound rs → length rs ≡ Layout.places → identifier_means names.identifier rs ≡ None →
+      stored clerk_view rs ≡ Layout.places → decided rs (Input.Ask names q) ≡ Refuse Full None
 
 -- an ask in range, without an identifier or under one that no used record of the desk has
 pub record Proper (d : Desk) (a : Asking) : Type 0 where
   pub typed : Typed a
   pub preference : a.preference < 3
   pub ranged : in_range (ask_message a) ≡ true
-  pub new : identifier_means (identifier_of a.identified a.identifier) (records d.words) ≡ Nothing
+  pub new : identifier_means (identifier_of a.identified a.identifier) (records d.words) ≡ None
 
 -- the record of an ask
 abbrev pub asked_record : Asking → Record
@@ -140,16 +138,16 @@ asked_record a = new_record (ask_names a) (ask_request a)
 pub record AskedBehind : Type 0 where
   pub taken :
       (d : Desk) → Reached d → (count : ℕ) (a : Asking) → Proper d a → stored clerk_view (records d.words) < Layout.places →
-      ((asked d count a).outcome.refusal ≡ 0) × (records (asked d count a).desk.words ≡ set (records d.words) (stored clerk_view (records d.words)) (asked_record a))
+      ((asked d count a).outcome.refusal ≡ None) × (records (asked d count a).desk.words ≡ set (records d.words) (stored clerk_view (records d.words)) (asked_record a))
   -- and the outcome tells its place
   pub told :
       (d : Desk) → Reached d → (count : ℕ) (a : Asking) → Proper d a → stored clerk_view (records d.words) < Layout.places →
-      (asked d count a).outcome.at ≡ At (stored clerk_view (records d.words))
-  pub refused : (d : Desk) → Reached d → (count : ℕ) (a : Asking) → Proper d a → stored clerk_view (records d.words) ≡ Layout.places → (asked d count a).outcome.refusal ≡ 5
+      (asked d count a).outcome.at ≡ Some (stored clerk_view (records d.words))
+  pub refused : (d : Desk) → Reached d → (count : ℕ) (a : Asking) → Proper d a → stored clerk_view (records d.words) ≡ Layout.places → (asked d count a).outcome.refusal ≡ Some Full
   -- a freed place is used again: after a record was removed the next ask is taken, also where the desk was full
   pub again :
       (d after : Desk) (i : ℕ) → used (get_or (records d.words) i blank) ≡ true → records after.words ≡ without blank (records d.words) i →
-      Reached after → (count : ℕ) (a : Asking) → Proper after a → (asked after count a).outcome.refusal ≡ 0
+      Reached after → (count : ℕ) (a : Asking) → Proper after a → (asked after count a).outcome.refusal ≡ None
 
 -- 16 asks are taken and the 17th is 5: so many proper asks, one after the other from the start
 pub data Asks : Desk → ℕ → Type 0 where
@@ -157,8 +155,8 @@ pub data Asks : Desk → ℕ → Type 0 where
   more : {d : Desk} {n : ℕ} (count : ℕ) (a : Asking) → Proper d a → Asks d n → Asks (asked d count a).desk (suc n)
 
 pub record SeventeenthRefused : Type 0 where
-  pub taken : (d : Desk) (n : ℕ) → Asks d n → (count : ℕ) (a : Asking) → Proper d a → n < Layout.places → (asked d count a).outcome.refusal ≡ 0
-  pub refused : (d : Desk) → Asks d Layout.places → (count : ℕ) (a : Asking) → Proper d a → (asked d count a).outcome.refusal ≡ 5
+  pub taken : (d : Desk) (n : ℕ) → Asks d n → (count : ℕ) (a : Asking) → Proper d a → n < Layout.places → (asked d count a).outcome.refusal ≡ None
+  pub refused : (d : Desk) → Asks d Layout.places → (count : ℕ) (a : Asking) → Proper d a → (asked d count a).outcome.refusal ≡ Some Full
 
 -- ---- used records stand in the order of storing
 abbrev pub InOrder : Desk → Desk → Type 0

@@ -1,5 +1,5 @@
 -- The sentences of document 02, Ask 6, on one tick of the clerk's desk: which records expire and in what order, and what is left. Each claim is a type; its proof has its name.
-use Rattle.std.specs.Prelude.{ℕ, zero, suc, ◌≡◌, false, List, [], ◌∷◌, map, length, get_or, eqb}
+use Rattle.std.specs.Prelude.{ℕ, zero, suc, ◌≡◌, false, List, [], ◌∷◌, map, length, get_or, eqb, Some, None}
 use Rattle.lists.specs.Lists as Lists
 use Rattle.lists.specs.Lists.{without}
 use Rattle.desk.specs.declared.outcome.Notice.TheVariants.{Failed}
@@ -8,7 +8,6 @@ use Rattle.clerk_table.specs.declared.table.Timer.{Timer}
 use Rattle.clerk_records.specs.Layout as Layout
 use Rattle.clerk_records.specs.Records.{blank, records}
 use Rattle.clerk_records.specs.Deadlines.{no_deadlines, deadlines, expiring_at}
-use Rattle.clerk_records.specs.declared.deadlines.Expiring.TheVariants.{Nothing, One}
 use Rattle.clerk.specs.Steps.{step}
 use Rattle.clerk.specs.Ticks.{report, by_timer, ticked, sendings}
 use Rattle.clerk.specs.declared.Desk.{Desk}
@@ -16,7 +15,7 @@ use Rattle.clerk_sound.specs.Sound.{Reached}
 
 -- ---- a record with a timer that is due: its report is taken, User A learns that the request failed, and the record goes, its deadlines with it
 pub record Expires (d : Desk) (count place : ℕ) (timer : Timer) : Type 0 where
-  pub taken : (step d count (report place timer)).outcome.refusal ≡ 0
+  pub taken : (step d count (report place timer)).outcome.refusal ≡ None
   pub told : (step d count (report place timer)).outcome.notice ≡ Failed
   -- none expires in Ringout, so there is no call to clear
   pub quiet : (step d count (report place timer)).outcome.clear ≡ false
@@ -25,7 +24,7 @@ pub record Expires (d : Desk) (count place : ℕ) (timer : Timer) : Type 0 where
 
 abbrev pub DueExpires : Type 0
 DueExpires =
-    (d : Desk) (count place : ℕ) (timer : Timer) → length d.words ≡ Layout.words → expiring_at count d.words place ≡ One timer → Expires d count place timer
+    (d : Desk) (count place : ℕ) (timer : Timer) → length d.words ≡ Layout.words → expiring_at count d.words place ≡ Some timer → Expires d count place timer
 
 -- ---- a tick: every record with a timer that is due expires, once and from the oldest on, and no other
 -- the places of those among the n from place i on
@@ -54,7 +53,7 @@ RingoutStays =
 
 -- afterwards none is due
 abbrev pub NoneDue : Type 0
-NoneDue = (d : Desk) (count : ℕ) → length d.words ≡ Layout.words → (place : ℕ) → expiring_at count (ticked d count).desk.words place ≡ Nothing
+NoneDue = (d : Desk) (count : ℕ) → length d.words ≡ Layout.words → (place : ℕ) → expiring_at count (ticked d count).desk.words place ≡ None
 
 -- a desk that is reached, after a tick
 abbrev pub TickReached : Type 0

@@ -1,5 +1,5 @@
 -- The promise of time at the clerk's desk (document 02, Ask 6): over true time in seconds that never goes back, where the count is that time modulo 2^32, a tick is made at least once a day, and no record is found in Ringout by one tick after the other for more than 2^30 seconds and a day. Each claim is a type; its proof has its name.
-use Rattle.std.specs.Prelude.{ℕ, ◌+◌, ◌%◌, ◌≤◌, ◌<◌, ◌≡◌, Bool, true, List, get_or, replicate, eqb}
+use Rattle.std.specs.Prelude.{ℕ, ◌+◌, ◌%◌, ◌≤◌, ◌<◌, ◌≡◌, Bool, true, List, get_or, replicate, eqb, Some, None}
 use Rattle.lists.specs.Lists.{count}
 use Rattle.clock.specs.Clock.{turn}
 use Rattle.places.specs.Notes.{Passed, day}
@@ -10,7 +10,6 @@ use Rattle.clerk_table.specs.declared.table.Timer.{Timer}
 use Rattle.clerk_records.specs.Layout as Layout
 use Rattle.clerk_records.specs.Records.{blank, records}
 use Rattle.clerk_records.specs.Deadlines.{expiring_at}
-use Rattle.clerk_records.specs.declared.deadlines.Expiring.TheVariants.{Nothing, One}
 use Rattle.clerk_plan.specs.Plan.{holds_for, plan_for}
 use Rattle.clerk.specs.Start.{good_lengths, started_desk}
 use Rattle.clerk.specs.Entry.{bytes_entry}
@@ -41,7 +40,7 @@ pub data Lasting (lengths : Lengths) : Desk → List Notes → ℕ → ℕ → T
       Lasting lengths (received_bytes d (now % turn) bytes busy place).desk (notes_entered lengths d (bytes_entry bytes busy place).entry now ns) now last
   -- a tick has been made (`TickLasts`): its reports are steps, and when it is over none is due. The one before was at most a day ago
   ticks :
-      {d : Desk} {ns : List Notes} {now last : ℕ} → now ≤ last + day → ((place : ℕ) → expiring_at (now % turn) d.words place ≡ Nothing) → NotLong d ns now →
+      {d : Desk} {ns : List Notes} {now last : ℕ} → now ≤ last + day → ((place : ℕ) → expiring_at (now % turn) d.words place ≡ None) → NotLong d ns now →
       Lasting lengths d ns now last → Lasting lengths d (notes_ticked now (records d.words) ns) now now
 
 -- ---- a tick carries it on
@@ -55,13 +54,13 @@ TickLasts =
 abbrev pub NothingEarly : Type 0
 NothingEarly =
     (lengths : Lengths) (d : Desk) (ns : List Notes) (now last : ℕ) → Lasting lengths d ns now last → (place : ℕ) (timer : Timer) →
-    expiring_at (now % turn) d.words place ≡ One timer → Passed (note_in (get_or ns place no_notes) timer) now
+    expiring_at (now % turn) d.words place ≡ Some timer → Passed (note_in (get_or ns place no_notes) timer) now
 
 -- ---- and every record with a timer whose seconds have passed, in a state in which the table takes its report, is due at the next tick
 pub record Due (d : Desk) (count place : ℕ) : Type 0 where
   -- that timer, or one that comes before it
   pub timer : Timer
-  pub due : expiring_at count d.words place ≡ One timer
+  pub due : expiring_at count d.words place ≡ Some timer
 
 abbrev pub DueInTick : Type 0
 DueInTick =

@@ -1,5 +1,5 @@
 -- The inputs of the clerk's desk and what each means: whom it names, the row of each message, act and timer report; the replies that go with a refusal; the choices that a result brings.
-use Rattle.std.specs.Prelude.{ℕ, Bool, eqb}
+use Rattle.std.specs.Prelude.{ℕ, Bool, eqb, Option, Some, None}
 use Rattle.lists.specs.Choice.{pick}
 use Rattle.message.specs.declared.Kind.{Kind}
 use Rattle.message.specs.declared.Kind.TheVariants.{Ccbs, Ccnr}
@@ -10,7 +10,6 @@ use Rattle.desk.specs.declared.Connection.{Connection}
 use Rattle.desk.specs.declared.Connection.TheVariants.{Ret, Rls}
 use Rattle.desk.specs.declared.Keep.{Keep}
 use Rattle.desk.specs.declared.Keep.TheVariants.{Empty, Ends, Keeps}
-use Rattle.desk.specs.declared.sends.Sends.{Sends}
 use Rattle.terms.specs.Terms.{with_choices}
 use Rattle.terms.specs.Request.{letter_names, only_identifier}
 use Rattle.terms.specs.declared.request.Names.{Names}
@@ -23,7 +22,6 @@ use Rattle.clerk_table.specs.declared.inputs.Input.{Input}
 use Rattle.clerk_table.specs.declared.inputs.Act.{Act}
 use Rattle.clerk_table.specs.declared.inputs.RecordMessage.{RecordMessage}
 use Rattle.clerk_table.specs.declared.inputs.RecordMessage.TheVariants as Message
-use Rattle.clerk_table.specs.declared.inputs.Meant.{Meant}
 
 -- ---- whom an input names
 abbrev pub names_of : Input → Names
@@ -33,19 +31,19 @@ names_of (Input.Act name act) = only_identifier name.identifier
 names_of (Input.Timer name timer) = only_identifier name.identifier
 
 -- ---- messages: types 1, 2, 6, 8 and 9 go to the line
-abbrev pub message_for : Body → Meant
-message_for (Body.CcbsRequest flags service) = Meant.NotHere
-message_for (Body.CcnrRequest flags service) = Meant.NotHere
-message_for (Body.RequestResult keep) = Meant.Record (Message.Result keep)
-message_for (Body.RequestError error) = Meant.Record (Message.Error error)
-message_for Body.CcExecPossible = Meant.Record Message.ExecPossible
-message_for Body.CcRingout = Meant.NotHere
-message_for (Body.RingoutError error) = Meant.Record (Message.RingoutError error)
-message_for Body.CcSuspend = Meant.NotHere
-message_for Body.CcResume = Meant.NotHere
-message_for Body.CcCancel = Meant.Record Message.Cancel
-message_for Body.CallAlerts = Meant.Record Message.Alerts
-message_for Body.CallFailed = Meant.Record Message.Failed
+abbrev pub message_for : Body → Option RecordMessage
+message_for (Body.CcbsRequest flags service) = None
+message_for (Body.CcnrRequest flags service) = None
+message_for (Body.RequestResult keep) = Some (Message.Result keep)
+message_for (Body.RequestError error) = Some (Message.Error error)
+message_for Body.CcExecPossible = Some Message.ExecPossible
+message_for Body.CcRingout = None
+message_for (Body.RingoutError error) = Some (Message.RingoutError error)
+message_for Body.CcSuspend = None
+message_for Body.CcResume = None
+message_for Body.CcCancel = Some Message.Cancel
+message_for Body.CallAlerts = Some Message.Alerts
+message_for Body.CallFailed = Some Message.Failed
 
 -- 1 short, 2 long
 abbrev pub error_row : ℕ → Row
@@ -94,31 +92,31 @@ row_of_timer T3 = Row.T3RunsOut
 
 -- ---- replies: ccCancel
 -- on 6, to a result (document 01) or ccExecPossible (8.1.2.6, first paragraph)
-abbrev pub reply_unmatched : RecordMessage → Sends
-reply_unmatched (Message.Result keep) = Sends.One Body.CcCancel
-reply_unmatched (Message.Error error) = Sends.Nothing
-reply_unmatched Message.ExecPossible = Sends.One Body.CcCancel
-reply_unmatched (Message.RingoutError error) = Sends.Nothing
-reply_unmatched Message.Cancel = Sends.Nothing
-reply_unmatched Message.Alerts = Sends.Nothing
-reply_unmatched Message.Failed = Sends.Nothing
+abbrev pub reply_unmatched : RecordMessage → Option Body
+reply_unmatched (Message.Result keep) = Some Body.CcCancel
+reply_unmatched (Message.Error error) = None
+reply_unmatched Message.ExecPossible = Some Body.CcCancel
+reply_unmatched (Message.RingoutError error) = None
+reply_unmatched Message.Cancel = None
+reply_unmatched Message.Alerts = None
+reply_unmatched Message.Failed = None
 
 -- on 7 or 8, to a ccExecPossible in Setup (clause 8.1.2.6: mend M3). None in Setup is 8 any more (document 02, Ask 11): for 7 and 8 there is one line all the same
-abbrev pub reply_in_setup : Carrier → Sends
-reply_in_setup Setup = Sends.One Body.CcCancel
-reply_in_setup Connect = Sends.Nothing
-reply_in_setup Facility = Sends.Nothing
-reply_in_setup ReleaseComplete = Sends.Nothing
-reply_in_setup Alerting = Sends.Nothing
+abbrev pub reply_in_setup : Carrier → Option Body
+reply_in_setup Setup = Some Body.CcCancel
+reply_in_setup Connect = None
+reply_in_setup Facility = None
+reply_in_setup ReleaseComplete = None
+reply_in_setup Alerting = None
 
-abbrev pub reply_unfit : RecordMessage → Carrier → Sends
-reply_unfit (Message.Result keep) carrier = Sends.Nothing
-reply_unfit (Message.Error error) carrier = Sends.Nothing
+abbrev pub reply_unfit : RecordMessage → Carrier → Option Body
+reply_unfit (Message.Result keep) carrier = None
+reply_unfit (Message.Error error) carrier = None
 reply_unfit Message.ExecPossible carrier = reply_in_setup carrier
-reply_unfit (Message.RingoutError error) carrier = Sends.Nothing
-reply_unfit Message.Cancel carrier = Sends.Nothing
-reply_unfit Message.Alerts carrier = Sends.Nothing
-reply_unfit Message.Failed carrier = Sends.Nothing
+reply_unfit (Message.RingoutError error) carrier = None
+reply_unfit Message.Cancel carrier = None
+reply_unfit Message.Alerts carrier = None
+reply_unfit Message.Failed carrier = None
 
 -- ---- the choices that a result brings (8.1.1.3): keep only if can-keep was sent true and keep is 1
 abbrev pub keep_chosen : Bool → ℕ → Keep
@@ -136,15 +134,15 @@ abbrev pub acknowledged : Record → ℕ → Carrier → Record
 acknowledged r keep carrier = with_terms r (with_choices r.terms (keep_chosen r.canKeep keep) (connection_meant carrier))
 
 -- every other message leaves the record as it is
-abbrev pub settled : Meant → Carrier → Record → Record
-settled (Meant.Record (Message.Result keep)) carrier r = acknowledged r keep carrier
-settled (Meant.Record (Message.Error error)) carrier r = r
-settled (Meant.Record Message.ExecPossible) carrier r = r
-settled (Meant.Record (Message.RingoutError error)) carrier r = r
-settled (Meant.Record Message.Cancel) carrier r = r
-settled (Meant.Record Message.Alerts) carrier r = r
-settled (Meant.Record Message.Failed) carrier r = r
-settled Meant.NotHere carrier r = r
+abbrev pub settled : Option RecordMessage → Carrier → Record → Record
+settled (Some (Message.Result keep)) carrier r = acknowledged r keep carrier
+settled (Some (Message.Error error)) carrier r = r
+settled (Some Message.ExecPossible) carrier r = r
+settled (Some (Message.RingoutError error)) carrier r = r
+settled (Some Message.Cancel) carrier r = r
+settled (Some Message.Alerts) carrier r = r
+settled (Some Message.Failed) carrier r = r
+settled None carrier r = r
 
 -- and so does every other input
 abbrev pub settled_by : Input → Record → Record

@@ -1,5 +1,5 @@
 -- The clerk's table: document 01, "Steps at the clerk's desk", as mended (M1, M2, M4), with the rows of document 02 (Asks 5 and 11) and the clause of H.450.9 beside each row.
-use Rattle.std.specs.Prelude.{ℕ, Bool, true, false, eqb}
+use Rattle.std.specs.Prelude.{ℕ, Bool, true, false, eqb, Option, Some, None}
 use Rattle.message.specs.declared.Kind.{Kind}
 use Rattle.message.specs.declared.Kind.TheVariants.{Ccbs}
 use Rattle.message.specs.declared.Body.{Body}
@@ -8,20 +8,17 @@ use Rattle.desk.specs.Carriers.{by_connection}
 use Rattle.desk.specs.declared.Connection.{Connection}
 use Rattle.desk.specs.declared.outcome.Notice.{Notice}
 use Rattle.desk.specs.declared.outcome.Notice.TheVariants as Says
-use Rattle.desk.specs.declared.sends.Sends.{Sends}
-use Rattle.terms.specs.declared.Becomes.{Becomes}
 use Rattle.clerk_table.specs.declared.table.State.{State}
 use Rattle.clerk_table.specs.declared.table.Row.{Row}
 use Rattle.clerk_table.specs.declared.table.Home.{Home}
-use Rattle.clerk_table.specs.declared.table.Next.{Next}
+use Rattle.desk.specs.declared.plan.Next.{Next}
 use Rattle.clerk_table.specs.declared.table.Timer.{Timer}
-use Rattle.clerk_table.specs.declared.table.Starts.{Starts}
 use Rattle.clerk_table.specs.declared.table.Stops.{Stops}
 use Rattle.clerk_table.specs.declared.table.Effect.{Effect}
 use Rattle.clerk_table.specs.declared.table.Rule.{Rule}
 use Rattle.clerk_table.specs.declared.table.State.TheVariants.{Free, WaitAck, Invoked, WaitAnswer, Ringout, Suspended}
 use Rattle.clerk_table.specs.declared.table.Home.TheVariants.{In, WhereT2Counts, WhereRetained, Always}
-use Rattle.clerk_table.specs.declared.table.Next.TheVariants.{Gone, Same, To}
+use Rattle.desk.specs.declared.plan.Next.TheVariants.{Gone, Same, To}
 use Rattle.clerk_table.specs.declared.table.Timer.TheVariants.{T1, T2, T3}
 
 -- ---- the words of the table: what stands in a column, and one word for nothing in all of them
@@ -42,21 +39,21 @@ pub data Cell : Column → Type 0 where
   -- the host is told to clear the call, where the record was in Ringout
   clears : Cell clearing
 
-abbrev kept : Cell changing → Becomes
-kept nothing = Becomes.Nothing
-kept (becomes kind) = Becomes.One kind
+abbrev kept : Cell changing → Option Kind
+kept nothing = None
+kept (becomes kind) = Some kind
 
 abbrev fallen : Cell falling → Bool
 fallen nothing = false
 fallen falls = true
 
-abbrev sent : Cell sending → Sends
-sent nothing = Sends.Nothing
-sent (sends body) = Sends.One body
+abbrev sent : Cell sending → Option Body
+sent nothing = None
+sent (sends body) = Some body
 
-abbrev started : Cell starting → Starts
-started nothing = Starts.Nothing
-started (starts timer) = Starts.One timer
+abbrev started : Cell starting → Option Timer
+started nothing = None
+started (starts timer) = Some timer
 
 abbrev stopped : Cell stopping → Stops
 stopped nothing = Stops.Nothing
@@ -72,11 +69,11 @@ cleared nothing = false
 cleared clears = true
 
 -- a row of the table: where it is taken, and what it does
-abbrev pub rule : Home → Next → Becomes → Bool → Sends → Starts → Stops → Notice → Bool → Rule
+abbrev pub rule : Home → Next State → Option Kind → Bool → Option Body → Option Timer → Stops → Notice → Bool → Rule
 rule home next kind down message start stop notice call =
     record { home = home; effect = record { next = next; kind = kind; falls = down; sends = message; starts = start; stops = stop; notice = notice; clears = call } }
 
-abbrev row : Home → Next → Cell changing → Cell falling → Cell sending → Cell starting → Cell stopping → Cell noticing → Cell clearing → Rule
+abbrev row : Home → Next State → Cell changing → Cell falling → Cell sending → Cell starting → Cell stopping → Cell noticing → Cell clearing → Rule
 row home next kind down message start stop notice call = rule home next (kept kind) (fallen down) (sent message) (started start) (stopped stop) (noticed notice) (cleared call)
 
 -- ---- the table

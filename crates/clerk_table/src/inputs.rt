@@ -6,7 +6,6 @@ ghost use Rattle.clerk_table.specs.Inputs.{names_of, message_for, row_for, row_o
 use crate::record::{Record, with_terms};
 use crate::table::{Row, Timer};
 use desk::letter::Letter;
-use desk::sends::Sends;
 use desk::{Connection, Keep};
 use message::{Body, Carrier, Kind};
 use terms::request::{Name, Names, Request, letter_names, only_identifier};
@@ -44,13 +43,6 @@ pub enum RecordMessage {
     Failed,
 }
 
-// What a message is: one about a record, or of a type that isn't for this end.
-#[derive(Clone, Copy)]
-pub enum Meant {
-    Record(RecordMessage),
-    NotHere,
-}
-
 // Whom an input names.
 pub fn names_of(input: Input) -> Names
     ensures { result ≡ names_of input }
@@ -58,40 +50,27 @@ pub fn names_of(input: Input) -> Names
     match input {
         Input::Ask(names, _) => names,
         Input::Message(l, _, _) => letter_names(l),
-        Input::Act(name, _) => {
-            let identifier = name.identifier;
-            only_identifier(identifier)
-        }
-        Input::Timer(name, _) => {
-            let identifier = name.identifier;
-            only_identifier(identifier)
-        }
+        Input::Act(name, _) | Input::Timer(name, _) => only_identifier(name.identifier),
     }
 }
 
 // Types 1, 2, 6, 8 and 9 go to the line.
-pub fn message_for(body: Body) -> Meant
+pub fn message_for(body: Body) -> Option<RecordMessage>
     ensures { result ≡ message_for body }
 {
     match body {
-        Body::CcbsRequest {
-            service: _,
-            flags: _,
-        } => Meant::NotHere,
-        Body::CcnrRequest {
-            service: _,
-            flags: _,
-        } => Meant::NotHere,
-        Body::RequestResult { keep } => Meant::Record(RecordMessage::Result(keep)),
-        Body::RequestError { error } => Meant::Record(RecordMessage::Error(error)),
-        Body::CcExecPossible => Meant::Record(RecordMessage::ExecPossible),
-        Body::CcRingout => Meant::NotHere,
-        Body::RingoutError { error } => Meant::Record(RecordMessage::RingoutError(error)),
-        Body::CcSuspend => Meant::NotHere,
-        Body::CcResume => Meant::NotHere,
-        Body::CcCancel => Meant::Record(RecordMessage::Cancel),
-        Body::CallAlerts => Meant::Record(RecordMessage::Alerts),
-        Body::CallFailed => Meant::Record(RecordMessage::Failed),
+        Body::CcbsRequest { .. } => None,
+        Body::CcnrRequest { .. } => None,
+        Body::RequestResult { keep } => Some(RecordMessage::Result(keep)),
+        Body::RequestError { error } => Some(RecordMessage::Error(error)),
+        Body::CcExecPossible => Some(RecordMessage::ExecPossible),
+        Body::CcRingout => None,
+        Body::RingoutError { error } => Some(RecordMessage::RingoutError(error)),
+        Body::CcSuspend => None,
+        Body::CcResume => None,
+        Body::CcCancel => Some(RecordMessage::Cancel),
+        Body::CallAlerts => Some(RecordMessage::Alerts),
+        Body::CallFailed => Some(RecordMessage::Failed),
     }
 }
 
@@ -99,26 +78,23 @@ fn error_row(error: u8) -> Row
     ensures { result ≡ error_row error }
 {
     if error == 1 {
-        return Row::DeniedShort;
+        Row::DeniedShort
+    } else {
+        Row::DeniedLong
     }
-    Row::DeniedLong
 }
 
 fn possible_row(busy: bool) -> Row
     ensures { result ≡ possible_row busy }
 {
-    if busy {
-        return Row::Suspends;
-    }
-    Row::Recalls
+    if busy { Row::Suspends } else { Row::Recalls }
 }
 
 fn busy_again_row(keep: Keep, kind: Kind) -> Row
     ensures { result ≡ busy_again_row keep kind }
 {
     match keep {
-        Keep::Empty => Row::BusyAgainEnded,
-        Keep::Ends => Row::BusyAgainEnded,
+        Keep::Empty | Keep::Ends => Row::BusyAgainEnded,
         Keep::Keeps => match kind {
             Kind::Ccbs => Row::BusyAgainKept,
             Kind::Ccnr => Row::BusyAgainWaiting,
@@ -130,9 +106,10 @@ fn ringout_error_row(error: u8, keep: Keep, kind: Kind) -> Row
     ensures { result ≡ ringout_error_row error keep kind }
 {
     if error == 1 {
-        return busy_again_row(keep, kind);
+        busy_again_row(keep, kind)
+    } else {
+        Row::NotMatched
     }
-    Row::NotMatched
 }
 
 // The row of a message about a record, by the host's word on User A and by the record's keep choice and kind.
@@ -175,45 +152,33 @@ pub fn row_of_timer(timer: Timer) -> Row
 }
 
 // The reply to a message that means no record: to a result and to a ccExecPossible.
-pub fn reply_unmatched(message: RecordMessage) -> Sends
+pub fn reply_unmatched(message: RecordMessage) -> Option<Body>
     ensures { result ≡ reply_unmatched message }
 {
     match message {
-        RecordMessage::Result(_) => Sends::One(Body::CcCancel),
-        RecordMessage::Error(_) => Sends::Nothing,
-        RecordMessage::ExecPossible => Sends::One(Body::CcCancel),
-        RecordMessage::RingoutError(_) => Sends::Nothing,
-        RecordMessage::Cancel => Sends::Nothing,
-        RecordMessage::Alerts => Sends::Nothing,
-        RecordMessage::Failed => Sends::Nothing,
+        RecordMessage::Result(_) => Some(Body::CcCancel),
+        RecordMessage::ExecPossible => Some(Body::CcCancel),
+        _ => None,
     }
 }
 
-fn reply_in_setup(carrier: Carrier) -> Sends
+fn reply_in_setup(carrier: Carrier) -> Option<Body>
     ensures { result ≡ reply_in_setup carrier }
 {
     match carrier {
-        Carrier::Setup => Sends::One(Body::CcCancel),
-        Carrier::Connect => Sends::Nothing,
-        Carrier::Facility => Sends::Nothing,
-        Carrier::ReleaseComplete => Sends::Nothing,
-        Carrier::Alerting => Sends::Nothing,
+        Carrier::Setup => Some(Body::CcCancel),
+        _ => None,
     }
 }
 
 // The reply to a message that its record has no row for, that fits no record in a state it is for, or that came in a carrier that isn't allowed: to a
 // ccExecPossible in Setup (mend M3).
-pub fn reply_unfit(message: RecordMessage, carrier: Carrier) -> Sends
+pub fn reply_unfit(message: RecordMessage, carrier: Carrier) -> Option<Body>
     ensures { result ≡ reply_unfit message carrier }
 {
     match message {
-        RecordMessage::Result(_) => Sends::Nothing,
-        RecordMessage::Error(_) => Sends::Nothing,
         RecordMessage::ExecPossible => reply_in_setup(carrier),
-        RecordMessage::RingoutError(_) => Sends::Nothing,
-        RecordMessage::Cancel => Sends::Nothing,
-        RecordMessage::Alerts => Sends::Nothing,
-        RecordMessage::Failed => Sends::Nothing,
+        _ => None,
     }
 }
 
@@ -221,13 +186,11 @@ pub fn reply_unfit(message: RecordMessage, carrier: Carrier) -> Sends
 fn keep_chosen(canKeep: bool, keep: u8) -> Keep
     ensures { result ≡ keep_chosen canKeep keep }
 {
-    if canKeep {
-        if keep == 1 {
-            return Keep::Keeps;
-        }
-        return Keep::Ends;
+    if canKeep && keep == 1 {
+        Keep::Keeps
+    } else {
+        Keep::Ends
     }
-    Keep::Ends
 }
 
 // Connect means RET, Release Complete means RLS.
@@ -235,38 +198,26 @@ fn connection_meant(carrier: Carrier) -> Connection
     ensures { result ≡ connection_meant carrier }
 {
     match carrier {
-        Carrier::Setup => Connection::Rls,
         Carrier::Connect => Connection::Ret,
-        Carrier::Facility => Connection::Rls,
-        Carrier::ReleaseComplete => Connection::Rls,
-        Carrier::Alerting => Connection::Rls,
+        _ => Connection::Rls,
     }
 }
 
 fn acknowledge(r: Record, keep: u8, carrier: Carrier) -> Record
     ensures { result ≡ acknowledged r keep carrier }
 {
-    let terms = r.terms;
     let chosen = keep_chosen(r.canKeep, keep);
     let connection = connection_meant(carrier);
-    with_terms(r, with_choices(terms, chosen, connection))
+    with_terms(r, with_choices(r.terms, chosen, connection))
 }
 
 // The record with the choices that a result brings; any other message brings none.
-fn settle(meant: Meant, carrier: Carrier, r: Record) -> Record
+fn settle(meant: Option<RecordMessage>, carrier: Carrier, r: Record) -> Record
     ensures { result ≡ settled meant carrier r }
 {
     match meant {
-        Meant::Record(message) => match message {
-            RecordMessage::Result(keep) => acknowledge(r, keep, carrier),
-            RecordMessage::Error(_) => r,
-            RecordMessage::ExecPossible => r,
-            RecordMessage::RingoutError(_) => r,
-            RecordMessage::Cancel => r,
-            RecordMessage::Alerts => r,
-            RecordMessage::Failed => r,
-        },
-        Meant::NotHere => r,
+        Some(RecordMessage::Result(keep)) => acknowledge(r, keep, carrier),
+        _ => r,
     }
 }
 
@@ -275,13 +226,7 @@ pub fn settle_by(input: Input, r: Record) -> Record
     ensures { result ≡ settled_by input r }
 {
     match input {
-        Input::Ask(_, _) => r,
-        Input::Message(l, _, _) => {
-            let body = l.body;
-            let carrier = l.carrier;
-            settle(message_for(body), carrier, r)
-        }
-        Input::Act(_, _) => r,
-        Input::Timer(_, _) => r,
+        Input::Message(l, _, _) => settle(message_for(l.body), l.carrier, r),
+        _ => r,
     }
 }

@@ -3,10 +3,12 @@ ghost use Rattle.std.specs.Prelude.{◌≡◌};
 ghost use Rattle.clerk_table.specs.Record.{with_terms, refused_plan};
 
 use crate::table::{Row, State};
-use desk::outcome::{Outcome, Sending, refused};
-use desk::sends::Sends;
+use desk::letter::Letter;
+use desk::outcome::refused;
+use desk::plan::Plan;
 use desk::{Connection, Keep};
-use message::Kind;
+use message::refusal::Refusal;
+use message::{Body, Kind};
 use terms::Terms;
 use terms::request::Request;
 
@@ -19,11 +21,11 @@ pub struct Record {
     pub terms: Terms,
 }
 
-// What the desk decides about an input: a refusal's number and the body of the reply that goes with it; a row of the table for the record of a place; or
+// What the desk decides about an input: a refusal and the body of the reply that goes with it; a row of the table for the record of a place; or
 // a request stored at a place.
 #[derive(Clone, Copy)]
 pub enum Decision {
-    Refuse(u8, Sends),
+    Refuse(Refusal, Option<Body>),
     Take(usize, Row),
     Store(usize, Request),
 }
@@ -47,32 +49,19 @@ pub enum Change {
     Remove(usize),
 }
 
-#[derive(Clone, Copy)]
-pub struct Plan {
-    pub change: Change,
-    pub outcome: Outcome,
-}
-
 // The record with other terms.
 pub fn with_terms(r: Record, terms: Terms) -> Record
     ensures { result ≡ with_terms r terms }
 {
-    let state = r.state;
-    Record {
-        terms,
-        state,
-        canKeep: r.canKeep,
-        down: r.down,
-    }
+    Record { terms, ..r }
 }
 
 // A refusal changes nothing.
-pub fn refused_plan(refusal: u8, reply: Sending) -> Plan
+pub fn refused_plan(refusal: Refusal, reply: Option<Letter>) -> Plan<Change>
     ensures { result ≡ refused_plan refusal reply }
 {
-    let outcome = refused(refusal, reply);
     Plan {
         change: Change::Stay,
-        outcome,
+        outcome: refused(refusal, reply),
     }
 }

@@ -2,52 +2,45 @@
 ghost use Rattle.std.specs.Prelude.{◌≡◌};
 ghost use Rattle.clerk_table.specs.Step.{down_after, turned_to, changed, only, started, running, stopped, cleared, row_taken};
 
-use crate::record::{Change, Plan, Record, Turned};
-use crate::table::{Next, Row, Starts, State, Stops, Timer, effect_of};
-use desk::carriers::sends_as;
-use desk::outcome::{Outcome, Timers, no_timers};
-use desk::sends::sent_for;
-use lists::Found;
-use terms::{Becomes, elements_of, kind_after};
+use crate::record::{Change, Record, Turned};
+use crate::table::{Row, State, Stops, Timer, effect_of};
+use desk::outcome::{NO_TIMERS, Outcome, Timers};
+use desk::plan::{Next, Plan};
+use message::Kind;
+use terms::{kind_after, sent_on};
 
 // The mark is set, and never cleared.
 fn down_after(falls: bool, down: bool) -> bool
     ensures { result ≡ down_after falls down }
 {
-    if falls {
-        return true;
-    }
-    down
+    falls || down
 }
 
 // What a row turns in a record that goes on in a state.
-fn turned_to(state: State, becomes: Becomes, falls: bool, r: Record) -> Turned
+fn turned_to(state: State, becomes: Option<Kind>, falls: bool, r: Record) -> Turned
     ensures { result ≡ turned_to state becomes falls r }
 {
-    let terms = r.terms;
-    let keep = terms.keep;
-    let connection = terms.connection;
-    let before = terms.kind;
-    let kind = kind_after(becomes, before);
-    let down = down_after(falls, r.down);
     Turned {
-        keep,
-        connection,
-        kind,
+        keep: r.terms.keep,
+        connection: r.terms.connection,
+        kind: kind_after(becomes, r.terms.kind),
         state,
-        down,
+        down: down_after(falls, r.down),
     }
 }
 
-fn changed_to(next: Next, becomes: Becomes, falls: bool, place: usize, r: Record) -> Change
+fn changed_to(
+    next: Next<State>,
+    becomes: Option<Kind>,
+    falls: bool,
+    place: usize,
+    r: Record,
+) -> Change
     ensures { result ≡ changed next becomes falls place r }
 {
     match next {
         Next::Gone => Change::Remove(place),
-        Next::Same => {
-            let state = r.state;
-            Change::Turn(place, turned_to(state, becomes, falls, r))
-        }
+        Next::Same => Change::Turn(place, turned_to(r.state, becomes, falls, r)),
         Next::To(state) => Change::Turn(place, turned_to(state, becomes, falls, r)),
     }
 }
@@ -58,32 +51,23 @@ fn only_timer(timer: Timer) -> Timers
     match timer {
         Timer::T1 => Timers {
             t1: true,
-            t2: false,
-            t3: false,
-            guard: false,
+            ..NO_TIMERS
         },
         Timer::T2 => Timers {
-            t1: false,
             t2: true,
-            t3: false,
-            guard: false,
+            ..NO_TIMERS
         },
         Timer::T3 => Timers {
-            t1: false,
-            t2: false,
             t3: true,
-            guard: false,
+            ..NO_TIMERS
         },
     }
 }
 
-fn timers_started(starts: Starts) -> Timers
+fn timers_started(starts: Option<Timer>) -> Timers
     ensures { result ≡ started starts }
 {
-    match starts {
-        Starts::Nothing => no_timers(),
-        Starts::One(timer) => only_timer(timer),
-    }
+    starts.map_or(NO_TIMERS, only_timer)
 }
 
 // T1 runs in Wait-Ack, T3 in Wait-Answer, T2 in the last four.
@@ -91,14 +75,13 @@ pub fn timers_running(state: State) -> Timers
     ensures { result ≡ running state }
 {
     match state {
-        State::Free => no_timers(),
+        State::Free => NO_TIMERS,
         State::WaitAck => only_timer(Timer::T1),
         State::Invoked => only_timer(Timer::T2),
         State::WaitAnswer => Timers {
-            t1: false,
             t2: true,
             t3: true,
-            guard: false,
+            ..NO_TIMERS
         },
         State::Ringout => only_timer(Timer::T2),
         State::Suspended => only_timer(Timer::T2),
@@ -109,7 +92,7 @@ fn timers_stopped(stops: Stops, state: State) -> Timers
     ensures { result ≡ stopped stops state }
 {
     match stops {
-        Stops::Nothing => no_timers(),
+        Stops::Nothing => NO_TIMERS,
         Stops::One(timer) => only_timer(timer),
         Stops::Running => timers_running(state),
     }
@@ -118,49 +101,24 @@ fn timers_stopped(stops: Stops, state: State) -> Timers
 fn call_cleared(clears: bool, state: State) -> bool
     ensures { result ≡ cleared clears state }
 {
-    if clears {
-        return match state {
-            State::Free => false,
-            State::WaitAck => false,
-            State::Invoked => false,
-            State::WaitAnswer => false,
-            State::Ringout => true,
-            State::Suspended => false,
-        };
-    }
-    false
+    clears && state == State::Ringout
 }
 
 // A row that is taken for the record of a place.
 #[tactic(auto, unfolding(crate::specs::Step::row_taken))]
-pub fn take_row(place: usize, r: Record, row: Row) -> Plan
+pub fn take_row(place: usize, r: Record, row: Row) -> Plan<Change>
     ensures { result ≡ row_taken place r row }
 {
     let effect = effect_of(row);
-    let next = effect.next;
-    let becomes = effect.kind;
-    let sends = effect.sends;
-    let starts = effect.starts;
-    let stops = effect.stops;
-    let notice = effect.notice;
-    let state = r.state;
-    let terms = r.terms;
-    let elements = elements_of(terms);
-    let chosen = terms.connection;
-    let connection = sends_as(chosen, r.down);
-    let change = changed_to(next, becomes, effect.falls, place, r);
-    let sending = sent_for(sends, elements, connection);
-    let started = timers_started(starts);
-    let stopped = timers_stopped(stops, state);
-    let clear = call_cleared(effect.clears, state);
+    let change = changed_to(effect.next, effect.kind, effect.falls, place, r);
     let outcome = Outcome {
-        refusal: 0,
-        sending,
-        starts: started,
-        stops: stopped,
-        notice,
-        clear,
-        at: Found::At(place),
+        refusal: None,
+        sending: sent_on(r.terms, r.down, effect.sends),
+        starts: timers_started(effect.starts),
+        stops: timers_stopped(effect.stops, r.state),
+        notice: effect.notice,
+        clear: call_cleared(effect.clears, r.state),
+        at: Some(place),
     };
     Plan { change, outcome }
 }

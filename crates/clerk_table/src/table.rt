@@ -1,24 +1,18 @@
 // The clerk's table: document 01, "Steps at the clerk's desk", one row for each of its steps, with the clause of H.450.9 beside it.
 // A row says in which states it is taken and what it does; everything else about the clerk's desk reads it here.
-ghost use Rattle.std.specs.Prelude.{◌≡◌, true, false};
+ghost use Rattle.std.specs.Prelude.{◌≡◌, false};
 ghost use Rattle.message.specs.declared.Body.TheVariants.{CcCancel};
-ghost use Rattle.desk.specs.declared.sends.Sends.TheVariants as Sends;
-ghost use Rattle.desk.specs.declared.outcome.Notice.TheVariants.{Silent};
-ghost use Rattle.clerk_table.specs.declared.table.Home.TheVariants.{WhereRetained};
-ghost use Rattle.terms.specs.declared.Becomes.TheVariants as Becomes;
-ghost use Rattle.clerk_table.specs.declared.table.Next.TheVariants.{Gone, Same, To};
-ghost use Rattle.clerk_table.specs.declared.table.Starts.TheVariants as Starts;
+ghost use Rattle.desk.specs.declared.plan.Next.TheVariants.{Gone};
 ghost use Rattle.clerk_table.specs.declared.table.Stops.TheVariants as Stops;
-ghost use Rattle.clerk_table.specs.Table.{rule, rule_of, home_of, effect_of, state_code, same_state, t2_counts, behind, in_use, holds_in};
+ghost use Rattle.clerk_table.specs.Table.{rule, rule_of, home_of, effect_of, state_code, t2_counts, behind, in_use, holds_in};
 
 use desk::Connection;
 use desk::outcome::Notice;
-use desk::sends::Sends;
+use desk::plan::Next;
 use message::{Body, Kind};
-use terms::Becomes;
 
 // Free is a place with no record, CC-Idle. Invoked stands for CC-Invoked-User-A-RET or -RLS, by the connection choice.
-#[derive(Clone, Copy)]
+#[derive(Clone, Copy, PartialEq, Eq)]
 pub enum State {
     Free,
     WaitAck,
@@ -81,25 +75,11 @@ pub enum Home {
     Always,
 }
 
-// What becomes of the record: deleted, in the state that it is in, or on to a state.
-#[derive(Clone, Copy)]
-pub enum Next {
-    Gone,
-    Same,
-    To(State),
-}
-
 #[derive(Clone, Copy)]
 pub enum Timer {
     T1,
     T2,
     T3,
-}
-
-#[derive(Clone, Copy)]
-pub enum Starts {
-    Nothing,
-    One(Timer),
 }
 
 // Running: all that run in the record's state, as a delete does.
@@ -113,12 +93,12 @@ pub enum Stops {
 // What becomes of the record and of its kind, what is sent, started and stopped, and what the host is told.
 #[derive(Clone, Copy)]
 pub struct Effect {
-    pub next: Next,
-    pub kind: Becomes,
+    pub next: Next<State>,
+    pub kind: Option<Kind>,
     // the mark "connection down" is set
     pub falls: bool,
-    pub sends: Sends,
-    pub starts: Starts,
+    pub sends: Option<Body>,
+    pub starts: Option<Timer>,
     pub stops: Stops,
     pub notice: Notice,
     // the host is told to clear the call, where the record was in Ringout
@@ -132,83 +112,45 @@ pub struct Rule {
     pub effect: Effect,
 }
 
-// The record goes on to a state.
-fn goes(
-    home: Home,
-    state: State,
-    kind: Becomes,
-    sends: Sends,
-    starts: Starts,
-    stops: Stops,
-    notice: Notice,
-) -> Rule
-    ensures { result ≡ rule home (To state) kind false sends starts stops notice false }
-{
-    let effect = Effect {
-        next: Next::To(state),
-        kind,
-        falls: false,
-        sends,
-        starts,
-        stops,
-        notice,
-        clears: false,
-    };
-    Rule { home, effect }
-}
+// A row that changes nothing and says nothing: each row below names what it does beside that.
+const QUIET: Effect = Effect {
+    next: Next::Same,
+    kind: None,
+    falls: false,
+    sends: None,
+    starts: None,
+    stops: Stops::Nothing,
+    notice: Notice::Silent,
+    clears: false,
+};
 
-// The record is deleted, and nothing is sent.
-fn ends(home: Home, notice: Notice, clears: bool) -> Rule
-    ensures { result ≡ rule home Gone Becomes.Nothing false Sends.Nothing Starts.Nothing Stops.Running notice clears }
-{
-    let effect = Effect {
-        next: Next::Gone,
-        kind: Becomes::Nothing,
-        falls: false,
-        sends: Sends::Nothing,
-        starts: Starts::Nothing,
-        stops: Stops::Running,
-        notice,
-        clears,
-    };
-    Rule { home, effect }
-}
+// The record is deleted.
+const ENDS: Effect = Effect {
+    next: Next::Gone,
+    stops: Stops::Running,
+    ..QUIET
+};
 
 // The record is deleted, and a ccCancel is sent.
-fn cancels(home: Home, notice: Notice, clears: bool) -> Rule
-    ensures { result ≡ rule home Gone Becomes.Nothing false (Sends.One CcCancel) Starts.Nothing Stops.Running notice clears }
+const CANCELS: Effect = Effect {
+    sends: Some(Body::CcCancel),
+    ..ENDS
+};
+
+// A row that deletes the record, with a notice.
+fn ends(home: Home, notice: Notice) -> Rule
+    ensures { result ≡ rule home Gone None false None None Stops.Running notice false }
 {
-    let effect = Effect {
-        next: Next::Gone,
-        kind: Becomes::Nothing,
-        falls: false,
-        sends: Sends::One(Body::CcCancel),
-        starts: Starts::Nothing,
-        stops: Stops::Running,
-        notice,
-        clears,
-    };
+    let effect = Effect { notice, ..ENDS };
     Rule { home, effect }
 }
 
-// The mark "connection down" is set; the record stays in its state.
-fn falls() -> Rule
-    ensures { result ≡ rule WhereRetained Same Becomes.Nothing true Sends.Nothing Starts.Nothing Stops.Nothing Silent false }
+// A row that sends a ccCancel besides.
+fn cancels(home: Home, notice: Notice) -> Rule
+    ensures { result ≡ rule home Gone None false (Some CcCancel) None Stops.Running notice false }
 {
-    let effect = Effect {
-        next: Next::Same,
-        kind: Becomes::Nothing,
-        falls: true,
-        sends: Sends::Nothing,
-        starts: Starts::Nothing,
-        stops: Stops::Nothing,
-        notice: Notice::Silent,
-        clears: false,
-    };
-    Rule {
-        home: Home::WhereRetained,
-        effect,
-    }
+    let effect = Effect { notice, ..CANCELS };
+    Rule { home, effect }
 }
 
 // The table: where a row is taken, and what it does.
@@ -216,90 +158,108 @@ pub fn rule_of(row: Row) -> Rule
     ensures { result ≡ rule_of row }
 {
     match row {
-        Row::Accepted => goes(
-            Home::In(State::WaitAck),
-            State::Invoked,
-            Becomes::Nothing,
-            Sends::Nothing,
-            Starts::One(Timer::T2),
-            Stops::One(Timer::T1),
-            Notice::Accepted,
-        ),
-        Row::DeniedShort => ends(Home::In(State::WaitAck), Notice::DeniedShort, false),
-        Row::DeniedLong => ends(Home::In(State::WaitAck), Notice::DeniedLong, false),
-        Row::Recalls => goes(
-            Home::In(State::Invoked),
-            State::WaitAnswer,
-            Becomes::Nothing,
-            Sends::Nothing,
-            Starts::One(Timer::T3),
-            Stops::Nothing,
-            Notice::Recall,
-        ),
-        Row::Suspends => goes(
-            Home::In(State::Invoked),
-            State::Suspended,
-            Becomes::Nothing,
-            Sends::One(Body::CcSuspend),
-            Starts::Nothing,
-            Stops::Nothing,
-            Notice::Silent,
-        ),
-        Row::RingsOut => goes(
-            Home::In(State::WaitAnswer),
-            State::Ringout,
-            Becomes::Nothing,
-            Sends::One(Body::CcRingout),
-            Starts::Nothing,
-            Stops::One(Timer::T3),
-            Notice::Silent,
-        ),
-        Row::Resumes => goes(
-            Home::In(State::Suspended),
-            State::Invoked,
-            Becomes::Nothing,
-            Sends::One(Body::CcResume),
-            Starts::Nothing,
-            Stops::Nothing,
-            Notice::Silent,
-        ),
-        Row::GoesOn => goes(
-            Home::In(State::Suspended),
-            State::WaitAnswer,
-            Becomes::Nothing,
-            Sends::Nothing,
-            Starts::One(Timer::T3),
-            Stops::Nothing,
-            Notice::Recall,
-        ),
-        Row::Completes => ends(Home::In(State::Ringout), Notice::Completed, false),
-        Row::CallFails => cancels(Home::In(State::Ringout), Notice::Failed, false),
-        Row::BusyAgainKept => goes(
-            Home::In(State::Ringout),
-            State::Invoked,
-            Becomes::Nothing,
-            Sends::Nothing,
-            Starts::Nothing,
-            Stops::Nothing,
-            Notice::BusyAgainKept,
-        ),
-        Row::BusyAgainWaiting => goes(
-            Home::In(State::Ringout),
-            State::Invoked,
-            Becomes::One(Kind::Ccbs),
-            Sends::Nothing,
-            Starts::Nothing,
-            Stops::Nothing,
-            Notice::BusyAgainWaiting,
-        ),
-        Row::BusyAgainEnded => ends(Home::In(State::Ringout), Notice::BusyAgainEnded, false),
-        Row::NotMatched => ends(Home::In(State::Ringout), Notice::Failed, false),
-        Row::LineCancels => ends(Home::Always, Notice::Failed, true),
-        Row::UserCancels => cancels(Home::Always, Notice::Cancelled, true),
-        Row::Falls => falls(),
-        Row::T1RunsOut => cancels(Home::In(State::WaitAck), Notice::Failed, false),
-        Row::T2RunsOut => cancels(Home::WhereT2Counts, Notice::Failed, false),
-        Row::T3RunsOut => cancels(Home::In(State::WaitAnswer), Notice::Failed, false),
+        Row::Accepted => Rule {
+            home: Home::In(State::WaitAck),
+            effect: Effect {
+                next: Next::To(State::Invoked),
+                starts: Some(Timer::T2),
+                stops: Stops::One(Timer::T1),
+                notice: Notice::Accepted,
+                ..QUIET
+            },
+        },
+        Row::DeniedShort => ends(Home::In(State::WaitAck), Notice::DeniedShort),
+        Row::DeniedLong => ends(Home::In(State::WaitAck), Notice::DeniedLong),
+        Row::Recalls => Rule {
+            home: Home::In(State::Invoked),
+            effect: Effect {
+                next: Next::To(State::WaitAnswer),
+                starts: Some(Timer::T3),
+                notice: Notice::Recall,
+                ..QUIET
+            },
+        },
+        Row::Suspends => Rule {
+            home: Home::In(State::Invoked),
+            effect: Effect {
+                next: Next::To(State::Suspended),
+                sends: Some(Body::CcSuspend),
+                ..QUIET
+            },
+        },
+        Row::RingsOut => Rule {
+            home: Home::In(State::WaitAnswer),
+            effect: Effect {
+                next: Next::To(State::Ringout),
+                sends: Some(Body::CcRingout),
+                stops: Stops::One(Timer::T3),
+                ..QUIET
+            },
+        },
+        Row::Resumes => Rule {
+            home: Home::In(State::Suspended),
+            effect: Effect {
+                next: Next::To(State::Invoked),
+                sends: Some(Body::CcResume),
+                ..QUIET
+            },
+        },
+        Row::GoesOn => Rule {
+            home: Home::In(State::Suspended),
+            effect: Effect {
+                next: Next::To(State::WaitAnswer),
+                starts: Some(Timer::T3),
+                notice: Notice::Recall,
+                ..QUIET
+            },
+        },
+        Row::Completes => ends(Home::In(State::Ringout), Notice::Completed),
+        Row::CallFails => cancels(Home::In(State::Ringout), Notice::Failed),
+        Row::BusyAgainKept => Rule {
+            home: Home::In(State::Ringout),
+            effect: Effect {
+                next: Next::To(State::Invoked),
+                notice: Notice::BusyAgainKept,
+                ..QUIET
+            },
+        },
+        Row::BusyAgainWaiting => Rule {
+            home: Home::In(State::Ringout),
+            effect: Effect {
+                next: Next::To(State::Invoked),
+                kind: Some(Kind::Ccbs),
+                notice: Notice::BusyAgainWaiting,
+                ..QUIET
+            },
+        },
+        Row::BusyAgainEnded => ends(Home::In(State::Ringout), Notice::BusyAgainEnded),
+        Row::NotMatched => ends(Home::In(State::Ringout), Notice::Failed),
+        Row::LineCancels => Rule {
+            home: Home::Always,
+            effect: Effect {
+                notice: Notice::Failed,
+                clears: true,
+                ..ENDS
+            },
+        },
+        Row::UserCancels => Rule {
+            home: Home::Always,
+            effect: Effect {
+                notice: Notice::Cancelled,
+                clears: true,
+                ..CANCELS
+            },
+        },
+        Row::Falls => Rule {
+            home: Home::WhereRetained,
+            effect: Effect {
+                falls: true,
+                ..QUIET
+            },
+        },
+        Row::T1RunsOut => cancels(Home::In(State::WaitAck), Notice::Failed),
+        Row::T2RunsOut => cancels(Home::WhereT2Counts, Notice::Failed),
+        Row::T3RunsOut => cancels(Home::In(State::WaitAnswer), Notice::Failed),
     }
 }
 
@@ -307,16 +267,14 @@ pub fn rule_of(row: Row) -> Rule
 pub fn home_of(row: Row) -> Home
     ensures { result ≡ home_of row }
 {
-    let rule = rule_of(row);
-    rule.home
+    rule_of(row).home
 }
 
 // What a row does.
 pub fn effect_of(row: Row) -> Effect
     ensures { result ≡ effect_of row }
 {
-    let rule = rule_of(row);
-    rule.effect
+    rule_of(row).effect
 }
 
 // A state's number: its word at rest, and what tells two states apart.
@@ -333,53 +291,25 @@ pub fn state_code(state: State) -> u64
     }
 }
 
-// Whether two states are the same.
-fn same_state(a: State, b: State) -> bool
-    ensures { result ≡ same_state a b }
-{
-    state_code(a) == state_code(b)
-}
-
 // T2 runs in the last four states, and in Ringout it doesn't count (mend M1).
 fn t2_counts(state: State) -> bool
     ensures { result ≡ t2_counts state }
 {
-    match state {
-        State::Free => false,
-        State::WaitAck => false,
-        State::Invoked => true,
-        State::WaitAnswer => true,
-        State::Ringout => false,
-        State::Suspended => true,
-    }
+    matches!(state, State::Invoked | State::WaitAnswer | State::Suspended)
 }
 
 // Whether a state is behind the acknowledgment.
 fn is_behind(state: State) -> bool
     ensures { result ≡ behind state }
 {
-    match state {
-        State::Free => false,
-        State::WaitAck => false,
-        State::Invoked => true,
-        State::WaitAnswer => true,
-        State::Ringout => true,
-        State::Suspended => true,
-    }
+    !matches!(state, State::Free | State::WaitAck)
 }
 
 // Whether a place is used: its record has a state.
 fn in_use(state: State) -> bool
     ensures { result ≡ in_use state }
 {
-    match state {
-        State::Free => false,
-        State::WaitAck => true,
-        State::Invoked => true,
-        State::WaitAnswer => true,
-        State::Ringout => true,
-        State::Suspended => true,
-    }
+    state != State::Free
 }
 
 // Whether a row is taken in a state, and for a connection choice.
@@ -387,13 +317,9 @@ pub fn holds_in(home: Home, state: State, connection: Connection) -> bool
     ensures { result ≡ holds_in home state connection }
 {
     match home {
-        Home::In(only) => same_state(only, state),
+        Home::In(only) => only == state,
         Home::WhereT2Counts => t2_counts(state),
-        Home::WhereRetained => match connection {
-            Connection::Empty => false,
-            Connection::Ret => is_behind(state),
-            Connection::Rls => false,
-        },
+        Home::WhereRetained => connection == Connection::Ret && is_behind(state),
         Home::Always => in_use(state),
     }
 }

@@ -1,32 +1,30 @@
 -- A message in flight: identifier and numbers of digits as pairs of words, 0 behind the last digit.
-use Rattle.std.specs.Prelude.{ℕ, Bool, true, false, List}
+use Rattle.std.specs.Prelude.{ℕ, Bool, true, false, List, Option, Some, None}
 use Rattle.lists.specs.Choice.{pick}
 use Rattle.lists.specs.Words.{words_of, bytes_of, same_words}
 use Rattle.lists.specs.declared.words.Words.{Words}
 use Rattle.message.specs.Number.{digits_bytes, sixteen}
 use Rattle.message.specs.declared.Message.{Message}
-use Rattle.desk.specs.declared.letter.Identifier.{Identifier}
-use Rattle.desk.specs.declared.letter.Identifier.TheVariants.{Absent, Is}
 use Rattle.desk.specs.declared.letter.Letter.{Letter}
 
 -- ---- identifiers: there is one, or none (document 02, Ask 1)
-unfoldable pub identifier_of : Bool → List ℕ → Identifier
-identifier_of identified bytes = pick identified (Is (words_of bytes)) Absent
+unfoldable pub identifier_of : Bool → List ℕ → Option Words
+identifier_of identified bytes = pick identified (Some (words_of bytes)) None
 
-abbrev pub is_identified : Identifier → Bool
-is_identified Absent = false
-is_identified (Is words) = true
+abbrev pub is_identified : Option Words → Bool
+is_identified None = false
+is_identified (Some words) = true
 
 -- 0 where there is none
-abbrev pub identifier_words : Identifier → Words
-identifier_words Absent = record { low = 0; high = 0 }
-identifier_words (Is words) = words
+abbrev pub identifier_words : Option Words → Words
+identifier_words None = record { low = 0; high = 0 }
+identifier_words (Some words) = words
 
 -- two are the same only where both are there
-abbrev pub same_identifier : Identifier → Identifier → Bool
-same_identifier Absent b = false
-same_identifier (Is own) Absent = false
-same_identifier (Is own) (Is other) = same_words own other
+abbrev pub same_identifier : Option Words → Option Words → Bool
+same_identifier None b = false
+same_identifier (Some own) None = false
+same_identifier (Some own) (Some other) = same_words own other
 
 -- ---- letters
 -- a number of digits as words: length, digits, zeros

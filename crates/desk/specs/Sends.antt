@@ -1,27 +1,23 @@
 -- What a desk sends: a message of a row of its table, or the answer to a message that it refuses or denies.
+use Rattle.std.specs.Prelude.{Option, Some, None}
 use Rattle.lists.specs.Choice.{pick}
 use Rattle.lists.specs.declared.words.Words.{Words}
 use Rattle.message.specs.Format.{has_elements}
 use Rattle.message.specs.declared.Carrier.{Carrier}
 use Rattle.message.specs.declared.Carrier.TheVariants.{ReleaseComplete}
 use Rattle.message.specs.declared.Body.{Body}
-use Rattle.message.specs.declared.Service.TheVariants.{Absent, Is}
 use Rattle.desk.specs.Carriers.{sent_in}
 use Rattle.desk.specs.declared.Connection.{Connection}
-use Rattle.desk.specs.declared.letter.Identifier.{Identifier}
 use Rattle.desk.specs.declared.letter.Letter.{Letter}
-use Rattle.desk.specs.declared.outcome.Sending.{Sending}
 use Rattle.desk.specs.declared.sends.Elements.{Elements}
-use Rattle.desk.specs.declared.sends.Sends.{Sends}
-use Rattle.desk.specs.declared.sends.Sends.TheVariants as Sent
 
 -- ---- a message without numbers of digits and service, and one with all that a record gives it
 abbrev pub no_number : Words
 no_number = record { low = 0; high = 0 }
 
-abbrev pub plain_letter : Identifier → Carrier → Body → Letter
+abbrev pub plain_letter : Option Words → Carrier → Body → Letter
 plain_letter identifier carrier body =
-    record { carrier = carrier; identifier = identifier; numberA = no_number; numberB = no_number; service = Absent; body = body }
+    record { carrier = carrier; identifier = identifier; numberA = no_number; numberB = no_number; service = None; body = body }
 
 abbrev pub full_letter : Elements → Carrier → Body → Letter
 full_letter elements carrier body =
@@ -30,7 +26,7 @@ full_letter elements carrier body =
       identifier = elements.identifier;
       numberA = elements.numberA;
       numberB = elements.numberB;
-      service = Is elements.service;
+      service = Some elements.service;
       body = body;
     }
 
@@ -39,15 +35,15 @@ abbrev pub record_letter : Elements → Carrier → Body → Letter
 record_letter elements carrier body = pick (has_elements body carrier) (full_letter elements carrier body) (plain_letter elements.identifier carrier body)
 
 -- in the carrier of its type and of the record's connection choice
-abbrev pub sent : Sends → Elements → Connection → Sending
-sent Sent.Nothing elements connection = Sending.Nothing
-sent (Sent.One body) elements connection = Sending.Send (record_letter elements (sent_in body connection) body)
+abbrev pub sent : Option Body → Elements → Connection → Option Letter
+sent None elements connection = None
+sent (Some body) elements connection = Some (record_letter elements (sent_in body connection) body)
 
 -- ---- an answer in Release Complete with the identifier of what it answers, or none: the reply to a refused message, the error of a request that is denied
-abbrev pub replied : Identifier → Body → Sending
-replied identifier body = Sending.Send (plain_letter identifier ReleaseComplete body)
+abbrev pub replied : Option Words → Body → Option Letter
+replied identifier body = Some (plain_letter identifier ReleaseComplete body)
 
 -- the answer that goes with a refusal, or none
-abbrev pub answered : Identifier → Sends → Sending
-answered identifier Sent.Nothing = Sending.Nothing
-answered identifier (Sent.One body) = replied identifier body
+abbrev pub answered : Option Words → Option Body → Option Letter
+answered identifier None = None
+answered identifier (Some body) = replied identifier body

@@ -16,70 +16,63 @@ struct Allowed {
     alerting: bool,
 }
 
-const ONLY_SETUP: Allowed = Allowed {
-    setup: true,
+const NONE: Allowed = Allowed {
+    setup: false,
     connect: false,
     facility: false,
     releaseComplete: false,
     alerting: false,
 };
 
+const ONLY_SETUP: Allowed = Allowed {
+    setup: true,
+    ..NONE
+};
+
 const ONLY_RELEASE_COMPLETE: Allowed = Allowed {
-    setup: false,
-    connect: false,
-    facility: false,
     releaseComplete: true,
-    alerting: false,
+    ..NONE
 };
 
 // Facility, or one that RLS is received in, Release Complete or Connect.
 const FACILITY_OR_RELEASED: Allowed = Allowed {
-    setup: false,
-    connect: true,
     facility: true,
+    connect: true,
     releaseComplete: true,
-    alerting: false,
+    ..NONE
 };
 
 const CONNECT_OR_RELEASE_COMPLETE: Allowed = Allowed {
-    setup: false,
     connect: true,
-    facility: false,
     releaseComplete: true,
-    alerting: false,
+    ..NONE
 };
 
 const SETUP_OR_RELEASE_COMPLETE: Allowed = Allowed {
     setup: true,
-    connect: false,
-    facility: false,
     releaseComplete: true,
-    alerting: false,
+    ..NONE
 };
 
 const FACILITY_OR_SETUP: Allowed = Allowed {
-    setup: true,
-    connect: false,
     facility: true,
-    releaseComplete: false,
-    alerting: false,
+    setup: true,
+    ..NONE
 };
 
 const ALERTING_OR_CONNECT: Allowed = Allowed {
-    setup: false,
-    connect: true,
-    facility: false,
-    releaseComplete: false,
     alerting: true,
+    connect: true,
+    ..NONE
 };
 
-fn allowed_by(connection: Connection, retained: Allowed, released: Allowed) -> Allowed
+// By the connection choice; an empty one, of a request or before the acknowledgment, reads as RLS.
+fn by_connection<T: Drop>(connection: Connection, retained: T, released: T) -> T
     ensures { result ≡ by_connection connection retained released }
 {
     match connection {
-        Connection::Empty => released,
         Connection::Ret => retained,
-        Connection::Rls => released,
+        Connection::Empty | Connection::Rls => released,
     }
 }
 
@@ -87,25 +80,19 @@ fn allowed_for(body: Body, connection: Connection) -> Allowed
     ensures { result ≡ allowed_for body connection }
 {
     match body {
-        Body::CcbsRequest {
-            service: _,
-            flags: _,
-        } => ONLY_SETUP,
-        Body::CcnrRequest {
-            service: _,
-            flags: _,
-        } => ONLY_SETUP,
-        Body::RequestResult { keep: _ } => CONNECT_OR_RELEASE_COMPLETE,
-        Body::RequestError { error: _ } => ONLY_RELEASE_COMPLETE,
-        Body::CcExecPossible => allowed_by(connection, FACILITY_OR_SETUP, ONLY_SETUP),
+        Body::CcbsRequest { .. } => ONLY_SETUP,
+        Body::CcnrRequest { .. } => ONLY_SETUP,
+        Body::RequestResult { .. } => CONNECT_OR_RELEASE_COMPLETE,
+        Body::RequestError { .. } => ONLY_RELEASE_COMPLETE,
+        Body::CcExecPossible => by_connection(connection, FACILITY_OR_SETUP, ONLY_SETUP),
         Body::CcRingout => ONLY_SETUP,
-        Body::RingoutError { error: _ } => ONLY_RELEASE_COMPLETE,
-        Body::CcSuspend => allowed_by(
+        Body::RingoutError { .. } => ONLY_RELEASE_COMPLETE,
+        Body::CcSuspend => by_connection(
             connection,
             FACILITY_OR_RELEASED,
             CONNECT_OR_RELEASE_COMPLETE,
         ),
-        Body::CcResume => allowed_by(connection, FACILITY_OR_SETUP, ONLY_SETUP),
+        Body::CcResume => by_connection(connection, FACILITY_OR_SETUP, ONLY_SETUP),
         Body::CcCancel => SETUP_OR_RELEASE_COMPLETE,
         Body::CallAlerts => ALERTING_OR_CONNECT,
         Body::CallFailed => ONLY_RELEASE_COMPLETE,
@@ -132,23 +119,12 @@ pub fn carrier_fits(body: Body, connection: Connection, carrier: Carrier) -> boo
     takes_carrier(allowed_for(body, connection), carrier)
 }
 
-fn carrier_by(connection: Connection, retained: Carrier, released: Carrier) -> Carrier
-    ensures { result ≡ by_connection connection retained released }
-{
-    match connection {
-        Connection::Empty => released,
-        Connection::Ret => retained,
-        Connection::Rls => released,
-    }
-}
-
 fn cancel_in(connection: Connection) -> Carrier
     ensures { result ≡ cancel_in connection }
 {
     match connection {
-        Connection::Empty => Carrier::ReleaseComplete,
-        Connection::Ret => Carrier::ReleaseComplete,
         Connection::Rls => Carrier::Setup,
+        Connection::Empty | Connection::Ret => Carrier::ReleaseComplete,
     }
 }
 
@@ -157,14 +133,8 @@ pub fn sends_as(connection: Connection, down: bool) -> Connection
     ensures { result ≡ sends_as connection down }
 {
     match connection {
-        Connection::Empty => Connection::Empty,
-        Connection::Ret => {
-            if down {
-                return Connection::Rls;
-            }
-            Connection::Ret
-        }
-        Connection::Rls => Connection::Rls,
+        Connection::Ret if down => Connection::Rls,
+        _ => connection,
     }
 }
 
@@ -173,25 +143,19 @@ pub fn sent_in(body: Body, connection: Connection) -> Carrier
     ensures { result ≡ sent_in body connection }
 {
     match body {
-        Body::CcbsRequest {
-            service: _,
-            flags: _,
-        } => Carrier::Setup,
-        Body::CcnrRequest {
-            service: _,
-            flags: _,
-        } => Carrier::Setup,
-        Body::RequestResult { keep: _ } => carrier_by(
+        Body::CcbsRequest { .. } => Carrier::Setup,
+        Body::CcnrRequest { .. } => Carrier::Setup,
+        Body::RequestResult { .. } => by_connection(
             connection,
             Carrier::Connect,
             Carrier::ReleaseComplete,
         ),
-        Body::RequestError { error: _ } => Carrier::ReleaseComplete,
-        Body::CcExecPossible => carrier_by(connection, Carrier::Facility, Carrier::Setup),
+        Body::RequestError { .. } => Carrier::ReleaseComplete,
+        Body::CcExecPossible => by_connection(connection, Carrier::Facility, Carrier::Setup),
         Body::CcRingout => Carrier::Setup,
-        Body::RingoutError { error: _ } => Carrier::ReleaseComplete,
-        Body::CcSuspend => carrier_by(connection, Carrier::Facility, Carrier::ReleaseComplete),
-        Body::CcResume => carrier_by(connection, Carrier::Facility, Carrier::Setup),
+        Body::RingoutError { .. } => Carrier::ReleaseComplete,
+        Body::CcSuspend => by_connection(connection, Carrier::Facility, Carrier::ReleaseComplete),
+        Body::CcResume => by_connection(connection, Carrier::Facility, Carrier::Setup),
         Body::CcCancel => cancel_in(connection),
         Body::CallAlerts => Carrier::Alerting,
         Body::CallFailed => Carrier::ReleaseComplete,

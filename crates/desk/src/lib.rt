@@ -4,12 +4,15 @@
 #![tactic(auto)]
 
 pub mod carriers;
+pub mod entry;
 pub mod letter;
 pub mod outcome;
+pub mod plan;
 pub mod sends;
+pub mod steps;
 
 // The connection choice: empty until the acknowledgment, then RET or RLS for life.
-#[derive(Clone, Copy)]
+#[derive(Clone, Copy, PartialEq, Eq)]
 pub enum Connection {
     Empty,
     Ret,
@@ -17,7 +20,7 @@ pub enum Connection {
 }
 
 // The keep choice: empty until the acknowledgment.
-#[derive(Clone, Copy)]
+#[derive(Clone, Copy, PartialEq, Eq)]
 pub enum Keep {
     Empty,
     Ends,

@@ -4,29 +4,21 @@ ghost use Rattle.desk.specs.Sends.{plain_letter, full_letter, record_letter, sen
 
 use crate::Connection;
 use crate::carriers::sent_in;
-use crate::letter::{Identifier, Letter};
-use crate::outcome::Sending;
+use crate::letter::Letter;
 use lists::words::Words;
-use message::{Body, Carrier, Service, has_elements};
-
-// What a row of a table sends, or what is replied.
-#[derive(Clone, Copy)]
-pub enum Sends {
-    Nothing,
-    One(Body),
-}
+use message::{Body, Carrier, has_elements};
 
 // What a record gives the messages that it sends: its identifier, and in Setup types 5, 6, 9 and 10 have its numbers and its service too.
 #[derive(Clone, Copy)]
 pub struct Elements {
-    pub identifier: Identifier,
+    pub identifier: Option<Words>,
     pub numberA: Words,
     pub numberB: Words,
     pub service: u64,
 }
 
 // A message without numbers of digits and service.
-pub fn plain_letter(identifier: Identifier, carrier: Carrier, body: Body) -> Letter
+pub fn plain_letter(identifier: Option<Words>, carrier: Carrier, body: Body) -> Letter
     ensures { result ≡ plain_letter identifier carrier body }
 {
     let none = Words { low: 0, high: 0 };
@@ -35,7 +27,7 @@ pub fn plain_letter(identifier: Identifier, carrier: Carrier, body: Body) -> Let
         identifier,
         numberA: none,
         numberB: none,
-        service: Service::Absent,
+        service: None,
         body,
     }
 }
@@ -44,15 +36,12 @@ pub fn plain_letter(identifier: Identifier, carrier: Carrier, body: Body) -> Let
 fn full_letter(elements: Elements, carrier: Carrier, body: Body) -> Letter
     ensures { result ≡ full_letter elements carrier body }
 {
-    let identifier = elements.identifier;
-    let numberA = elements.numberA;
-    let numberB = elements.numberB;
     Letter {
         carrier,
-        identifier,
-        numberA,
-        numberB,
-        service: Service::Is(elements.service),
+        identifier: elements.identifier,
+        numberA: elements.numberA,
+        numberB: elements.numberB,
+        service: Some(elements.service),
         body,
     }
 }
@@ -64,36 +53,28 @@ fn record_letter(elements: Elements, carrier: Carrier, body: Body) -> Letter
     if has_elements(body, carrier) {
         return full_letter(elements, carrier, body);
     }
-    let identifier = elements.identifier;
-    plain_letter(identifier, carrier, body)
+    plain_letter(elements.identifier, carrier, body)
 }
 
 // What a row sends for the record that gives these elements and has that connection choice.
-pub fn sent_for(sends: Sends, elements: Elements, connection: Connection) -> Sending
+pub fn sent_for(sends: Option<Body>, elements: Elements, connection: Connection) -> Option<Letter>
     ensures { result ≡ sent sends elements connection }
 {
-    match sends {
-        Sends::Nothing => Sending::Nothing,
-        Sends::One(body) => {
-            let carrier = sent_in(body, connection);
-            Sending::Send(record_letter(elements, carrier, body))
-        }
-    }
+    let body = sends?;
+    let carrier = sent_in(body, connection);
+    Some(record_letter(elements, carrier, body))
 }
 
 // An answer in Release Complete with the identifier of what it answers, or none: a reply, or the error of a request that is denied.
-pub fn reply_with(identifier: Identifier, body: Body) -> Sending
+pub fn reply_with(identifier: Option<Words>, body: Body) -> Option<Letter>
     ensures { result ≡ replied identifier body }
 {
-    Sending::Send(plain_letter(identifier, Carrier::ReleaseComplete, body))
+    Some(plain_letter(identifier, Carrier::ReleaseComplete, body))
 }
 
 // The answer that goes with a refusal, or none.
-pub fn answer_with(identifier: Identifier, answer: Sends) -> Sending
+pub fn answer_with(identifier: Option<Words>, answer: Option<Body>) -> Option<Letter>
     ensures { result ≡ answered identifier answer }
 {
-    match answer {
-        Sends::Nothing => Sending::Nothing,
-        Sends::One(body) => reply_with(identifier, body),
-    }
+    reply_with(identifier, answer?)
 }

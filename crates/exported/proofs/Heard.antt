@@ -1,4 +1,5 @@
 -- A message as a desk sent it is its own normal form, so the reader gives it back from the bytes that the writer makes of it.
+use Rattle.std.specs.Prelude.{Option, Some, None}
 use Prim.Native.Nat.{ℕ, ◌+◌}
 use mathlib.Core.Path.{◌≡◌, refl, sym, ◌∙◌, ap}
 use mathlib.Core.Bool.{Bool, true, false}
@@ -15,7 +16,6 @@ use Rattle.message.specs.Reading.{took}
 use Rattle.message.specs.Format.{elements_complete, complete, writable, message_bytes}
 use Rattle.message.specs.declared.Body.{Body}
 use Rattle.message.specs.declared.Carrier.{Carrier}
-use Rattle.message.specs.declared.Service.{Service}
 use Rattle.message.specs.Equality.{normal_identifier, normal_number, normal_service, normal, Formed}
 use Rattle.message.specs.Wire.{message_at}
 use Rattle.message.specs.declared.Kind.TheVariants.{Ccbs, Ccnr}
@@ -23,8 +23,6 @@ use Rattle.message.specs.declared.Message.{Message}
 use Rattle.message.proofs.RangeLaws.{digits-few}
 use Rattle.desk.specs.Letter.{is_identified, identifier_words, number_words, message_of}
 use Rattle.desk.specs.Sends.{no_number, plain_letter}
-use Rattle.desk.specs.declared.letter.Identifier.{Identifier}
-use Rattle.desk.specs.declared.letter.Identifier.TheVariants.{Absent, Is}
 use Rattle.desk.specs.declared.sends.Elements.{Elements}
 use Rattle.terms.specs.declared.request.Names.{Names}
 use Rattle.desk.specs.declared.letter.Letter.{Letter}
@@ -54,25 +52,25 @@ number-normal low number ok e =
     let there = normal-length b low (length-bytes_of number) (bytes-bytes_of number) ok in
     sym (bytes-words (sixteen (digits_bytes b)) there (bytes-sixteen (digits_bytes b) (bytes_take (get_or b 0 0 + 1) b (bytes-bytes_of number)))) ∙ ap bytes_of e
 
-name-normal : (i : Identifier) → normal_identifier (is_identified i) (bytes_of (identifier_words i)) ≡ bytes_of (identifier_words i)
+name-normal : (i : Option Words) → normal_identifier (is_identified i) (bytes_of (identifier_words i)) ≡ bytes_of (identifier_words i)
 unfolding bytes_of octets
-name-normal Absent = refl
-name-normal (Is identifier) = refl
+name-normal None = refl
+name-normal (Some identifier) = refl
 
 -- a letter without elements, and one whose numbers stand in its fields or its elements
 plain-normal :
-    (i : Identifier) (carrier : Carrier) (body : Body) → normal_number body carrier (bytes_of no_number) ≡ bytes_of no_number → normal_service body carrier Service.Absent ≡ Service.Absent →
+    (i : Option Words) (carrier : Carrier) (body : Body) → normal_number body carrier (bytes_of no_number) ≡ bytes_of no_number → normal_service body carrier None ≡ None →
     normal (message_of (plain_letter i carrier body)) ≡ message_of (plain_letter i carrier body)
 unfolding normal message_of
 plain-normal i carrier body number service =
     let name = name-normal i in
     λ x. record { carrier = carrier; identified = is_identified i; identifier = name x; numberA = number x; numberB = number x; service = service x; body = body }
 
-abbrev elements_letter : Elements → Carrier → Body → Service → Letter
+abbrev elements_letter : Elements → Carrier → Body → Option ℕ → Letter
 elements_letter e carrier body service = record { carrier = carrier; identifier = e.identifier; numberA = e.numberA; numberB = e.numberB; service = service; body = body }
 
 letter-normal :
-    (e : Elements) (carrier : Carrier) (body : Body) (service : Service) → Kept e → ((number : List ℕ) → normal_number body carrier number ≡ sixteen (digits_bytes number)) →
+    (e : Elements) (carrier : Carrier) (body : Body) (service : Option ℕ) → Kept e → ((number : List ℕ) → normal_number body carrier number ≡ sixteen (digits_bytes number)) →
     normal_service body carrier service ≡ service →
     normal (message_of (elements_letter e carrier body service)) ≡ message_of (elements_letter e carrier body service)
 unfolding normal message_of
@@ -119,7 +117,7 @@ sent-writable e m kept clear = ap (λ (b : Bool). pick b (complete (message_read
     by true set =
         let names = set-names e m set in
         let least = (digits-few (bytes_of e.numberB) 1 kept.range_b).0 in
-        let given : elements_complete (bytes_of e.numberB) (Service.Is e.service) ≡ true = rw (lt-ltb 0 (get_or (bytes_of e.numberB) 0 0) (omega (arith, least))) in
+        let given : elements_complete (bytes_of e.numberB) (Some e.service) ≡ true = rw (lt-ltb 0 (get_or (bytes_of e.numberB) 0 0) (omega (arith, least))) in
         ap (λ (n : Names). elements_complete (bytes_of n.numberB) n.service) names ∙ given
     by false set = refl
 

@@ -1,4 +1,6 @@
 -- The wires after a step hold only messages as a desk sent them, which are in range; the last is the one that the step put there.
+use Rattle.desk.specs.declared.letter.Letter.{Letter}
+use Rattle.std.specs.Prelude.{Option, Some, None, Ok}
 use Prim.Native.Nat.{ℕ, ◌+◌, ◌≤◌}
 use mathlib.Core.Path.{◌≡◌, ap, subst}
 use mathlib.Core.Bool.{true}
@@ -13,10 +15,7 @@ use Rattle.message.specs.Format.{writable, message_bytes}
 use Rattle.message.specs.Equality.{Formed}
 use Rattle.message.specs.declared.Message.{Message}
 use Rattle.desk.specs.Letter.{message_of}
-use Rattle.desk.specs.declared.outcome.Sending.{Sending}
-use Rattle.desk.specs.declared.outcome.Sending.TheVariants.{Nothing, Send}
 use Rattle.writer.specs.Write.{message_written, message_buffer}
-use Rattle.writer.specs.declared.Written.TheVariants.{Wrote}
 use Rattle.writer.proofs.Claims.{written-reads-back}
 use Rattle.told.specs.Told.{sent_written, sent_buffer}
 use Rattle.tollherring.specs.Face.{faced}
@@ -48,7 +47,7 @@ last-sent (y ∷ ms) m [] e quiet = let z : ◌≡◌ {A = ℕ} 0 1 = cc in absu
 last-sent (y ∷ ms) m (x ∷ xs) e (word l c its clear more) = last-sent ms m xs (ap later e) more
 
 -- a message in range that has room is written whole, at the front
-front-written : (m : Message) (out : List ℕ) → writable m ≡ true → length (message_bytes m) ≤ length out → message_written out 0 m ≡ Wrote (length (message_bytes m))
+front-written : (m : Message) (out : List ℕ) → writable m ≡ true → length (message_bytes m) ≤ length out → message_written out 0 m ≡ Ok (length (message_bytes m))
 unfolding message_written
 front-written m out ranged room =
     let roomy : 0 + length (message_bytes m) ≤ length out = omega (arith, room) in
@@ -62,11 +61,11 @@ front-buffer m out ranged room =
 
 -- the message that an outcome sends is the one of its letter
 sent_front :
-    (sending : Sending) (m : Message) (out : List ℕ) → sent_by sending ≡ m ∷ [] →
+    (sending : Option Letter) (m : Message) (out : List ℕ) → sent_by sending ≡ m ∷ [] →
     (sent_written out 0 sending ≡ message_written out 0 m) × (sent_buffer out 0 sending ≡ message_buffer out 0 m)
 unfolding sent_written sent_buffer
-sent_front Nothing m out e = let z : ◌≡◌ {A = ℕ} 0 1 = cc in absurd (omega (arith, z))
-sent_front (Send l) m out e = let same : message_of l ≡ m = ap (first m) e in (ap (message_written out 0) same, ap (message_buffer out 0) same)
+sent_front None m out e = let z : ◌≡◌ {A = ℕ} 0 1 = cc in absurd (omega (arith, z))
+sent_front (Some l) m out e = let same : message_of l ≡ m = ap (first m) e in (ap (message_written out 0) same, ap (message_buffer out 0) same)
 
 as_bytes : (m : Message) → Formed m → writable m ≡ true → AsBytes m
 unfolding faced

@@ -1,4 +1,6 @@
 -- A call is the step of what its entry makes, on the desk of the world; bytes that a desk of the pair sent, or that stand for a signal, read back as the message.
+use Rattle.lists.specs.declared.words.Words.{Words}
+use Rattle.std.specs.Prelude.{Option, Some, None, Result, Ok, Err}
 use Prim.Native.Nat.{ℕ}
 use mathlib.Core.Path.{◌≡◌, refl, sym, ◌∙◌, ap, subst}
 use mathlib.Core.Bool.{Bool, true, false, false≢true}
@@ -7,8 +9,6 @@ use lib.ListN.{length, get_or, replicate}
 use lib.Dec.{ltb, eqb}
 use native.Mathlib.Omega.{arith}
 use Rattle.lists.specs.Choice.{pick}
-use Rattle.lists.specs.declared.Found.{Found}
-use Rattle.lists.specs.declared.Found.TheVariants.{At, Nothing}
 use Rattle.lists.specs.Lists.{both}
 use Rattle.lists.specs.Words.{word, octets, words_of, bytes_of}
 use Rattle.lists.proofs.Choice.{pick_elim}
@@ -17,22 +17,25 @@ use Rattle.message.specs.Format.{in_range, complete, writable, message_bytes}
 use Rattle.message.specs.Equality.{Formed, normal}
 use Rattle.message.specs.Number.{digits_in_range}
 use Rattle.message.specs.Reading as Reading
+use Rattle.message.specs.Refusals.{refusal_number}
 use Rattle.message.specs.Wire.{message_at}
 use Rattle.message.specs.declared.Fault.{Fault}
 use Rattle.message.specs.declared.Message.{Message}
+use Rattle.message.specs.declared.refusal.Refusal.TheVariants.{OutOfRange, NoLine}
+use Rattle.told.proofs.RefusalLaws.{none-told}
 use Rattle.desk.specs.Letter.{identifier_of, identifier_words, number_words, letter_of, message_of}
-use Rattle.desk.specs.declared.letter.Identifier.{Identifier}
-use Rattle.desk.specs.declared.letter.Identifier.TheVariants.{Absent, Is}
 use Rattle.desk.specs.Outcome.{no_timers, done_with, refused_with}
+use Rattle.desk.specs.Steps.{with_next}
+use Rattle.desk.specs.declared.entry.BytesEntry.{BytesEntry}
 use Rattle.desk.specs.declared.outcome.Outcome.{Outcome}
-use Rattle.desk.specs.declared.outcome.Sending.TheVariants as Sending
+use Rattle.desk.specs.declared.outcome.Stepped.{Stepped}
+use Rattle.desk.specs.declared.outcome.SteppedBytes.{SteppedBytes}
 use Rattle.terms.specs.declared.request.Name.{Name}
 use Rattle.terms.specs.declared.request.Names.{Names}
 use Rattle.terms.specs.declared.request.Request.{Request}
-use Rattle.writer.specs.declared.Written.{Written}
-use Rattle.writer.specs.declared.Written.TheVariants.{Wrote, Refused}
+use Rattle.message.specs.declared.refusal.Refusal.{Refusal}
 use Rattle.writer.proofs.RoundTrip.{round_trip}
-use Rattle.told.specs.Told.{sent_written}
+use Rattle.told.specs.Told.{sent_written, refusal_told}
 use Rattle.clerk_table.specs.declared.inputs.Act as ClerkActs
 use Rattle.clerk_table.specs.declared.inputs.Act.TheVariants as ClerkAct
 use Rattle.clerk_table.specs.declared.inputs.Input.TheVariants as AtClerk
@@ -45,11 +48,8 @@ use Rattle.clerk.specs.Start as ClerkStart
 use Rattle.clerk.specs.Steps as Clerk
 use Rattle.clerk.specs.declared.start.Lengths.{Lengths}
 use Rattle.clerk.specs.declared.entry.Asking.{Asking}
-use Rattle.clerk.specs.declared.entry.Entry as ClerkEntries
-use Rattle.clerk.specs.declared.entry.Entry.TheVariants as ClerkEntered
-use Rattle.clerk.specs.declared.entry.BytesEntry as ClerkBytes
-use Rattle.clerk.specs.declared.steps.Stepped as ClerkStepped
-use Rattle.clerk.specs.declared.steps.SteppedBytes as ClerkSteppedBytes
+use Rattle.clerk_table.specs.declared.inputs.Input as ClerkInputs
+use Rattle.clerk.specs.declared.Desk as ClerkDesk
 use Rattle.clerk_sound.specs.Sound.{Typed, Fair, asks}
 use Rattle.line_table.specs.declared.inputs.Act as LineActs
 use Rattle.line_table.specs.declared.inputs.Act.TheVariants as LineAct
@@ -57,10 +57,8 @@ use Rattle.line_table.specs.declared.inputs.Input.TheVariants as AtLine
 use Rattle.line.specs.Entry as LineEntry
 use Rattle.line.specs.Start.{started}
 use Rattle.line.specs.Steps as Line
-use Rattle.line.specs.declared.entry.Entry as LineEntries
-use Rattle.line.specs.declared.entry.Entry.TheVariants as LineEntered
-use Rattle.line.specs.declared.steps.Stepped as LineStepped
-use Rattle.line.specs.declared.steps.SteppedBytes as LineSteppedBytes
+use Rattle.line_table.specs.declared.inputs.Input as LineInputs
+use Rattle.line.specs.declared.Desk as LineDesk
 use Rattle.host_numbers.specs.Identifiers.{is_identifier, name_given}
 use Rattle.host_numbers.specs.Given.{clerk_act_named, clerk_act_given, timer_named, timer_given, line_act_named, line_act_given, guard_given, is_word, yes, report_given, ask_words, asking_of, ask_given, clerk_bytes_given}
 use Rattle.tollherring.specs.Face.{start_words, refused_face, faced}
@@ -81,10 +79,10 @@ faced-step :
 unfolding faced
 faced-step before after out outcome unread wire = by (sent_written out 0 outcome.sending) refl
   where
-    by : (x : Written) → sent_written out 0 outcome.sending ≡ x → IsStep before after out unread (faced before.words after.words out outcome unread)
-    by (Wrote n) e = rw e (done outcome n wire e)
-    by (Refused number) e =
-        subst (IsStep before after out unread) (sym (no-room-nothing before.words after.words out outcome unread number e)) (refused number Nothing)
+    by : (x : Result ℕ Refusal) → sent_written out 0 outcome.sending ≡ x → IsStep before after out unread (faced before.words after.words out outcome unread)
+    by (Ok n) e = rw e (done outcome n wire e)
+    by (Err refusal) e =
+        subst (IsStep before after out unread) (sym (no-room-nothing before.words after.words out outcome unread refusal e)) (refused refusal None)
 
 -- a wire with what is sent, without origins
 wire-sent : (xs : List (Of Message)) (o : ℕ) (ms : List Message) → carried xs ++ ms ≡ carried (xs ++ map (from o) ms)
@@ -95,7 +93,7 @@ wire-sent (x ∷ xs) o ms = ap (λ (ys : List Message). x.it ∷ ys) (wire-sent 
 module _ (w : World) (out : List ℕ) where
   -- the end after a step of its desk
   pub clerk-after :
-      (down : List (Of Message)) (given : Of Identifier) (entry : ClerkEntries.Entry) (notes : List (Of Identifier) → List Note) →
+      (down : List (Of Message)) (given : Of (Option Words)) (entry : Result ClerkInputs.Input Refusal) (notes : List (Of (Option Words)) → List Note) →
       ◌≡◌ {A = End} (record { words = (Clerk.entered w.clerk w.count entry).desk.words; wire = carried w.up ++ sent_by (Clerk.entered w.clerk w.count entry).outcome.sending })
       (clerk_end (clerk_stepped w down given entry notes))
   clerk-after down given entry notes =
@@ -103,7 +101,7 @@ module _ (w : World) (out : List ℕ) where
       (wire-sent w.up (get_or (clerk_touched w given entry) 0 given).origin (sent_by (Clerk.entered w.clerk w.count entry).outcome.sending))
 
   pub line_after_lem :
-      (up : List (Of Message)) (given : Of Identifier) (entry : LineEntries.Entry) (notes : List (Of Identifier) → List Note) →
+      (up : List (Of Message)) (given : Of (Option Words)) (entry : Result LineInputs.Input Refusal) (notes : List (Of (Option Words)) → List Note) →
       ◌≡◌ {A = End} (record { words = (Line.entered w.line w.count entry).desk.words; wire = carried w.down ++ sent_by (Line.entered w.line w.count entry).outcome.sending })
       (line_end (line_stepped w up given entry notes))
   line_after_lem up given entry notes =
@@ -111,35 +109,35 @@ module _ (w : World) (out : List ℕ) where
       (wire-sent w.down (get_or (line_touched w given entry) 0 given).origin (sent_by (Line.entered w.line w.count entry).outcome.sending))
 
   -- ---- what comes in at the entry of a desk, for an event that leaves the end as the entry's step does
-  abbrev clerk_left : ClerkStepped.Stepped → End
+  abbrev clerk_left : Stepped ClerkDesk.Desk → End
   clerk_left step = record { words = step.desk.words; wire = carried w.up ++ sent_by step.outcome.sending }
 
   clerk-entry :
-      (e : Event) (entry : ClerkEntries.Entry) (unread : ℕ) (fault : Found) → clerk_left (Clerk.entered w.clerk w.count entry) ≡ clerk_end (next w e) →
+      (e : Event) (entry : Result ClerkInputs.Input Refusal) (unread : ℕ) (fault : Option ℕ) → clerk_left (Clerk.entered w.clerk w.count entry) ≡ clerk_end (next w e) →
       ClerkCall w e out unread (clerk_entered w.clerk.words w.count out entry unread fault)
   unfolding clerk_entered Clerk.entered
-  clerk-entry e (ClerkEntered.Refused number) unread fault left = refused number fault
-  clerk-entry e (ClerkEntered.Given input) unread fault left =
+  clerk-entry e (Err refusal) unread fault left = refused refusal fault
+  clerk-entry e (Ok input) unread fault left =
       let step = Clerk.step w.clerk w.count input in
       subst (λ (after : End). IsStep (clerk_end w) after out unread (faced w.clerk.words step.desk.words out step.outcome unread)) left
       (faced-step (clerk_end w) (clerk_left step) out step.outcome unread refl)
 
-  abbrev line_left : LineStepped.Stepped → End
+  abbrev line_left : Stepped LineDesk.Desk → End
   line_left step = record { words = step.desk.words; wire = carried w.down ++ sent_by step.outcome.sending }
 
   line-entry :
-      (e : Event) (entry : LineEntries.Entry) (unread : ℕ) (fault : Found) → line_left (Line.entered w.line w.count entry) ≡ line_end (next w e) →
+      (e : Event) (entry : Result LineInputs.Input Refusal) (unread : ℕ) (fault : Option ℕ) → line_left (Line.entered w.line w.count entry) ≡ line_end (next w e) →
       LineCall w e out unread (line_entered w.line.words w.count out entry unread fault)
   unfolding line_entered Line.entered
-  line-entry e (LineEntered.Refused number) unread fault left = refused number fault
-  line-entry e (LineEntered.Given input) unread fault left =
+  line-entry e (Err refusal) unread fault left = refused refusal fault
+  line-entry e (Ok input) unread fault left =
       let step = Line.step w.line w.count input in
       subst (λ (after : End). IsStep (line_end w) after out unread (faced w.line.words step.desk.words out step.outcome unread)) left
       (faced-step (line_end w) (line_left step) out step.outcome unread refl)
 
   -- ---- what a host gives: a number that stands for nothing is refused
-  abbrev ClerkIn : Event → ClerkEntries.Entry → Type 0
-  ClerkIn e entry = ClerkCall w e out 0 (clerk_entered w.clerk.words w.count out entry 0 Nothing)
+  abbrev ClerkIn : Event → Result ClerkInputs.Input Refusal → Type 0
+  ClerkIn e entry = ClerkCall w e out 0 (clerk_entered w.clerk.words w.count out entry 0 None)
 
   asking :
       (identifier : List ℕ) (kind : ℕ) (numberA numberB : List ℕ) (service canKeep preference : ℕ) →
@@ -150,18 +148,18 @@ module _ (w : World) (out : List ℕ) where
       let input = AtClerk.Ask (ClerkEntry.ask_names a) (ClerkEntry.ask_request a) in
       pick_elim (ClerkIn (ask_event a)) (ask_words identifier kind canKeep)
       (λ t. pick_elim (ClerkIn (ask_event a)) (ltb a.preference 3)
-      (λ t. pick_elim (ClerkIn (ask_event a)) (in_range (ask_message a)) (λ t. clerk-entry (ask_event a) (ClerkEntered.Given input) 0 Nothing (clerk-after w.down (new_label w (ClerkEntry.ask_names a).identifier) (ClerkEntered.Given input) (clerk_notes input))) (λ f. refused 2 Nothing))
-      (λ f. refused 2 Nothing))
-      (λ f. refused 2 Nothing)
+      (λ t. pick_elim (ClerkIn (ask_event a)) (in_range (ask_message a)) (λ t. clerk-entry (ask_event a) (Ok input) 0 None (clerk-after w.down (new_label w (ClerkEntry.ask_names a).identifier) (Ok input) (clerk_notes input))) (λ f. refused OutOfRange None))
+      (λ f. refused OutOfRange None))
+      (λ f. refused OutOfRange None)
 
-  abbrev ActIn : Name → ClerkEntries.Entry → Type 0
+  abbrev ActIn : Name → Result ClerkInputs.Input Refusal → Type 0
   ActIn name entry = (act : ClerkActs.Act) × ClerkIn (clerk_does (AtClerk.Act name act)) entry
 
   act-in : (name : Name) (act : ClerkActs.Act) → ActIn name (ClerkEntry.act_entry name act)
   unfolding Clerk.entered next
   act-in name act = (
     act,
-    clerk-entry (clerk_does (AtClerk.Act name act)) (ClerkEntry.act_entry name act) 0 Nothing
+    clerk-entry (clerk_does (AtClerk.Act name act)) (ClerkEntry.act_entry name act) 0 None
         (clerk-after w.down (new_label w name.identifier) (ClerkEntry.act_entry name act) (clerk_notes (AtClerk.Act name act))),
   )
 
@@ -172,22 +170,22 @@ module _ (w : World) (out : List ℕ) where
       (λ f. pick_elim (ActIn name) (eqb number 2) (λ t. act-in name ClerkAct.Resume)
       (λ f. pick_elim (ActIn name) (eqb number 3) (λ t. act-in name ClerkAct.GoOn)
       (λ f. pick_elim (ActIn name) (eqb number 4) (λ t. act-in name ClerkAct.Cancel)
-      (λ f. pick_elim (ActIn name) (eqb number 5) (λ t. act-in name ClerkAct.Fell) (λ f. (ClerkAct.Cancel, refused 2 Nothing))))))
+      (λ f. pick_elim (ActIn name) (eqb number 5) (λ t. act-in name ClerkAct.Fell) (λ f. (ClerkAct.Cancel, refused OutOfRange None))))))
 
   acting : (place : ℕ) (identifier : List ℕ) (number : ℕ) → ActIn (name_given identifier place) (clerk_act_given identifier place number)
   unfolding clerk_act_given clerk_entered
   acting place identifier number =
       let name = name_given identifier place in
-      pick_elim (ActIn name) (is_identifier identifier) (λ t. act-named name number) (λ f. (ClerkAct.Cancel, refused 2 Nothing))
+      pick_elim (ActIn name) (is_identifier identifier) (λ t. act-named name number) (λ f. (ClerkAct.Cancel, refused OutOfRange None))
 
-  abbrev TimerIn : Name → ClerkEntries.Entry → Type 0
+  abbrev TimerIn : Name → Result ClerkInputs.Input Refusal → Type 0
   TimerIn name entry = (timer : Timer) × ClerkIn (clerk_does (AtClerk.Timer name timer)) entry
 
   timer-in : (name : Name) (timer : Timer) → TimerIn name (ClerkEntry.timer_entry name timer)
   unfolding Clerk.entered next
   timer-in name timer = (
     timer,
-    clerk-entry (clerk_does (AtClerk.Timer name timer)) (ClerkEntry.timer_entry name timer) 0 Nothing
+    clerk-entry (clerk_does (AtClerk.Timer name timer)) (ClerkEntry.timer_entry name timer) 0 None
         (clerk-after w.down (new_label w name.identifier) (ClerkEntry.timer_entry name timer) (clerk_notes (AtClerk.Timer name timer))),
   )
 
@@ -196,39 +194,39 @@ module _ (w : World) (out : List ℕ) where
   timer-named name number =
       pick_elim (TimerIn name) (eqb number 1) (λ t. timer-in name T1)
       (λ f. pick_elim (TimerIn name) (eqb number 2) (λ t. timer-in name T2)
-      (λ f. pick_elim (TimerIn name) (eqb number 3) (λ t. timer-in name T3) (λ f. (T3, refused 2 Nothing))))
+      (λ f. pick_elim (TimerIn name) (eqb number 3) (λ t. timer-in name T3) (λ f. (T3, refused OutOfRange None))))
 
   reporting : (place : ℕ) (identifier : List ℕ) (number : ℕ) → TimerIn (name_given identifier place) (timer_given identifier place number)
   unfolding timer_given clerk_entered
   reporting place identifier number =
       let name = name_given identifier place in
-      pick_elim (TimerIn name) (is_identifier identifier) (λ t. timer-named name number) (λ f. (T3, refused 2 Nothing))
+      pick_elim (TimerIn name) (is_identifier identifier) (λ t. timer-named name number) (λ f. (T3, refused OutOfRange None))
 
-  abbrev LineIn : Event → LineEntries.Entry → Type 0
-  LineIn e entry = LineCall w e out 0 (line_entered w.line.words w.count out entry 0 Nothing)
+  abbrev LineIn : Event → Result LineInputs.Input Refusal → Type 0
+  LineIn e entry = LineCall w e out 0 (line_entered w.line.words w.count out entry 0 None)
 
   line-reporting : (digits : List ℕ) (busy : ℕ) → LineIn (line_does (AtLine.Report (number_words digits) (yes busy))) (report_given digits busy)
   unfolding report_given LineEntry.report_entry line_entered Line.entered next
   line-reporting digits busy =
       let input = AtLine.Report (number_words digits) (yes busy) in
       pick_elim (LineIn (line_does input)) (is_word busy)
-      (λ t. pick_elim (LineIn (line_does input)) (digits_in_range 1 digits) (λ t. line-entry (line_does input) (LineEntered.Given input) 0 Nothing (line_after_lem w.up (new_label w (names_of input).identifier) (LineEntered.Given input) (line_notes input))) (λ f. refused 10 Nothing))
-      (λ f. refused 2 Nothing)
+      (λ t. pick_elim (LineIn (line_does input)) (digits_in_range 1 digits) (λ t. line-entry (line_does input) (Ok input) 0 None (line_after_lem w.up (new_label w (names_of input).identifier) (Ok input) (line_notes input))) (λ f. refused NoLine None))
+      (λ f. refused OutOfRange None)
 
   looking : (digits : List ℕ) → LineIn (line_does (AtLine.Look (number_words digits))) (LineEntry.look_entry digits)
   unfolding LineEntry.look_entry line_entered Line.entered next
   looking digits =
       let input = AtLine.Look (number_words digits) in
-      pick_elim (LineIn (line_does input)) (digits_in_range 1 digits) (λ t. line-entry (line_does input) (LineEntered.Given input) 0 Nothing (line_after_lem w.up (new_label w (names_of input).identifier) (LineEntered.Given input) (line_notes input))) (λ f. refused 10 Nothing)
+      pick_elim (LineIn (line_does input)) (digits_in_range 1 digits) (λ t. line-entry (line_does input) (Ok input) 0 None (line_after_lem w.up (new_label w (names_of input).identifier) (Ok input) (line_notes input))) (λ f. refused NoLine None)
 
-  abbrev LineActIn : Name → LineEntries.Entry → Type 0
+  abbrev LineActIn : Name → Result LineInputs.Input Refusal → Type 0
   LineActIn name entry = (act : LineActs.Act) × LineIn (line_does (AtLine.Act name act)) entry
 
   line-act-in : (name : Name) (act : LineActs.Act) → LineActIn name (LineEntry.act_entry name act)
   unfolding Line.entered next
   line-act-in name act = (
     act,
-    line-entry (line_does (AtLine.Act name act)) (LineEntry.act_entry name act) 0 Nothing
+    line-entry (line_does (AtLine.Act name act)) (LineEntry.act_entry name act) 0 None
         (line_after_lem w.up (new_label w name.identifier) (LineEntry.act_entry name act) (line_notes (AtLine.Act name act))),
   )
 
@@ -238,95 +236,95 @@ module _ (w : World) (out : List ℕ) where
       pick_elim (LineActIn name) (eqb number 1) (λ t. line-act-in name LineAct.Alerted)
       (λ f. pick_elim (LineActIn name) (eqb number 2) (λ t. line-act-in name LineAct.CallFailed)
       (λ f. pick_elim (LineActIn name) (eqb number 3) (λ t. line-act-in name LineAct.Cancel)
-      (λ f. pick_elim (LineActIn name) (eqb number 4) (λ t. line-act-in name LineAct.Fell) (λ f. (LineAct.Cancel, refused 2 Nothing)))))
+      (λ f. pick_elim (LineActIn name) (eqb number 4) (λ t. line-act-in name LineAct.Fell) (λ f. (LineAct.Cancel, refused OutOfRange None)))))
 
   line-acting : (place : ℕ) (identifier : List ℕ) (number : ℕ) → LineActIn (name_given identifier place) (line_act_given identifier place number)
   unfolding line_act_given line_entered
   line-acting place identifier number =
       let name = name_given identifier place in
-      pick_elim (LineActIn name) (is_identifier identifier) (λ t. line-act-named name number) (λ f. (LineAct.Cancel, refused 2 Nothing))
+      pick_elim (LineActIn name) (is_identifier identifier) (λ t. line-act-named name number) (λ f. (LineAct.Cancel, refused OutOfRange None))
 
   guarding : (place : ℕ) (identifier : List ℕ) → LineIn (line_does (AtLine.Guard (name_given identifier place))) (guard_given identifier place)
   unfolding guard_given line_entered Line.entered next
   guarding place identifier =
       let name = name_given identifier place in
       pick_elim (LineIn (line_does (AtLine.Guard name))) (is_identifier identifier)
-      (λ t. line-entry (line_does (AtLine.Guard name)) (LineEntered.Given (AtLine.Guard name)) 0 Nothing
-      (line_after_lem w.up (new_label w name.identifier) (LineEntered.Given (AtLine.Guard name)) (line_notes (AtLine.Guard name))))
-      (λ f. refused 2 Nothing)
+      (λ t. line-entry (line_does (AtLine.Guard name)) (Ok (AtLine.Guard name)) 0 None
+      (line_after_lem w.up (new_label w name.identifier) (Ok (AtLine.Guard name)) (line_notes (AtLine.Guard name))))
+      (λ f. refused OutOfRange None)
 
   -- ---- bytes of the head of a wire: the entry's step is that of the message
   clerk_hearing :
       (x : Of Message) (rest : List (Of Message)) → w.down ≡ x ∷ rest → (place : ℕ) (behind : List ℕ) (busy : Bool) →
       let m = x.it in
-      Clerk.received_bytes w.clerk w.count (message_bytes m ++ behind) busy place ≡ Clerk.with_next (Clerk.received w.clerk w.count m busy place) (length (message_bytes m)) Nothing →
+      Clerk.received_bytes w.clerk w.count (message_bytes m ++ behind) busy place ≡ with_next (Clerk.received w.clerk w.count m busy place) (length (message_bytes m)) None →
       ClerkCall w (clerk_hears busy place) out (length (message_bytes m)) (clerk_bytes w.clerk.words w.count out (ClerkEntry.bytes_entry (message_bytes m ++ behind) busy place))
   unfolding Clerk.received_bytes next clerkHeard
   clerk_hearing x rest head place behind busy e =
       let m = x.it in
       let read = ClerkEntry.bytes_entry (message_bytes m ++ behind) busy place in
-      subst (λ (unread : ℕ). ClerkCall w (clerk_hears busy place) out unread (clerk_bytes w.clerk.words w.count out read)) (ap (λ (s : ClerkSteppedBytes.SteppedBytes). s.next) e)
+      subst (λ (unread : ℕ). ClerkCall w (clerk_hears busy place) out unread (clerk_bytes w.clerk.words w.count out read)) (ap (λ (s : SteppedBytes ClerkDesk.Desk). s.next) e)
       (clerk-entry (clerk_hears busy place) read.entry read.next read.fault
-      (ap (λ (s : ClerkSteppedBytes.SteppedBytes). clerk_left (record { desk = s.desk; outcome = s.outcome })) e
+      (ap (λ (s : SteppedBytes ClerkDesk.Desk). clerk_left (record { desk = s.desk; outcome = s.outcome })) e
       ∙ clerk-after rest (label_of x) (ClerkEntry.message_entry m busy place) (λ whom. [])
       ∙ sym (ap (λ (xs : List (Of Message)). clerk_end (clerkHeard w busy place xs)) head)))
 
   line_hearing :
       (x : Of Message) (rest : List (Of Message)) → w.up ≡ x ∷ rest → (place : ℕ) (behind : List ℕ) →
       let m = x.it in
-      Line.received_bytes w.line w.count (message_bytes m ++ behind) place ≡ Line.with_next (Line.received w.line w.count m place) (length (message_bytes m)) Nothing →
+      Line.received_bytes w.line w.count (message_bytes m ++ behind) place ≡ with_next (Line.received w.line w.count m place) (length (message_bytes m)) None →
       LineCall w (line_hears place) out (length (message_bytes m)) (line_bytes w.line.words w.count out (LineEntry.bytes_entry (message_bytes m ++ behind) place))
   unfolding Line.received_bytes next lineHeard
   line_hearing x rest head place behind e =
       let m = x.it in
       let read = LineEntry.bytes_entry (message_bytes m ++ behind) place in
-      subst (λ (unread : ℕ). LineCall w (line_hears place) out unread (line_bytes w.line.words w.count out read)) (ap (λ (s : LineSteppedBytes.SteppedBytes). s.next) e)
+      subst (λ (unread : ℕ). LineCall w (line_hears place) out unread (line_bytes w.line.words w.count out read)) (ap (λ (s : SteppedBytes LineDesk.Desk). s.next) e)
       (line-entry (line_hears place) read.entry read.next read.fault
-      (ap (λ (s : LineSteppedBytes.SteppedBytes). line_left (record { desk = s.desk; outcome = s.outcome })) e
+      (ap (λ (s : SteppedBytes LineDesk.Desk). line_left (record { desk = s.desk; outcome = s.outcome })) e
       ∙ line_after_lem rest (label_of x) (LineEntry.message_entry m place) (λ whom. [])
       ∙ sym (ap (λ (xs : List (Of Message)). line_end (lineHeard w place xs)) head)))
 
 -- ---- the bytes of a signal read back as its message, whose letter is that of the identifier that its bytes name
-abbrev signal_message : Signal → Identifier → Message
+abbrev signal_message : Signal → Option Words → Message
 signal_message signal identifier = message_of (signal_letter signal identifier)
 
-signal-formed : (signal : Signal) (identifier : Identifier) → Formed (signal_message signal identifier)
+signal-formed : (signal : Signal) (identifier : Option Words) → Formed (signal_message signal identifier)
 unfolding message_of
 signal-formed signal identifier =
     let l = signal_letter signal identifier in
     record { identifier = length-bytes_of (identifier_words l.identifier); numberA = length-bytes_of l.numberA; numberB = length-bytes_of l.numberB }
 
-signal-ranged : (signal : Signal) (identifier : Identifier) → in_range (signal_message signal identifier) ≡ true
+signal-ranged : (signal : Signal) (identifier : Option Words) → in_range (signal_message signal identifier) ≡ true
 unfolding in_range message_of
 signal-ranged call_died identifier = refl
 signal-ranged rejected identifier = refl
 
-signal-writable : (signal : Signal) (identifier : Identifier) → writable (signal_message signal identifier) ≡ true
+signal-writable : (signal : Signal) (identifier : Option Words) → writable (signal_message signal identifier) ≡ true
 unfolding writable complete in_range message_of
 signal-writable call_died identifier = refl
 signal-writable rejected identifier = refl
 
-signal-normal : (signal : Signal) (identifier : Identifier) → normal (signal_message signal identifier) ≡ signal_message signal identifier
+signal-normal : (signal : Signal) (identifier : Option Words) → normal (signal_message signal identifier) ≡ signal_message signal identifier
 unfolding normal message_of bytes_of octets
-signal-normal call_died Absent = refl
-signal-normal call_died (Is identifier) = refl
-signal-normal rejected Absent = refl
-signal-normal rejected (Is identifier) = refl
+signal-normal call_died None = refl
+signal-normal call_died (Some identifier) = refl
+signal-normal rejected None = refl
+signal-normal rejected (Some identifier) = refl
 
-signal-letter : (signal : Signal) (identifier : Identifier) → letter_of (signal_message signal identifier) ≡ signal_letter signal (name_of (signal_message signal identifier))
+signal-letter : (signal : Signal) (identifier : Option Words) → letter_of (signal_message signal identifier) ≡ signal_letter signal (name_of (signal_message signal identifier))
 unfolding letter_of message_of number_words bytes_of words_of octets word
 signal-letter call_died identifier = refl
 signal-letter rejected identifier = refl
 
 -- as it is told: by the identifier that its bytes name, and the place
-abbrev told_name : Signal → Identifier → ℕ → Name
+abbrev told_name : Signal → Option Words → ℕ → Name
 told_name signal identifier place = record { identifier = name_of (signal_message signal identifier); place = place }
 
 signal-entry :
-    (signal : Signal) (identifier : Identifier) (busy : Bool) (place : ℕ) (behind : List ℕ) →
+    (signal : Signal) (identifier : Option Words) (busy : Bool) (place : ℕ) (behind : List ℕ) →
     let m = signal_message signal identifier in
     ClerkEntry.bytes_entry (message_bytes m ++ behind) busy place ≡
-    record { entry = ClerkEntered.Given (AtClerk.Message (signal_letter signal (name_of m)) busy place); next = length (message_bytes m); fault = Nothing }
+    record { entry = Ok (AtClerk.Message (signal_letter signal (name_of m)) busy place); next = length (message_bytes m); fault = None }
 unfolding ClerkEntry.bytes_entry ClerkEntry.message_entry
 signal-entry signal identifier busy place behind =
     let m = signal_message signal identifier in
@@ -336,7 +334,7 @@ signal-entry signal identifier busy place behind =
     rw (reads, signal-ranged signal identifier, signal-letter signal identifier)
 
 clerk_telling :
-    (w : World) (out : List ℕ) (signal : Signal) (identifier : Identifier) (place : ℕ) (behind : List ℕ) (busy : Bool) →
+    (w : World) (out : List ℕ) (signal : Signal) (identifier : Option Words) (place : ℕ) (behind : List ℕ) (busy : Bool) →
     let m = signal_message signal identifier in
     ClerkCall w (clerk_is_told signal (told_name signal identifier place) busy) out (length (message_bytes m)) (clerk_bytes w.clerk.words w.count out (ClerkEntry.bytes_entry (message_bytes m ++ behind) busy place))
 unfolding Clerk.entered next
@@ -344,8 +342,8 @@ clerk_telling w out signal identifier place behind busy =
     let m = signal_message signal identifier in
     let name = told_name signal identifier place in
     let e = clerk_is_told signal name busy in
-    subst (λ (read : ClerkBytes.BytesEntry). ClerkCall w e out (length (message_bytes m)) (clerk_bytes w.clerk.words w.count out read)) (sym (signal-entry signal identifier busy place behind))
-    (clerk-entry w out e (ClerkEntered.Given (AtClerk.Message (signal_letter signal (name_of m)) busy place)) (length (message_bytes m)) Nothing
+    subst (λ (read : BytesEntry (Result ClerkInputs.Input Refusal)). ClerkCall w e out (length (message_bytes m)) (clerk_bytes w.clerk.words w.count out read)) (sym (signal-entry signal identifier busy place behind))
+    (clerk-entry w out e (Ok (AtClerk.Message (signal_letter signal (name_of m)) busy place)) (length (message_bytes m)) None
     (clerk-after w out w.down (new_label w (name_of m)) (signal_entry signal name busy) (λ whom. [])))
 
 -- ---- bytes at the clerk's end, with a number for the host's word on User A: one that is no word is refused
@@ -355,30 +353,30 @@ clerk-worded :
     ClerkCall w e out unread (clerk_bytes w.clerk.words w.count out (clerk_bytes_given bytes busy place))
 unfolding clerk_bytes_given clerk_entered
 clerk-worded w e out unread place bytes busy call =
-    pick_elim (λ (read : ClerkBytes.BytesEntry). ClerkCall w e out unread (clerk_bytes w.clerk.words w.count out read)) (is_word busy) (λ t. call) (λ f. refused 2 Nothing)
+    pick_elim (λ (read : BytesEntry (Result ClerkInputs.Input Refusal)). ClerkCall w e out unread (clerk_bytes w.clerk.words w.count out read)) (is_word busy) (λ t. call) (λ f. refused OutOfRange None)
 
 -- ---- bytes that the reader refuses
 clerk-unread :
     (words : List ℕ) (count : ℕ) (out : List ℕ) (place : ℕ) (bytes : List ℕ) (fault : Fault) (busy : ℕ) → message_at bytes ≡ Reading.refused fault →
-    clerk_received words count out place bytes busy ≡ pick (is_word busy) (refused_face words out fault.number (At fault.place)) (refused_face words out 2 Nothing)
+    clerk_received words count out place bytes busy ≡ pick (is_word busy) (refused_face words out fault.refusal (Some fault.place)) (refused_face words out OutOfRange None)
 unfolding clerk_received clerk_bytes_given ClerkEntry.bytes_entry clerk_entered
 clerk-unread words count out place bytes fault busy e = by (is_word busy)
   where
     by :
         (worded : Bool) →
-        clerk_bytes words count out (pick worded (ClerkEntry.bytes_entry bytes (yes busy) place) (record { entry = ClerkEntered.Refused 2; next = 0; fault = Nothing }))
-        ≡ pick worded (refused_face words out fault.number (At fault.place)) (refused_face words out 2 Nothing)
+        clerk_bytes words count out (pick worded (ClerkEntry.bytes_entry bytes (yes busy) place) (record { entry = Err OutOfRange; next = 0; fault = None }))
+        ≡ pick worded (refused_face words out fault.refusal (Some fault.place)) (refused_face words out OutOfRange None)
     by true = rw e
     by false = refl
 
 line-unread :
     (words : List ℕ) (count : ℕ) (out : List ℕ) (place : ℕ) (bytes : List ℕ) (fault : Fault) → message_at bytes ≡ Reading.refused fault →
-    line_received words count out place bytes ≡ refused_face words out fault.number (At fault.place)
+    line_received words count out place bytes ≡ refused_face words out fault.refusal (Some fault.place)
 unfolding line_received LineEntry.bytes_entry line_entered
 line-unread words count out place bytes fault e = rw e
 
 -- an ask of values of the code's types
-ask-allowed : (w : World) (a : Asking) → Typed a → ask_entry a ≡ ClerkEntered.Given (AtClerk.Ask (ask_names a) (ask_request a)) → Allowed w (ask_event a)
+ask-allowed : (w : World) (a : Asking) → Typed a → ask_entry a ≡ Ok (AtClerk.Ask (ask_names a) (ask_request a)) → Allowed w (ask_event a)
 ask-allowed w a typed e =
     record {
       asked = λ names q is.
@@ -390,7 +388,7 @@ ask-allowed w a typed e =
     }
 
 -- under an identifier that was not taken up
-given_is : (identified : Bool) (bytes : List ℕ) → identified ≡ true → identifier_of identified bytes ≡ Absent → ⊥
+given_is : (identified : Bool) (bytes : List ℕ) → identified ≡ true → identifier_of identified bytes ≡ None → ⊥
 unfolding identifier_of
 given_is true bytes so e = let z : ◌≡◌ {A = ℕ} 0 1 = cc in omega (arith, z)
 given_is false bytes so e = false≢true so
@@ -443,12 +441,12 @@ clerk-starts words given keep retain t1 t2Ccbs t2Ccnr t3 ok = by (ClerkStart.goo
     l : Lengths
     l = lengths_of t1 t2Ccbs t2Ccnr t3
 
-    made : Bool → ClerkStepped.Stepped
+    made : Bool → Stepped ClerkDesk.Desk
     made good =
-        pick good (record { desk = ClerkStart.started_desk l; outcome = done_with Sending.Nothing no_timers no_timers Nothing })
-        (record { desk = record { words = replicate Layout.words 0 }; outcome = refused_with 2 Sending.Nothing })
+        pick good (record { desk = ClerkStart.started_desk l; outcome = done_with None no_timers no_timers None })
+        (record { desk = record { words = replicate Layout.words 0 }; outcome = refused_with OutOfRange None })
 
-    by : (good : Bool) → (made good).outcome.refusal ≡ 0 → start_words words (made good).outcome.refusal (made good).desk.words ≡ (ClerkStart.started_desk l).words
+    by : (good : Bool) → refusal_told (made good).outcome.refusal ≡ 0 → start_words words (made good).outcome.refusal (made good).desk.words ≡ (ClerkStart.started_desk l).words
     by true e = refl
     by false e = absurd (omega (arith, e))
 
@@ -459,9 +457,9 @@ unfolding line_started_words line_started_answer
 line-starts lengths words given keep retain ok = by (both (is_word keep) (is_word retain)) ok
   where
     by :
-        (b : Bool) → pick b (started given (yes keep) (yes retain)).outcome.refusal 2 ≡ 0 →
+        (b : Bool) → pick b (refusal_told (started given (yes keep) (yes retain)).outcome.refusal) (refusal_number OutOfRange) ≡ 0 →
         pick b (line_start_words words given (yes keep) (yes retain)) words ≡ (started given (yes keep) (yes retain)).desk.words
-    by true e = rw e
+    by true e = rw (none-told (started given (yes keep) (yes retain)).outcome.refusal e)
     by false e = absurd (omega (arith, e))
 
 pub starts-as-run : StartsAsRun

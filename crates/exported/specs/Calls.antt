@@ -1,12 +1,12 @@
 -- What it is for a host's call at a desk to be a step of the run, and for its tick to be a run of reports.
-use Rattle.std.specs.Prelude.{ℕ, ◌<◌, ◌≡◌, List, [], ◌∷◌, ◌++◌, map, length}
-use Rattle.lists.specs.declared.Found.{Found}
+use Rattle.desk.specs.declared.letter.Letter.{Letter}
+use Rattle.std.specs.Prelude.{ℕ, ◌<◌, ◌≡◌, List, [], ◌∷◌, ◌++◌, map, length, Option, Ok, Err}
 use Rattle.message.specs.declared.Message.{Message}
 use Rattle.desk.specs.Ticked.{Expiry}
 use Rattle.desk.specs.declared.outcome.Outcome.{Outcome}
-use Rattle.desk.specs.declared.outcome.Sending.{Sending}
-use Rattle.writer.specs.declared.Written.TheVariants.{Wrote, Refused}
-use Rattle.told.specs.Told.{sent_written, sent_buffer, told_of}
+use Rattle.message.specs.declared.refusal.Refusal.TheVariants.{NoRoom}
+use Rattle.message.specs.declared.refusal.Refusal.{Refusal}
+use Rattle.told.specs.Told.{sent_written, sent_buffer, told_of, refusal_told}
 use Rattle.told.specs.Face.{Face, face}
 use Rattle.told.specs.Ticking.{end_of, lent_by, no_numbers, tick_done, tick_refused}
 use Rattle.tollherring.specs.Face.{refused_face}
@@ -36,22 +36,22 @@ Puts before after m = after.wire ≡ before.wire ++ (m ∷ [])
 pub data IsStep (before after : End) (out : List ℕ) (unread : ℕ) : Face → Type 0 where
   -- done: the words are those of the step, and what it puts on the wire is written into the buffer
   done :
-      (outcome : Outcome) (length : ℕ) → after.wire ≡ before.wire ++ sent_by outcome.sending → sent_written out 0 outcome.sending ≡ Wrote length →
-      IsStep before after out unread (face after.words (sent_buffer out 0 outcome.sending) (told_of outcome length unread) outcome.refusal)
+      (outcome : Outcome) (length : ℕ) → after.wire ≡ before.wire ++ sent_by outcome.sending → sent_written out 0 outcome.sending ≡ Ok length →
+      IsStep before after out unread (face after.words (sent_buffer out 0 outcome.sending) (told_of outcome length unread) (refusal_told outcome.refusal))
   -- refused by the face, with 1, 2, 10 or 12: words and buffer are as they were. Bytes that cannot be read have the place of the fault
-  refused : (number : ℕ) (fault : Found) → IsStep before after out unread (refused_face before.words out number fault)
+  refused : (refusal : Refusal) (fault : Option ℕ) → IsStep before after out unread (refused_face before.words out refusal fault)
 
 -- what some expired records send
-abbrev pub sendings_of : List Expiry → List Sending
+abbrev pub sendings_of : List Expiry → List (Option Letter)
 sendings_of expired = map (λ e. e.outcome.sending) expired
 
 -- a tick, lent the words of an end and a buffer `out`, leaves the run of its reports, which makes of the end `before` the end `after`. `enough` bytes have room for all that any tick of the end sends
 pub data IsTick (before after : End) (enough : ℕ) (out : List ℕ) : Face → Type 0 where
   -- done: the words are those of the run, and the messages that it puts on the wire all have room and are written into the buffer, one behind the other
   ran :
-      (expired : List Expiry) (end : ℕ) → after.wire ≡ before.wire ++ sent_of (map (λ e. e.outcome) expired) → end_of out 0 (sendings_of expired) ≡ Wrote end →
+      (expired : List Expiry) (end : ℕ) → after.wire ≡ before.wire ++ sent_of (map (λ e. e.outcome) expired) → end_of out 0 (sendings_of expired) ≡ Ok end →
       IsTick before after enough out (tick_done after.words (lent_by (record { out = out; length = 0; told = no_numbers; expired = 0 }) expired))
   -- refused with 12, and with no other number, where those messages don't all have room: words and buffer are as they were
   unroomy :
-      (expired : List Expiry) → after.wire ≡ before.wire ++ sent_of (map (λ e. e.outcome) expired) → end_of out 0 (sendings_of expired) ≡ Refused 12 →
-      length out < enough → IsTick before after enough out (tick_refused before.words out 12)
+      (expired : List Expiry) → after.wire ≡ before.wire ++ sent_of (map (λ e. e.outcome) expired) → end_of out 0 (sendings_of expired) ≡ Err NoRoom →
+      length out < enough → IsTick before after enough out (tick_refused before.words out NoRoom)

@@ -1,18 +1,19 @@
 -- The run of demand 3 is what a host makes by its calls. Each claim is a type; its proof has its name.
-use Rattle.std.specs.Prelude.{ℕ, ◌*◌, ◌≤◌, ◌≡◌, Bool, true, ◌⊎◌, length}
+use Rattle.lists.specs.declared.words.Words.{Words}
+use Rattle.std.specs.Prelude.{ℕ, ◌*◌, ◌≤◌, ◌≡◌, Bool, true, ◌⊎◌, length, Option, Some, None, Ok}
 use mathlib.Core.List.{List, [], ◌∷◌, ◌++◌, Memᴰ as Noted}
 use Rattle.lists.specs.Choice.{pick}
 use Rattle.lists.specs.Parts.{over}
-use Rattle.lists.specs.declared.Found.TheVariants.{At, Nothing}
 use Rattle.message.specs.Format.{writable, message_bytes}
 use Rattle.message.specs.Reading as Reading
 use Rattle.message.specs.Wire.{message_at}
 use Rattle.message.specs.declared.Fault.{Fault}
 use Rattle.message.specs.declared.Message.{Message}
+use Rattle.message.specs.declared.refusal.Refusal.TheVariants.{OutOfRange}
 use Rattle.desk.specs.Letter.{identifier_of, message_of, number_words}
-use Rattle.desk.specs.declared.letter.Identifier.{Identifier}
+use Rattle.desk.specs.Steps.{with_next}
 use Rattle.desk.specs.declared.outcome.Outcome.{Outcome}
-use Rattle.told.specs.Told.{told_of}
+use Rattle.told.specs.Told.{told_of, refusal_told}
 use Rattle.clerk_table.specs.declared.inputs.Act as ClerkAct
 use Rattle.clerk_table.specs.declared.inputs.Input.TheVariants as AtClerk
 use Rattle.clerk_table.specs.declared.table.Timer.{Timer}
@@ -21,7 +22,6 @@ use Rattle.clerk_records.specs.Layout.{places as clerk_places}
 use Rattle.clerk.specs.Steps as Clerk
 use Rattle.clerk.specs.Entry.{ask_names, ask_request, ask_entry}
 use Rattle.clerk.specs.declared.entry.Asking.{Asking}
-use Rattle.clerk.specs.declared.entry.Entry.TheVariants.{Given}
 use Rattle.clerk_sound.specs.Sound.{Typed}
 use Rattle.line_table.specs.declared.inputs.Act as LineAct
 use Rattle.line_table.specs.declared.inputs.Input.TheVariants as AtLine
@@ -48,7 +48,7 @@ pub record AsBytes (m : Message) : Type 0 where
   -- where there is room, a call whose outcome sends it is done: the front of the buffer is the bytes of the message, and nothing behind them changes
   pub roomy :
       (words after out : List ℕ) (outcome : Outcome) (unread : ℕ) → sent_by outcome.sending ≡ m ∷ [] → length (message_bytes m) ≤ length out →
-      faced words after out outcome unread ≡ face after (over (message_bytes m) out) (told_of outcome (length (message_bytes m)) unread) outcome.refusal
+      faced words after out outcome unread ≡ face after (over (message_bytes m) out) (told_of outcome (length (message_bytes m)) unread) (refusal_told outcome.refusal)
 
 abbrev pub SentAsBytes : Type 0
 SentAsBytes =
@@ -59,12 +59,12 @@ SentAsBytes =
 abbrev pub ClerkHearsBytes : World → Bool → ℕ → List ℕ → List Message → Type 0
 ClerkHearsBytes w busy place rest [] = Unit
 ClerkHearsBytes w busy place rest (m ∷ ms) =
-    Clerk.received_bytes w.clerk w.count (message_bytes m ++ rest) busy place ≡ Clerk.with_next (Clerk.received w.clerk w.count m busy place) (length (message_bytes m)) Nothing
+    Clerk.received_bytes w.clerk w.count (message_bytes m ++ rest) busy place ≡ with_next (Clerk.received w.clerk w.count m busy place) (length (message_bytes m)) None
 
 abbrev pub LineHearsBytes : World → ℕ → List ℕ → List Message → Type 0
 LineHearsBytes w place rest [] = Unit
 LineHearsBytes w place rest (m ∷ ms) =
-    Line.received_bytes w.line w.count (message_bytes m ++ rest) place ≡ Line.with_next (Line.received w.line w.count m place) (length (message_bytes m)) Nothing
+    Line.received_bytes w.line w.count (message_bytes m ++ rest) place ≡ with_next (Line.received w.line w.count m place) (length (message_bytes m)) None
 
 abbrev pub HeardAsBytes : Type 0
 HeardAsBytes =
@@ -89,7 +89,7 @@ pub record Calls (w : World) (out : List ℕ) : Type 0 where
       ClerkCall w (ask_event (asking_of identifier kind numberA numberB service canKeep preference)) out 0
       (clerk_asked w.clerk.words w.count out identifier kind numberA numberB service canKeep preference)
   pub ask_allowed :
-      (a : Asking) → Typed a → ask_entry a ≡ Given (AtClerk.Ask (ask_names a) (ask_request a)) → Allowed w (ask_event a)
+      (a : Asking) → Typed a → ask_entry a ≡ Ok (AtClerk.Ask (ask_names a) (ask_request a)) → Allowed w (ask_event a)
   pub ask_once :
       (a : Asking) → a.identified ≡ true → ((o : ℕ) → Noted (taken_up (from o (identifier_of a.identified a.identifier))) w.history → ⊥) → Once w (ask_event a)
   -- User A's act, and a timer's report, with the place that the host names
@@ -118,7 +118,7 @@ pub record Calls (w : World) (out : List ℕ) : Type 0 where
       LineCall w (line_hears place) out (length (message_bytes m)) (line_received w.line.words w.count out place (message_bytes m ++ behind))
   -- the bytes that the clerk's host makes of what the signalling of a call tells it
   pub clerk_told :
-      (signal : Signal) (identifier : Identifier) (place : ℕ) (behind : List ℕ) (busy : ℕ) →
+      (signal : Signal) (identifier : Option Words) (place : ℕ) (behind : List ℕ) (busy : ℕ) →
       let m = message_of (signal_letter signal identifier) in
       ClerkCall w (clerk_is_told signal (record { identifier = name_of m; place = place }) (yes busy)) out (length (message_bytes m))
       (clerk_received w.clerk.words w.count out place (message_bytes m ++ behind) busy)
@@ -126,10 +126,10 @@ pub record Calls (w : World) (out : List ℕ) : Type 0 where
   pub clerk_unread :
       (place : ℕ) (bytes : List ℕ) (fault : Fault) (busy : ℕ) → message_at bytes ≡ Reading.refused fault →
       clerk_received w.clerk.words w.count out place bytes busy
-      ≡ pick (is_word busy) (refused_face w.clerk.words out fault.number (At fault.place)) (refused_face w.clerk.words out 2 Nothing)
+      ≡ pick (is_word busy) (refused_face w.clerk.words out fault.refusal (Some fault.place)) (refused_face w.clerk.words out OutOfRange None)
   pub line_unread :
       (place : ℕ) (bytes : List ℕ) (fault : Fault) → message_at bytes ≡ Reading.refused fault →
-      line_received w.line.words w.count out place bytes ≡ refused_face w.line.words out fault.number (At fault.place)
+      line_received w.line.words w.count out place bytes ≡ refused_face w.line.words out fault.refusal (Some fault.place)
 
 abbrev pub FaceIsStep : Type 0
 FaceIsStep = (w : World) → Reached Any w → (out : List ℕ) → Calls w out

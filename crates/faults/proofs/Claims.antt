@@ -21,7 +21,7 @@ told : (s : List ℕ) (fault : Fault) → message_at s ≡ refused fault → Tol
 told s fault e = message-reader.tells s fault (omega arith) e
 
 pub place-within : PlaceWithin
-place-within s fault e = let t = told s fault e in (t.within, t.number)
+place-within s fault e = let t = told s fault e in (t.within, t.refusal)
 
 pub nothing_mends : NothingMends
 nothing_mends s more fault e h = (told s fault e).stays h more

@@ -16,7 +16,9 @@ use Rattle.message.specs.Reading.{Read, took, refused, and_then, wrong_at, ended
 use Rattle.message.specs.Number.{number_at, number_bytes, within, field_at}
 use Rattle.message.specs.Wire.{identified_at, identifier_at}
 use Rattle.message.specs.declared.Fault.{Fault}
-use Rattle.message.proofs.Reading.{never-took, then_elim}
+use Rattle.message.specs.declared.refusal.Refusal.{Refusal}
+use Rattle.message.specs.declared.refusal.Refusal.TheVariants.{Faulty, OutOfRange}
+use Rattle.message.proofs.Reading.{never-took, took_same, then_elim}
 use Rattle.message.proofs.NumberLaws.{number_shape, number-ends}
 use Rattle.message.proofs.NumberBack.{number-back}
 use Rattle.message.proofs.RangeLaws.{small_bytes}
@@ -52,7 +54,7 @@ module _ {A : Type 0} (f : List ℕ → Read A) (at : ℕ) (s : List ℕ) (x : F
   ended-told h e never keeps =
       rw (← (same-fault _ x e))
       (record {
-        number = inl refl;
+        refusal = inl refl;
         from = h;
         within = omega arith;
         stays = λ l. absurd (omega arith);
@@ -62,10 +64,10 @@ module _ {A : Type 0} (f : List ℕ → Read A) (at : ℕ) (s : List ℕ) (x : F
       })
 
   -- a byte is wrong where the reader starts
-  wrong-told : at < length s → x.place ≡ at → (x.number ≡ 1) ⊎ (x.number ≡ 2) → ((more : List ℕ) → f (s ++ more) ≡ refused x) → Open f (take at s) → Told f at s x
-  wrong-told h e number stays opens =
+  wrong-told : at < length s → x.place ≡ at → (x.refusal ≡ Faulty) ⊎ (x.refusal ≡ OutOfRange) → ((more : List ℕ) → f (s ++ more) ≡ refused x) → Open f (take at s) → Told f at s x
+  wrong-told h e refusal stays opens =
       record {
-        number = number;
+        refusal = refusal;
         from = omega arith;
         within = omega arith;
         stays = λ l. stays;
@@ -106,22 +108,22 @@ number_same s t at m l e h (inr two) =
     )
 
 -- how a number that stands within the bytes can be at fault
-abbrev Faulty : List ℕ → ℕ → Fault → Type 0
-Faulty s at x = (x.place ≡ at) × ((x.number ≡ 2) ⊎ ((x.number ≡ 1) × (128 ≤ get_or s at 0)))
+abbrev NumberFaulty : List ℕ → ℕ → Fault → Type 0
+NumberFaulty s at x = (x.place ≡ at) × ((x.refusal ≡ OutOfRange) ⊎ ((x.refusal ≡ Faulty) × (128 ≤ get_or s at 0)))
 
-wrong-is : {A : Type 0} (number place : ℕ) (x : Fault) → wrong_at {A = A} number place ≡ refused x → (x.place ≡ place) × (x.number ≡ number)
-wrong-is number place x e = let q = same-fault _ x e in (sym (ap (λ (y : Fault). y.place) q), sym (ap (λ (y : Fault). y.number) q))
+wrong-is : {A : Type 0} (refusal : Refusal) (place : ℕ) (x : Fault) → wrong_at {A = A} refusal place ≡ refused x → (x.place ≡ place) × (x.refusal ≡ refusal)
+wrong-is refusal place x e = let q = same-fault _ x e in (sym (ap (λ (y : Fault). y.place) q), sym (ap (λ (y : Fault). y.refusal) q))
 
-number_faulty : (s : List ℕ) (at : ℕ) (x : Fault) → Stands s at (length s) → number_at s at ≡ refused x → Faulty s at x
+number_faulty : (s : List ℕ) (at : ℕ) (x : Fault) → Stands s at (length s) → number_at s at ≡ refused x → NumberFaulty s at x
 unfolding number_at
 number_faulty s at x h =
-    let P : Read ℕ → Type 0 = λ r. r ≡ refused x → Faulty s at x in
+    let P : Read ℕ → Type 0 = λ r. r ≡ refused x → NumberFaulty s at x in
     let room = h.0 in
     pick_elim P (leb (length s) at) (λ t. absurd (omega (arith, leb-true (length s) at t))) (λ t.
     pick_elim P (ltb (get_or s at 0) 128) (λ t e. absurd (never-took (sym e))) (λ big.
     let least = ltb-false (get_or s at 0) 128 big in
     let two : at + 1 < length s = ⊎_elim (λ p. absurd (omega arith)) (λ p. p) h.1 in
-    let wrong : P (wrong_at 1 at) = λ e. let w = wrong-is 1 at x e in (w.0, inr (w.1, least)) in
+    let wrong : P (wrong_at Faulty at) = λ e. let w = wrong-is Faulty at x e in (w.0, inr (w.1, least)) in
     pick_elim P (leb (length s) (at + 1)) (λ t. absurd (omega (arith, leb-true (length s) (at + 1) t))) (λ t.
     pick_elim P (eqb (get_or s (at + 1) 0) 0) (λ t. wrong) (λ t.
     pick_elim P (ltb (get_or s (at + 1) 0) 128) (λ t e. absurd (never-took (sym e))) (λ t. wrong)))))
@@ -139,7 +141,7 @@ number_parts s at h {G} out half stands =
 
 -- ---- a number and a test of it: refused by the test it is 2 at its own place, taken it ends where the number does
 record Test {A : Type 0} (at : ℕ) (k : ℕ → ℕ → Read A) : Type 0 where
-  fails : (v n : ℕ) (x : Fault) → k v n ≡ refused x → (x.place ≡ at) × (x.number ≡ 2)
+  fails : (v n : ℕ) (x : Fault) → k v n ≡ refused x → (x.place ≡ at) × (x.refusal ≡ OutOfRange)
   passes : (v n : ℕ) (w : A) (m : ℕ) → k v n ≡ took w m → n ≡ m
 
 module _ {A : Type 0} (at : ℕ) (k : ℕ → ℕ → Read A) (test : Test at k) where
@@ -161,7 +163,7 @@ module _ {A : Type 0} (at : ℕ) (k : ℕ → ℕ → Read A) (test : Test at k)
   tested_steady : Steady Tested
   tested_steady s t w m l e q = tested_same s t m l q (tested_ends s w m e).1.1 ∙ e
 
-  tested_faulty : (s : List ℕ) (x : Fault) → Stands s at (length s) → Tested s ≡ refused x → Faulty s at x
+  tested_faulty : (s : List ℕ) (x : Fault) → Stands s at (length s) → Tested s ≡ refused x → NumberFaulty s at x
   tested_faulty s x h e =
       then-refused (number_at s at) k x e (number_faulty s at x h) (λ v n en ek. let f = test.fails v n x ek in (f.0, inl f.1))
 
@@ -195,7 +197,7 @@ module _ {A : Type 0} (at : ℕ) (k : ℕ → ℕ → Read A) (test : Test at k)
       (λ e2.
       let zero-there : get_or again at 0 ≡ 0 = rw out z in
       let w = tested_faulty again _ (omega arith, inl (omega arith)) e2 in
-      ⊎_elim (λ p. omega arith) (λ p. omega arith) w.1)
+      ⊎_elim (λ p. cc) (λ p. omega arith) w.1)
       (record { kept = at; from = omega arith; within = h; cut = inl out; opens = opens s h }))
       (λ short big.
       ended-told _ at s x h (sym (tested_half s short big) ∙ e)
@@ -221,13 +223,12 @@ within_test : (at low high : ℕ) → Test at (within at low high)
 within_test at low high =
     record {
       fails = λ v n x.
-          let P : Read ℕ → Type 0 = λ r. r ≡ refused x → (x.place ≡ at) × (x.number ≡ 2) in
-          pick_elim P (ltb v low) (λ t. wrong-is 2 at x) (λ t. pick_elim P (ltb high v) (λ t. wrong-is 2 at x) (λ t e. absurd (never-took (sym e))));
+          let P : Read ℕ → Type 0 = λ r. r ≡ refused x → (x.place ≡ at) × (x.refusal ≡ OutOfRange) in
+          pick_elim P (ltb v low) (λ t. wrong-is OutOfRange at x) (λ t. pick_elim P (ltb high v) (λ t. wrong-is OutOfRange at x) (λ t e. absurd (never-took (sym e))));
       passes = λ v n w m e.
-          let a = pick-else (ltb v low) (wrong_at 2 at) _ _ never-took e in
-          let b = pick-else (ltb high v) (wrong_at 2 at) _ _ never-took a.1 in
-          let q = b.1 in
-          cc;
+          let a = pick-else (ltb v low) (wrong_at OutOfRange at) _ _ never-took e in
+          let b = pick-else (ltb high v) (wrong_at OutOfRange at) _ _ never-took a.1 in
+          (took_same b.1).1;
     }
 
 pub field_steady : (at low high : ℕ) → Steady (λ s. field_at s at low high)
@@ -241,17 +242,17 @@ field-reader at low high order small =
 
 -- the length of an identifier, 16 or 0
 abbrev lengths : ℕ → ℕ → ℕ → Read Bool
-lengths at v n = pick (eqb v 16) (took true n) (pick (eqb v 0) (took false n) (wrong_at 2 at))
+lengths at v n = pick (eqb v 16) (took true n) (pick (eqb v 0) (took false n) (wrong_at OutOfRange at))
 
 lengths_test : (at : ℕ) → Test at (lengths at)
 lengths_test at =
     record {
       fails = λ v n x.
-          let P : Read Bool → Type 0 = λ r. r ≡ refused x → (x.place ≡ at) × (x.number ≡ 2) in
-          pick_elim P (eqb v 16) (λ t e. absurd (never-took (sym e))) (λ t. pick_elim P (eqb v 0) (λ t e. absurd (never-took (sym e))) (λ t. wrong-is 2 at x));
+          let P : Read Bool → Type 0 = λ r. r ≡ refused x → (x.place ≡ at) × (x.refusal ≡ OutOfRange) in
+          pick_elim P (eqb v 16) (λ t e. absurd (never-took (sym e))) (λ t. pick_elim P (eqb v 0) (λ t e. absurd (never-took (sym e))) (λ t. wrong-is OutOfRange at x));
       passes = λ v n w m.
           let P : Read Bool → Type 0 = λ r. r ≡ took w m → n ≡ m in
-          pick_elim P (eqb v 16) (λ t e. cc) (λ t. pick_elim P (eqb v 0) (λ t e. cc) (λ t e. absurd (never-took e)));
+          pick_elim P (eqb v 16) (λ t e. (took_same e).1) (λ t. pick_elim P (eqb v 0) (λ t e. (took_same e).1) (λ t e. absurd (never-took e)));
     }
 
 pub identified_steady : (at : ℕ) → Steady (λ s. identified_at s at)
@@ -264,13 +265,13 @@ identified-reader at = tested_reader at (lengths at) (lengths_test at) 0 false (
 
 -- ---- one digit
 unfoldable pub digit_at : List ℕ → ℕ → Read (Unit {0})
-digit_at s at = pick (leb (length s) at) (ended_in s) (pick (ltb 9 (get_or s at 0)) (wrong_at 2 at) (took tt (at + 1)))
+digit_at s at = pick (leb (length s) at) (ended_in s) (pick (ltb 9 (get_or s at 0)) (wrong_at OutOfRange at) (took tt (at + 1)))
 
 digit-took : (s : List ℕ) (at : ℕ) → at < length s → get_or s at 0 ≤ 9 → digit_at s at ≡ took tt (at + 1)
 unfolding digit_at
 digit-took s at h d = rw (lt-leb (length s) at h, le-ltb 9 (get_or s at 0) d)
 
-digit-wrong : (s : List ℕ) (at : ℕ) → at < length s → 9 < get_or s at 0 → digit_at s at ≡ wrong_at 2 at
+digit-wrong : (s : List ℕ) (at : ℕ) → at < length s → 9 < get_or s at 0 → digit_at s at ≡ wrong_at OutOfRange at
 unfolding digit_at
 digit-wrong s at h d = rw (lt-leb (length s) at h, lt-ltb 9 (get_or s at 0) d)
 
@@ -282,9 +283,8 @@ digit_shape : (s : List ℕ) (at : ℕ) (v : Unit {0}) (n : ℕ) → digit_at s 
 unfolding digit_at
 digit_shape s at v n e =
     let a = pick-else (leb (length s) at) (ended_in s) _ _ never-took e in
-    let b = pick-else (ltb 9 (get_or s at 0)) (wrong_at 2 at) _ _ never-took a.1 in
-    let q = b.1 in
-    (leb-false (length s) at a.0, (ltb-false 9 (get_or s at 0) b.0, cc))
+    let b = pick-else (ltb 9 (get_or s at 0)) (wrong_at OutOfRange at) _ _ never-took a.1 in
+    (leb-false (length s) at a.0, (ltb-false 9 (get_or s at 0) b.0, sym (took_same b.1).1))
 
 pub digit-ends : (at : ℕ) (s : List ℕ) (v : Unit {0}) (n : ℕ) → digit_at s at ≡ took v n → n ≤ length s
 digit-ends at s v n e = let r = digit_shape s at v n e in omega arith
@@ -321,7 +321,7 @@ digit-reader at =
     tells s x h e false true ea eb =
         let room = leb-false (length s) at ea in
         let over = ltb-true 9 (get_or s at 0) eb in
-        let w = wrong-is 2 at x (sym (digit-wrong s at room over) ∙ e) in
+        let w = wrong-is OutOfRange at x (sym (digit-wrong s at room over) ∙ e) in
         wrong-told _ at s x room w.0 (inr w.1)
         (λ more.
         let l = length-append s more in
@@ -343,13 +343,12 @@ identifier_shape : (s : List ℕ) (at : ℕ) (v : List ℕ) (n : ℕ) → identi
 unfolding identifier_at
 identifier_shape s at v n e =
     let p = pick-else (ltb (length s) (at + 16)) (ended_in s) _ _ never-took e in
-    let q = p.1 in
-    (ltb-false (length s) (at + 16) p.0, (cc, cc))
+    (ltb-false (length s) (at + 16) p.0, took_same p.1)
 
 identifier-ended : (s : List ℕ) (at : ℕ) (x : Fault) → identifier_at true s at ≡ refused x → x.place ≡ length s
 unfolding identifier_at
 identifier-ended s at x =
-    pick_elim (λ r. r ≡ refused x → x.place ≡ length s) (ltb (length s) (at + 16)) (λ t e. (wrong-is 1 (length s) x e).0) (λ t e. absurd (never-took (sym e)))
+    pick_elim (λ r. r ≡ refused x → x.place ≡ length s) (ltb (length s) (at + 16)) (λ t e. (wrong-is Faulty (length s) x e).0) (λ t e. absurd (never-took (sym e)))
 
 -- the bytes from a place on, within those that begin alike
 part_of : (s : List ℕ) (at n : ℕ) → at ≤ length s → drop at (take (at + n) s) ≡ take n (drop at s)

@@ -1,4 +1,5 @@
 -- What a reader has to be for its faults to tell what the claims say, and that one reader behind another is such a reader again.
+use Rattle.std.specs.Prelude.{Ok, Err}
 use Prim.Native.Nat.{ℕ, ◌+◌, ◌≤◌, ◌<◌}
 use mathlib.Core.Path.{◌≡◌, refl, sym, ◌∙◌, ap}
 use mathlib.Core.Bool.{Bool, true, false}
@@ -12,7 +13,8 @@ use Rattle.lists.specs.Words.{Bytes}
 use Rattle.lists.proofs.WordsLaws.{bytes_append}
 use Rattle.message.specs.Reading.{Read, took, refused, and_then}
 use Rattle.message.specs.declared.Fault.{Fault}
-use Rattle.message.proofs.Reading.{never-took, then_elim}
+use Rattle.message.specs.declared.refusal.Refusal.TheVariants.{Faulty, OutOfRange}
+use Rattle.message.proofs.Reading.{never-took, took_same, then_elim}
 
 -- ---- what is asked of a reader
 -- what it takes hangs only on the bytes in front of its end
@@ -36,11 +38,11 @@ pub record Kept {A : Type 0} (f : List ℕ → Read A) (at : ℕ) (s : List ℕ)
 
 -- what a fault tells of a reader that starts at a place
 pub record Told {A : Type 0} (f : List ℕ → Read A) (at : ℕ) (s : List ℕ) (x : Fault) : Type 0 where
-  pub number : (x.number ≡ 1) ⊎ (x.number ≡ 2)
+  pub refusal : (x.refusal ≡ Faulty) ⊎ (x.refusal ≡ OutOfRange)
   pub from : at ≤ x.place
   pub within : x.place ≤ length s
   pub stays : x.place < length s → (more : List ℕ) → f (s ++ more) ≡ refused x
-  pub one : x.place ≡ length s → x.number ≡ 1
+  pub one : x.place ≡ length s → x.refusal ≡ Faulty
   pub asks : x.place ≡ length s → f (s ++ (0 ∷ [])) ≡ refused x → ⊥
   pub keeps : Kept f at s x.place
 
@@ -60,8 +62,8 @@ cut-same s more n c h k = take-append-le n (take c s) more (omega (arith, length
 pub then-refused :
     {A B : Type 0} (r : Read A) (k : A → ℕ → Read B) (x : Fault) → and_then r k ≡ refused x → {G : Type 0} →
     (r ≡ refused x → G) → ((v : A) (n : ℕ) → r ≡ took v n → k v n ≡ refused x → G) → G
-then-refused (took v n) k x e here later = later v n refl e
-then-refused (refused y) k x e here later = let q : y ≡ x = cc in here (ap (λ (z : Fault). refused z) q)
+then-refused (Ok (v, n)) k x e here later = later v n refl e
+then-refused (Err y) k x e here later = let q : y ≡ x = cc in here (ap (λ (z : Fault). refused z) q)
 
 module _ {A : Type 0} {f : List ℕ → Read A} {at : ℕ} where
   -- from its start on a reader can always be gone on with
@@ -69,11 +71,11 @@ module _ {A : Type 0} {f : List ℕ → Read A} {at : ℕ} where
   starts r t l = go (f t) refl
     where
       go : (a : Read A) → f t ≡ a → Open f t
-      go (took v n) e =
+      go (Ok (v, n)) e =
           let b = r.ends t v n (omega arith) e in
           let k : n ≡ length t = omega arith in
           record { more = []; bytes = λ i. omega arith; value = v; read = rw (append-nil t) (rw (← k) e) }
-      go (refused x) e =
+      go (Err x) e =
           let keeps = (r.tells t x (omega arith) e).keeps in
           let from = keeps.from in
           rw (take_all keeps.kept t (omega arith)) at keeps.opens
@@ -89,7 +91,7 @@ moved f g at start s x h t stays asks opens =
     let from = t.from in
     let later = k.from in
     record {
-      number = t.number;
+      refusal = t.refusal;
       from = omega arith;
       within = t.within;
       stays = λ q more. stays more (t.stays q more);
@@ -184,7 +186,7 @@ module _ {A B : Type 0} (f : List ℕ → Read A) (k : A → ℕ → List ℕ �
 
 -- ---- what takes without reading, and what is made of what was taken
 pub taken : {A : Type 0} (g : List ℕ → A) (at : ℕ) → Reader (λ s. took (g s) at) at
-taken g at = record { ends = λ s v n h e. let q : at ≡ n = cc in omega arith; tells = λ s x h e. absurd (never-took (sym e)) }
+taken g at = record { ends = λ s v n h e. let q = took_same e in omega arith; tells = λ s x h e. absurd (never-took (sym e)) }
 
 pub made : {A B : Type 0} (f : List ℕ → Read A) (g : A → ℕ → List ℕ → B) (at : ℕ) → Reader f at → Reader (λ s. and_then (f s) (λ v n. took (g v n s) n)) at
 made f g at r =

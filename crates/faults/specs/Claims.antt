@@ -7,10 +7,11 @@ use Rattle.message.specs.Equality.{Formed}
 use Rattle.message.specs.Wire.{message_at}
 use Rattle.message.specs.declared.Fault.{Fault}
 use Rattle.message.specs.declared.Message.{Message}
+use Rattle.message.specs.declared.refusal.Refusal.TheVariants.{Faulty, OutOfRange}
 
--- the number is 1 or 2, the place is that of a byte or, behind them all, the length
+-- the refusal is 1 or 2, the place is that of a byte or, behind them all, the length
 abbrev pub PlaceWithin : Type 0
-PlaceWithin = (s : List ℕ) (fault : Fault) → message_at s ≡ refused fault → (fault.place ≤ length s) × ((fault.number ≡ 1) ⊎ (fault.number ≡ 2))
+PlaceWithin = (s : List ℕ) (fault : Fault) → message_at s ≡ refused fault → (fault.place ≤ length s) × ((fault.refusal ≡ Faulty) ⊎ (fault.refusal ≡ OutOfRange))
 
 -- a fault at a byte stays, the same at the same place, whatever bytes follow
 abbrev pub NothingMends : Type 0
@@ -20,7 +21,7 @@ NothingMends = (s more : List ℕ) (fault : Fault) → message_at s ≡ refused 
 abbrev pub EndedAsks : Type 0
 EndedAsks =
     (s : List ℕ) (fault : Fault) → message_at s ≡ refused fault → fault.place ≡ length s →
-    (fault.number ≡ 1) × (message_at (s ++ (0 ∷ [])) ≡ message_at s → ⊥)
+    (fault.refusal ≡ Faulty) × (message_at (s ++ (0 ∷ [])) ≡ message_at s → ⊥)
 
 -- ---- nothing further left is wrong
 -- some bytes are the start of a message's bytes

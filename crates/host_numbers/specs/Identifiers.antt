@@ -1,9 +1,9 @@
 -- An identifier as a host gives it and is shown it, seventeen bytes: how long it is, 16 or 0, and sixteen bytes, which don't count where it is 0.
-use Rattle.std.specs.Prelude.{ℕ, Bool, true, List, ◌∷◌, get_or, drop, replicate, eqb}
+use Rattle.lists.specs.declared.words.Words.{Words}
+use Rattle.std.specs.Prelude.{ℕ, Bool, true, List, ◌∷◌, get_or, drop, replicate, eqb, Option}
 use Rattle.lists.specs.Choice.{pick}
 use Rattle.lists.specs.Words.{bytes_of}
 use Rattle.desk.specs.Letter.{identifier_of, identifier_words, is_identified}
-use Rattle.desk.specs.declared.letter.Identifier.{Identifier}
 use Rattle.terms.specs.declared.request.Name.{Name}
 
 -- a length that an identifier can have
@@ -27,5 +27,5 @@ unfoldable pub identifier_told : Bool → List ℕ → List ℕ
 identifier_told identified bytes = pick identified (16 ∷ bytes) (replicate 17 0)
 
 -- the same of a record's
-unfoldable pub identifier_shown : Identifier → List ℕ
+unfoldable pub identifier_shown : Option Words → List ℕ
 identifier_shown identifier = identifier_told (is_identified identifier) (bytes_of (identifier_words identifier))

@@ -1,18 +1,20 @@
-// What a host gives as plain numbers, made an entry of the desk: a number that stands for nothing is refused with 2, before anything else is looked at.
+// What a host gives as plain numbers, made an entry of the desk: a number that stands for nothing is refused with 2, before anything else is looked at. Acts, timers and
+// choices are numbers here alone, since C's interface gives them so: each is matched once, and is an enum of the desk's tables from there on.
 ghost use Rattle.std.specs.Prelude.{◌≡◌};
 ghost use Rattle.host_numbers.specs.Given.{clerk_act_named, clerk_act_given, timer_named, timer_given, line_act_named, line_act_given, guard_given, report_given, ask_words, asking_of, ask_given, clerk_bytes_given};
 
 use crate::identifiers::{BYTES, bytes_given, is_given, is_identifier, name_given};
 use crate::messages::{field_given, service_given};
 use clerk::entry::{
-    Asking, BytesEntry as ClerkBytesEntry, Entry as ClerkEntry, act_entry as clerk_act_entry,
-    ask_entry, bytes_entry as clerk_bytes_entry, timer_entry,
+    Asking, Entry as ClerkEntry, act_entry as clerk_act_entry, ask_entry,
+    bytes_entry as clerk_bytes_entry, timer_entry,
 };
 use clerk_table::inputs::Act as ClerkAct;
 use clerk_table::table::Timer;
+use desk::entry::BytesEntry;
 use line::entry::{Entry as LineEntry, act_entry as line_act_entry, guard_entry, report_entry};
 use line_table::inputs::Act as LineAct;
-use lists::Found;
+use message::refusal::Refusal;
 use terms::codes::kind_of;
 use terms::request::Name;
 
@@ -27,19 +29,20 @@ fn clerk_act_named(name: Name, number: u64) -> ClerkEntry
         3 => clerk_act_entry(name, ClerkAct::GoOn),
         4 => clerk_act_entry(name, ClerkAct::Cancel),
         5 => clerk_act_entry(name, ClerkAct::Fell),
-        _ => ClerkEntry::Refused(2),
+        _ => Err(Refusal::OutOfRange),
     }
 }
 
+// This one and the three of a timer, of the line's acts and of the guard differ in their entry alone. One function would take the entry as a closure and say its promise by
+// `F.post` and by cases: longer than the test that it would save.
 #[tactic(auto, unfolding(crate::specs::Given::clerk_act_given))]
 pub fn clerk_act_given(identifier: [u8; BYTES], place: u64, number: u64) -> ClerkEntry
     ensures { result ≡ clerk_act_given identifier place number }
 {
     if is_identifier(identifier) {
-        let name = name_given(identifier, place);
-        return clerk_act_named(name, number);
+        return clerk_act_named(name_given(identifier, place), number);
     }
-    ClerkEntry::Refused(2)
+    Err(Refusal::OutOfRange)
 }
 
 // A timer that ran out at the clerk's end, by its number.
@@ -51,7 +54,7 @@ fn timer_named(name: Name, number: u64) -> ClerkEntry
         1 => timer_entry(name, Timer::T1),
         2 => timer_entry(name, Timer::T2),
         3 => timer_entry(name, Timer::T3),
-        _ => ClerkEntry::Refused(2),
+        _ => Err(Refusal::OutOfRange),
     }
 }
 
@@ -60,10 +63,9 @@ pub fn timer_given(identifier: [u8; BYTES], place: u64, number: u64) -> ClerkEnt
     ensures { result ≡ timer_given identifier place number }
 {
     if is_identifier(identifier) {
-        let name = name_given(identifier, place);
-        return timer_named(name, number);
+        return timer_named(name_given(identifier, place), number);
     }
-    ClerkEntry::Refused(2)
+    Err(Refusal::OutOfRange)
 }
 
 // An act at the line's end, by its number.
@@ -76,7 +78,7 @@ fn line_act_named(name: Name, number: u64) -> LineEntry
         2 => line_act_entry(name, LineAct::CallFailed),
         3 => line_act_entry(name, LineAct::Cancel),
         4 => line_act_entry(name, LineAct::Fell),
-        _ => LineEntry::Refused(2),
+        _ => Err(Refusal::OutOfRange),
     }
 }
 
@@ -85,10 +87,9 @@ pub fn line_act_given(identifier: [u8; BYTES], place: u64, number: u64) -> LineE
     ensures { result ≡ line_act_given identifier place number }
 {
     if is_identifier(identifier) {
-        let name = name_given(identifier, place);
-        return line_act_named(name, number);
+        return line_act_named(name_given(identifier, place), number);
     }
-    LineEntry::Refused(2)
+    Err(Refusal::OutOfRange)
 }
 
 // A guard that ran out at the line's end.
@@ -97,10 +98,9 @@ pub fn guard_given(identifier: [u8; BYTES], place: u64) -> LineEntry
     ensures { result ≡ guard_given identifier place }
 {
     if is_identifier(identifier) {
-        let name = name_given(identifier, place);
-        return guard_entry(name);
+        return guard_entry(name_given(identifier, place));
     }
-    LineEntry::Refused(2)
+    Err(Refusal::OutOfRange)
 }
 
 // A line report: 0 free, 1 busy.
@@ -111,7 +111,7 @@ pub fn report_given(digits: [u8; 16], busy: u64) -> LineEntry
     if busy <= 1 {
         return report_entry(digits, busy == 1);
     }
-    LineEntry::Refused(2)
+    Err(Refusal::OutOfRange)
 }
 
 // Whether the identifier's length (16 or 0), kind (1 or 2) and can-keep (0 or 1) are words of an ask.
@@ -119,16 +119,7 @@ pub fn report_given(digits: [u8; 16], busy: u64) -> LineEntry
 fn ask_words(identifier: [u8; BYTES], kind: u64, canKeep: u64) -> bool
     ensures { result ≡ ask_words identifier kind canKeep }
 {
-    if 1 <= kind {
-        if kind <= 2 {
-            if canKeep <= 1 {
-                return is_identifier(identifier);
-            }
-            return false;
-        }
-        return false;
-    }
-    false
+    (kind == 1 || kind == 2) && canKeep <= 1 && is_identifier(identifier)
 }
 
 // What is asked for; a service or a preference that is out of range stays out of range.
@@ -143,20 +134,15 @@ fn asking(
 ) -> Asking
     ensures { result ≡ asking_of identifier kind numberA numberB service canKeep preference }
 {
-    let identified = is_given(identifier);
-    let bytes = bytes_given(identifier);
-    let k = kind_of(kind);
-    let s = service_given(service);
-    let p = field_given(preference);
     Asking {
-        identified,
-        identifier: bytes,
-        kind: k,
+        identified: is_given(identifier),
+        identifier: bytes_given(identifier),
+        kind: kind_of(kind),
         numberA,
         numberB,
-        service: s,
+        service: service_given(service),
         canKeep: canKeep == 1,
-        preference: p,
+        preference: field_given(preference),
     }
 }
 
@@ -174,25 +160,24 @@ pub fn ask_given(
     ensures { result ≡ ask_given identifier kind numberA numberB service canKeep preference }
 {
     if ask_words(identifier, kind, canKeep) {
-        let a = asking(
+        return ask_entry(asking(
             identifier, kind, numberA, numberB, service, canKeep, preference,
-        );
-        return ask_entry(a);
+        ));
     }
-    ClerkEntry::Refused(2)
+    Err(Refusal::OutOfRange)
 }
 
 // Bytes at the clerk's end, with the host's word on User A, 0 not busy, 1 busy, and the place that it names.
 #[tactic(auto, unfolding(crate::specs::Given::clerk_bytes_given))]
-pub fn clerk_bytes_given(bytes: &[u8], busy: u64, place: u64) -> ClerkBytesEntry
+pub fn clerk_bytes_given(bytes: &[u8], busy: u64, place: u64) -> BytesEntry<ClerkEntry>
     ensures { result ≡ clerk_bytes_given bytes.now busy place }
 {
     if busy <= 1 {
         return clerk_bytes_entry(bytes, busy == 1, place as usize);
     }
-    ClerkBytesEntry {
-        entry: ClerkEntry::Refused(2),
+    BytesEntry {
+        entry: Err(Refusal::OutOfRange),
         next: 0,
-        fault: Found::Nothing,
+        fault: None,
     }
 }

@@ -2,30 +2,15 @@
 ghost use Rattle.std.specs.Prelude.{◌≡◌};
 ghost use Rattle.host_numbers.specs.Messages.{service_told, service_of, field_of, message_numbers, least, body_given, carrier_given, write_face, message_face};
 
-use message::{Body, Carrier, Message, Service};
-use writer::Written;
+use message::{Body, Carrier, Message};
+use told::refusal_told;
 use writer::numbers::{carrier_number, type_number};
 
-#[derive(Clone, Copy)]
-pub enum BodyGiven {
-    Body(Body),
-    Unknown,
-}
-
-#[derive(Clone, Copy)]
-pub enum CarrierGiven {
-    Carrier(Carrier),
-    Unknown,
-}
-
 // The service that stands beside a body, 0 where it is absent.
-fn service_told(service: Service) -> u64
+fn service_told(service: Option<u64>) -> u64
     ensures { result ≡ service_told service }
 {
-    match service {
-        Service::Absent => 0,
-        Service::Is(number) => number,
-    }
+    service.unwrap_or(0)
 }
 
 // The service of a request, and of other types the one beside them.
@@ -33,18 +18,8 @@ fn service_of(body: Body, beside: u64) -> u64
     ensures { result ≡ service_of body beside }
 {
     match body {
-        Body::CcbsRequest { service, flags: _ } => service as u64,
-        Body::CcnrRequest { service, flags: _ } => service as u64,
-        Body::RequestResult { keep: _ } => beside,
-        Body::RequestError { error: _ } => beside,
-        Body::CcExecPossible => beside,
-        Body::CcRingout => beside,
-        Body::RingoutError { error: _ } => beside,
-        Body::CcSuspend => beside,
-        Body::CcResume => beside,
-        Body::CcCancel => beside,
-        Body::CallAlerts => beside,
-        Body::CallFailed => beside,
+        Body::CcbsRequest { service, .. } | Body::CcnrRequest { service, .. } => u64::from(service),
+        _ => beside,
     }
 }
 
@@ -53,31 +28,22 @@ fn field_of(body: Body) -> u64
     ensures { result ≡ field_of body }
 {
     match body {
-        Body::CcbsRequest { service: _, flags } => flags as u64,
-        Body::CcnrRequest { service: _, flags } => flags as u64,
-        Body::RequestResult { keep } => keep as u64,
-        Body::RequestError { error } => error as u64,
-        Body::CcExecPossible => 0,
-        Body::CcRingout => 0,
-        Body::RingoutError { error } => error as u64,
-        Body::CcSuspend => 0,
-        Body::CcResume => 0,
-        Body::CcCancel => 0,
-        Body::CallAlerts => 0,
-        Body::CallFailed => 0,
+        Body::CcbsRequest { flags, .. } | Body::CcnrRequest { flags, .. } => u64::from(flags),
+        Body::RequestResult { keep } => u64::from(keep),
+        Body::RequestError { error } | Body::RingoutError { error } => u64::from(error),
+        _ => 0,
     }
 }
 
 // Type, carrier, service and field.
-pub fn message_numbers(carrier: Carrier, service: Service, body: Body) -> [u64; 4]
+pub fn message_numbers(carrier: Carrier, service: Option<u64>, body: Body) -> [u64; 4]
     ensures { result ≡ message_numbers carrier service body }
 {
-    let typed = type_number(body);
-    let carried = carrier_number(carrier);
-    let beside = service_told(service);
-    let own = service_of(body, beside);
+    let typed = u64::from(type_number(body));
+    let carried = u64::from(carrier_number(carrier));
+    let own = service_of(body, service_told(service));
     let field = field_of(body);
-    [typed as u64, carried as u64, own, field]
+    [typed, carried, own, field]
 }
 
 // A service; one out of range stays out of range.
@@ -85,10 +51,7 @@ pub fn message_numbers(carrier: Carrier, service: Service, body: Body) -> [u64; 
 pub fn service_given(number: u64) -> u16
     ensures { result ≡ least 16384 number }
 {
-    if number < 16384 {
-        return number as u16;
-    }
-    16384
+    number.min(16384) as u16
 }
 
 // Flags, keep or error, none of which is over 5; one out of range stays out of range.
@@ -96,51 +59,50 @@ pub fn service_given(number: u64) -> u16
 pub fn field_given(number: u64) -> u8
     ensures { result ≡ least 255 number }
 {
-    if number < 255 {
-        return number as u8;
-    }
-    255
+    number.min(255) as u8
 }
 
-// The body of a type, by its number.
+// The body of a type, by its number, where there is such a type.
 #[tactic(auto, unfolding(crate::specs::Messages::body_given))]
-pub fn body_given(typeNumber: u64, service: u16, field: u8) -> BodyGiven
+pub fn body_given(typeNumber: u64, service: u16, field: u8) -> Option<Body>
     ensures { result ≡ body_given typeNumber service field }
 {
-    match typeNumber {
-        1 => BodyGiven::Body(Body::CcbsRequest {
+    let body = match typeNumber {
+        1 => Body::CcbsRequest {
             service,
             flags: field,
-        }),
-        2 => BodyGiven::Body(Body::CcnrRequest {
+        },
+        2 => Body::CcnrRequest {
             service,
             flags: field,
-        }),
-        3 => BodyGiven::Body(Body::RequestResult { keep: field }),
-        4 => BodyGiven::Body(Body::RequestError { error: field }),
-        5 => BodyGiven::Body(Body::CcExecPossible),
-        6 => BodyGiven::Body(Body::CcRingout),
-        7 => BodyGiven::Body(Body::RingoutError { error: field }),
-        8 => BodyGiven::Body(Body::CcSuspend),
-        9 => BodyGiven::Body(Body::CcResume),
-        10 => BodyGiven::Body(Body::CcCancel),
-        11 => BodyGiven::Body(Body::CallAlerts),
-        12 => BodyGiven::Body(Body::CallFailed),
-        _ => BodyGiven::Unknown,
-    }
+        },
+        3 => Body::RequestResult { keep: field },
+        4 => Body::RequestError { error: field },
+        5 => Body::CcExecPossible,
+        6 => Body::CcRingout,
+        7 => Body::RingoutError { error: field },
+        8 => Body::CcSuspend,
+        9 => Body::CcResume,
+        10 => Body::CcCancel,
+        11 => Body::CallAlerts,
+        12 => Body::CallFailed,
+        _ => return None,
+    };
+    Some(body)
 }
 
+// The carrier of a number, where it is one.
 #[tactic(auto, unfolding(crate::specs::Messages::carrier_given))]
-pub fn carrier_given(number: u64) -> CarrierGiven
+pub fn carrier_given(number: u64) -> Option<Carrier>
     ensures { result ≡ carrier_given number }
 {
     match number {
-        1 => CarrierGiven::Carrier(Carrier::Setup),
-        2 => CarrierGiven::Carrier(Carrier::Connect),
-        3 => CarrierGiven::Carrier(Carrier::Facility),
-        4 => CarrierGiven::Carrier(Carrier::ReleaseComplete),
-        5 => CarrierGiven::Carrier(Carrier::Alerting),
-        _ => CarrierGiven::Unknown,
+        1 => Some(Carrier::Setup),
+        2 => Some(Carrier::Connect),
+        3 => Some(Carrier::Facility),
+        4 => Some(Carrier::ReleaseComplete),
+        5 => Some(Carrier::Alerting),
+        _ => None,
     }
 }
 
@@ -150,10 +112,10 @@ pub fn write_message(out: &mut [u8], place: usize, m: Message, written: &mut u64
     ensures { write_face out.new written.new result ≡ message_face out.old place m written.old }
 {
     match writer::write(out, place, m) {
-        Written::Wrote(length) => {
+        Ok(length) => {
             *written = length as u64;
             0
         }
-        Written::Refused(refusal) => refusal as u64,
+        Err(refusal) => refusal_told(Some(refusal)),
     }
 }

@@ -14,7 +14,6 @@ use line_records::codes::state_code as line_state_code;
 use line_table::line::Line;
 use line_table::record::Record as LineRecord;
 use line_table::step::only_guard;
-use lists::words::bytes_of;
 use terms::Terms;
 use terms::codes::{connection_code, flag_code, keep_code, kind_code};
 use told::timers_number;
@@ -41,22 +40,16 @@ pub fn show_names(
 )
     ensures { (identifier.new ≡ identifier_shown terms.identifier) × (numberA.new ≡ bytes_of terms.numberA) × (numberB.new ≡ bytes_of terms.numberB) }
 {
-    let i = terms.identifier;
-    let a = terms.numberA;
-    let b = terms.numberB;
-    *identifier = identifier_shown(i);
-    *numberA = bytes_of(a);
-    *numberB = bytes_of(b);
+    *identifier = identifier_shown(terms.identifier);
+    *numberA = <[u8; 16]>::from(terms.numberA);
+    *numberB = <[u8; 16]>::from(terms.numberB);
 }
 
 // A deadline that is put while its timer runs stays in the desk's words when it is stopped, and is not shown then.
 fn if_runs(runs: bool, deadline: u32) -> u64
     ensures { result ≡ if_runs runs deadline }
 {
-    if runs {
-        return deadline as u64;
-    }
-    0
+    if runs { u64::from(deadline) } else { 0 }
 }
 
 // By the record's state.
@@ -64,15 +57,11 @@ fn clerk_running(state: ClerkState, deadlines: Deadlines) -> Running
     ensures { result ≡ clerk_running state deadlines }
 {
     let running = timers_running(state);
-    let timers = timers_number(running);
-    let t1 = if_runs(running.t1, deadlines.t1);
-    let t2 = if_runs(running.t2, deadlines.t2);
-    let t3 = if_runs(running.t3, deadlines.t3);
     Running {
-        timers,
-        t1,
-        t2,
-        t3,
+        timers: timers_number(running),
+        t1: if_runs(running.t1, deadlines.t1),
+        t2: if_runs(running.t2, deadlines.t2),
+        t3: if_runs(running.t3, deadlines.t3),
         guard: 0,
     }
 }
@@ -81,14 +70,12 @@ fn clerk_running(state: ClerkState, deadlines: Deadlines) -> Running
 fn line_running(guard: u32) -> Running
     ensures { result ≡ line_running guard }
 {
-    let running = only_guard();
-    let timers = timers_number(running);
     Running {
-        timers,
+        timers: timers_number(only_guard()),
         t1: 0,
         t2: 0,
         t3: 0,
-        guard: guard as u64,
+        guard: u64::from(guard),
     }
 }
 
@@ -104,26 +91,16 @@ fn record_numbers(
 ) -> [u64; NUMBERS]
     ensures { result ≡ record_numbers terms canKeep state active suspended down running }
 {
-    let kind = terms.kind;
-    let keep = terms.keep;
-    let connection = terms.connection;
-    let k = kind_code(kind);
-    let can = flag_code(canKeep);
-    let kept = keep_code(keep);
-    let c = connection_code(connection);
-    let a = flag_code(active);
-    let s = flag_code(suspended);
-    let d = flag_code(down);
     [
-        k,
+        kind_code(terms.kind),
         terms.service,
-        can,
-        kept,
-        c,
+        flag_code(canKeep),
+        keep_code(terms.keep),
+        connection_code(terms.connection),
         state,
-        a,
-        s,
-        d,
+        flag_code(active),
+        flag_code(suspended),
+        flag_code(down),
         running.timers,
         running.t1,
         running.t2,
@@ -136,36 +113,28 @@ fn record_numbers(
 pub fn clerk_numbers(r: ClerkRecord, deadlines: Deadlines) -> [u64; NUMBERS]
     ensures { result ≡ clerk_numbers r deadlines }
 {
-    let terms = r.terms;
-    let state = r.state;
-    let code = clerk_state_code(state);
-    let running = clerk_running(state, deadlines);
-    record_numbers(terms, r.canKeep, code, false, false, r.down, running)
+    let code = clerk_state_code(r.state);
+    let running = clerk_running(r.state, deadlines);
+    record_numbers(r.terms, r.canKeep, code, false, false, r.down, running)
 }
 
 // A line's record has no can-keep.
 pub fn line_numbers(r: LineRecord, guard: u32) -> [u64; NUMBERS]
     ensures { result ≡ line_numbers r guard }
 {
-    let terms = r.terms;
-    let state = r.state;
-    let code = line_state_code(state);
+    let code = line_state_code(r.state);
     let running = line_running(guard);
-    record_numbers(terms, false, code, r.active, r.suspended, r.down, running)
+    record_numbers(r.terms, false, code, r.active, r.suspended, r.down, running)
 }
 
 // 1 CCBS + 2 CCNR.
 pub fn kinds_number(line: Line) -> u64
     ensures { result ≡ kinds_number line }
 {
-    if line.ccbs {
-        if line.ccnr {
-            return 3;
-        }
-        return 1;
+    match (line.ccbs, line.ccnr) {
+        (true, true) => 3,
+        (true, false) => 1,
+        (false, true) => 2,
+        (false, false) => 0,
     }
-    if line.ccnr {
-        return 2;
-    }
-    0
 }

@@ -1,44 +1,53 @@
 // The words of an event's cause.
-use crate::events::{BUSY, CLERK_HEARS, Event, NAMELESS};
-use crate::row::either;
+use crate::events::{Event, EventKind, Naming, Tag};
 use crate::words::put_row;
-use printing::{Page, put_text};
+use printing::Page;
 
 // A tag: the request's number of two digits, or two dashes where it has no identifier.
-pub fn put_tag(page: Page, tag: u8) -> Page {
-    if tag == NAMELESS {
-        return put_text(page, b"#--");
+pub fn put_tag(page: &mut Page, tag: Tag) {
+    match tag {
+        None => page.put_text(b"#--"),
+        Some(number) => page.put_text(&[b'#', b'0' + number / 10 % 10, b'0' + number % 10]),
     }
-    put_text(page, &[b'#', b'0' + tag / 10 % 10, b'0' + tag % 10])
 }
 
-// A request without an identifier by the place of its record, a digit.
-pub fn put_placed(page: Page, place: u8) -> Page {
-    put_text(put_text(put_tag(page, NAMELESS), b" at "), &[place])
+// A place, a digit.
+pub fn put_place(page: &mut Page, place: usize) {
+    page.put_text(&[b'0' + (place % 10) as u8]);
+}
+
+// A request without an identifier by the place of its record.
+pub fn put_placed(page: &mut Page, place: usize) {
+    put_tag(page, None);
+    page.put_text(b" at ");
+    put_place(page, place);
 }
 
 // The tag, and the place that tells requests without an identifier apart, where the event is about a request of the desk's own.
-fn put_subject(page: Page, event: Event) -> Page {
-    if BUSY <= event.code {
-        return page;
+fn put_subject(page: &mut Page, event: Event) {
+    if event.kind < EventKind::Busy {
+        match event.naming {
+            Naming::Place(place) => put_placed(page, place),
+            Naming::NoPlace | Naming::Silent => put_tag(page, event.about),
+        }
     }
-    if event.place == b' ' {
-        return put_tag(page, event.about);
-    }
-    put_placed(page, event.place)
 }
 
 // The place that the host names with a message.
-fn put_naming(page: Page, place: u8) -> Page {
-    match place {
-        b' ' => page,
-        b'-' => put_text(page, b"the host names no place\n"),
-        _ => put_text(put_text(page, b"the host names place "), &[place, b'\n']),
+fn put_naming(page: &mut Page, naming: Naming) {
+    match naming {
+        Naming::Silent => {}
+        Naming::NoPlace => page.put_text(b"the host names no place\n"),
+        Naming::Place(place) => {
+            page.put_text(b"the host names place ");
+            put_place(page, place);
+            page.put_text(b"\n");
+        }
     }
 }
 
 // The words of a cause. What is about the second line stands ten entries further on.
-fn put_cause_words(page: Page, entry: usize) -> Page {
+fn put_cause_words(page: &mut Page, entry: usize) {
     put_row(
         page,
         b"",
@@ -66,17 +75,22 @@ line 52290 is free
 Look at line 52290
 ",
         entry,
-    )
+    );
 }
 
 // A row with the words of the cause, if there are any.
-pub fn put_cause(page: Page, event: Event) -> Page {
-    if CLERK_HEARS <= event.code {
-        return put_naming(page, event.place);
+pub fn put_cause(page: &mut Page, event: Event) {
+    if EventKind::ClerkHears <= event.kind {
+        return put_naming(page, event.naming);
     }
-    let entry = event.code as usize;
+    let entry = event.kind as usize;
+    put_subject(page, event);
     put_cause_words(
-        put_subject(page, event),
-        either(event.about == 52, entry + 10, entry),
-    )
+        page,
+        if event.about == Some(52) {
+            entry + 10
+        } else {
+            entry
+        },
+    );
 }

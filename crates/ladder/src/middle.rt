@@ -1,17 +1,19 @@
 // The middle of the ladder: a message is its name, and below it its arrow, at the side of the end that hears or sends it.
 use crate::cause::put_tag;
-use crate::events::NAMELESS;
-use crate::row::either;
-use printing::{Page, blank_page, go_to, part, put_entry, put_text};
+use crate::events::Tag;
+use printing::{Page, blank_page};
 
-// Heads of arrows, by their entries in the table below: where a message arrives at the clerk's or the line's end, where it is sent, where a stray one sets out.
-pub const AT_CLERK: usize = 0;
-
-pub const AT_LINE: usize = 1;
-
-pub const SENT: usize = 2;
-
-pub const STRAYS: usize = 3;
+// The ends of an arrow, in the order of the table below: where a message arrives at the clerk's or the line's end, where it is sent, where a stray one sets out; and the
+// part of the way that is not seen, behind it and before it.
+#[derive(Clone, Copy)]
+pub enum End {
+    AtClerk,
+    AtLine,
+    Sent,
+    Stray,
+    Behind,
+    Before,
+}
 
 // Where a name of so many bytes begins in the row that begins at a place: behind a blank at the left, or before one at the right.
 fn name_place(at: usize, atLine: bool, length: usize) -> usize {
@@ -19,24 +21,21 @@ fn name_place(at: usize, atLine: bool, length: usize) -> usize {
         return at;
     }
     if atLine {
-        if length < 38 {
-            return at + (37 - length);
-        }
-        return at;
+        return at + 37usize.saturating_sub(length);
     }
     at + 1
 }
 
 // A row with a name.
-pub fn put_name(page: Page, atLine: bool, name: &[u8]) -> Page {
-    let place = name_place(page.at, atLine, name.len());
-    put_text(put_text(go_to(page, place), name), b"\n")
+pub fn put_name(page: &mut Page, atLine: bool, name: &[u8]) {
+    page.go_to(name_place(page.at, atLine, name.len()));
+    page.put_text(name);
+    page.put_text(b"\n");
 }
 
 // A type, and ten entries further on for each one that its field is more than 0.
-fn put_type(page: Page, entry: usize) -> Page {
-    put_entry(
-        page,
+fn put_type(page: &mut Page, entry: usize) {
+    page.put_entry(
         b"
  ccbsRequest
  ccnrRequest
@@ -67,18 +66,17 @@ fn put_type(page: Page, entry: usize) -> Page {
  ringout error failureToMatch
 ",
         entry,
-    )
+    );
 }
 
-// The parts of an arrow: heads; three dots, the part of the way that is not seen, behind it and before it.
-fn put_end(page: Page, entry: usize) -> Page {
-    put_entry(page, b"<\n>\no\n?\n...\n          ...\n", entry)
+fn put_end(page: &mut Page, end: End) {
+    page.put_entry(b"<\n>\no\n?\n...\n          ...\n", end as usize);
 }
 
 // A row with an arrow. A carrier, by its number, stands between dashes: twenty-four bytes in all.
-fn put_arrow(page: Page, atLine: bool, head: usize, carrier: u8) -> Page {
-    let carried = put_entry(
-        put_end(page, either(atLine, 5, head)),
+fn put_arrow(page: &mut Page, atLine: bool, end: End, carrier: u8) {
+    put_end(page, if atLine { End::Before } else { end });
+    page.put_entry(
         b"
 --------[Setup]---------
 -------[Connect]--------
@@ -88,7 +86,8 @@ fn put_arrow(page: Page, atLine: bool, head: usize, carrier: u8) -> Page {
 ",
         carrier as usize,
     );
-    put_text(put_end(carried, either(atLine, head, 4)), b"\n")
+    put_end(page, if atLine { end } else { End::Behind });
+    page.put_text(b"\n");
 }
 
 // The entry of a type and its field in the table of types.
@@ -98,37 +97,29 @@ fn type_entry(number: u8, field: u8) -> usize {
 
 // The field of a type that has one alone, which is the message's last byte: a result, a request error, a ringout error.
 fn field_of(message: &[u8]) -> u8 {
-    if message.len() == 0 {
-        return 0;
-    }
-    let last = message[message.len() - 1];
-    match message[0] {
-        3 => last,
-        4 => last,
-        7 => last,
+    match message {
+        [3 | 4 | 7, .., last] => *last,
         _ => 0,
     }
 }
 
-// The tag of a message by its bytes: type, carrier, the identifier's length and the identifier stand first; 0 for no message.
-pub fn tag_in(message: &[u8]) -> u8 {
-    if message.len() < 3 {
-        return 0;
+// The tag of a message by its bytes, if it is one: type, carrier, the identifier's length and the identifier stand first.
+pub fn tag_in(message: &[u8]) -> Option<Tag> {
+    match message {
+        [_, _, 16, tag, ..] => Some(Some(*tag)),
+        [_, _, _, ..] => Some(None),
+        _ => None,
     }
-    if 3 < message.len() && message[2] == 16 {
-        return message[3];
-    }
-    NAMELESS
 }
 
 // A message that is heard or sent, by its bytes, if there is one.
-pub fn put_message(page: Page, atLine: bool, head: usize, message: &[u8]) -> Page {
-    if message.len() < 3 {
-        return page;
-    }
-    let entry = type_entry(message[0], field_of(message));
-    let name = put_type(put_tag(blank_page(), tag_in(message)), entry);
-    let bytes = name.bytes;
-    let named = put_name(page, atLine, part(&bytes, 0, name.at));
-    put_arrow(named, atLine, head, message[1])
+pub fn put_message(page: &mut Page, atLine: bool, end: End, message: &[u8]) {
+    let (Some(tag), [number, carrier, ..]) = (tag_in(message), message) else {
+        return;
+    };
+    let mut name = blank_page();
+    put_tag(&mut name, tag);
+    put_type(&mut name, type_entry(*number, field_of(message)));
+    put_name(page, atLine, name.text());
+    put_arrow(page, atLine, end, *carrier);
 }

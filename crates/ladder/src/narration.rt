@@ -1,20 +1,15 @@
 // What the teller says. docs/STORY.md has each line.
 use crate::row::print_line;
-use printing::{blank_page, put_entry};
+use printing::entry_of;
 use std::io;
 use std::io::Write;
 
-// A line by its entry in a table.
-fn print_entry<W: Write>(out: &mut W, table: &[u8], entry: usize) -> io::Result<()> {
-    let line = put_entry(blank_page(), table, entry);
-    print_line(out, line, line.at)
-}
-
 // A line of the narration, from 1.
 pub fn say<W: Write>(out: &mut W, number: usize) -> io::Result<()> {
-    print_entry(
+    print_line(
         out,
-        b"
+        entry_of(
+            b"
 * The house's line is busy. The clerk asks to be rung back, and says that it can keep the request.
 * The line clears, and the house rings back. But another caller is faster than the clerk.
 * Busy again. What has each end kept?
@@ -38,15 +33,17 @@ pub fn say<W: Write>(out: &mut W, number: usize) -> io::Result<()> {
 * The first goes on. Its ccRingout has no name either: both records fit, one has been rung back.
 * The house rings back the second. It has no record here any more, and its caller was told \"failed\".
 ",
-        number,
+            number,
+        ),
     )
 }
 
 // A line around the scenes: the story's opening from 4 on, and for each scene from 8 on its title, its opening and the two lines of its lesson.
 fn frame<W: Write>(out: &mut W, number: usize) -> io::Result<()> {
-    print_entry(
+    print_line(
         out,
-        b"
+        entry_of(
+            b"
 =============================================================================================================
 CLOCK    CLERK'S DESK (User A)         |               THE WIRES              | LINE DESK (User B)
 ---------------------------------------+--------------------------------------+------------------------------
@@ -79,7 +76,8 @@ An end that sends no identifier and withholds its number: #-- is all that a mess
 LESSON 3, WITHOUT A NAME. Where no identifier tells whose a message is, the host has to know it.
 A right place kept the stray off. A guess let it touch the nearest request, and a caller was lost.
 ",
-        number,
+            number,
+        ),
     )
 }
 

@@ -1,44 +1,47 @@
 // The event `records`: the records of both desks side by side, in the order of storing.
 use crate::cause::{put_placed, put_tag};
-use crate::events::NAMELESS;
-use crate::row::{no_clock, print_row, to_middle, to_right};
-use crate::shown::NO_RECORD;
+use crate::events::Tag;
+use crate::row::{print_row, to_left, to_middle, to_right};
+use crate::shown::State;
 use crate::words::put_state;
-use printing::{Page, put_entry};
+use printing::Page;
 use std::io;
 use std::io::Write;
 
-// What is shown of a record: its tag, the entry of its state (`NO_RECORD` where the place is not used), its keep choice by its code, and 1 where its connection is down.
+// What is shown of a record: its tag, its state (`NoRecord` where the place is not used), its keep choice by its code, and whether its connection is down.
 #[derive(Clone, Copy)]
 pub struct Shown {
-    pub tag: u8,
-    pub state: usize,
+    pub tag: Tag,
+    pub state: State,
     pub keep: usize,
-    pub down: usize,
+    pub down: bool,
 }
 
 // Whose record a place has: a request without an identifier is told by the place.
-fn put_whose(page: Page, i: usize, tag: u8) -> Page {
-    if tag == NAMELESS {
-        return put_placed(page, b'0' + (i % 10) as u8);
+fn put_whose(page: &mut Page, i: usize, tag: Tag) {
+    if tag.is_none() {
+        return put_placed(page, i);
     }
-    put_tag(page, tag)
+    put_tag(page, tag);
 }
 
 // The record of a desk's place. A desk without any says so in the first row.
-fn put_record(page: Page, i: usize, shown: Shown) -> Page {
-    if shown.state == NO_RECORD {
-        return put_entry(page, b"no record\n", i);
+fn put_record(page: &mut Page, i: usize, shown: Shown) {
+    if shown.state == State::NoRecord {
+        return page.put_entry(b"no record\n", i);
     }
-    let kept = put_entry(
-        put_state(put_whose(page, i, shown.tag), b" ", shown.state),
+    put_whose(page, i, shown.tag);
+    put_state(page, b" ", shown.state);
+    page.put_entry(
         b", keep -
 , keep 0
 , keep 1
 ",
         shown.keep,
     );
-    put_entry(kept, b"\n, down\n", shown.down)
+    if shown.down {
+        page.put_text(b", down");
+    }
 }
 
 // The row of one place of both desks: the first one, and behind it only those that a desk uses.
@@ -48,12 +51,11 @@ pub fn show_place<W: Write>(
     atClerk: Shown,
     atLine: Shown,
 ) -> io::Result<()> {
-    let left = put_record(no_clock(), i, atClerk);
-    let middle = put_entry(to_middle(left), b"              (records)\n", i);
-    print_row(
-        out,
-        left.at,
-        middle.at,
-        put_record(to_right(middle), i, atLine),
-    )
+    let mut row = to_left(None);
+    put_record(&mut row.page, i, atClerk);
+    to_middle(&mut row);
+    row.page.put_entry(b"              (records)\n", i);
+    to_right(&mut row);
+    put_record(&mut row.page, i, atLine);
+    print_row(out, &row)
 }

@@ -1,21 +1,24 @@
 // A step of the clerk's desk at a count of seconds, on a desk that is lent: its words are lent on and change where they stand.
 ghost use Rattle.std.specs.Prelude.{◌≡◌};
-ghost use Rattle.clerk.specs.Steps.{answered, answered_bytes, entered, received_bytes};
+ghost use Rattle.desk.specs.Steps.{answered, answered_bytes};
+ghost use Rattle.clerk.specs.Steps.{entered, received_bytes};
 
 use clerk::Desk;
-use clerk::entry::Entry;
+use clerk::entry::{Entry, bytes_entry};
 use desk::outcome::{BytesOutcome, Outcome};
+use desk::steps::{Steps, step_read};
 
 // What came in at the entry: a refusal there changes nothing; else the input's step.
 pub fn step(d: &mut Desk, count: u32, entry: Entry) -> Outcome
     ensures { answered d.new result ≡ entered d.old count entry }
 {
-    clerk::on_words::step(&mut d.words, count, entry)
+    d.step(count, entry)
 }
 
 // Raw bytes received, with the host's word on User A and the place that the host names for the message: the reader's 1 and 2, which change nothing, with the place of the fault; else the message's step, and the first unread place.
+#[tactic(auto, unfolding(clerk::specs::Steps::received_bytes))]
 pub fn step_bytes(d: &mut Desk, count: u32, s: &[u8], busy: bool, place: usize) -> BytesOutcome
     ensures { answered_bytes d.new result ≡ received_bytes d.old count s.now busy place }
 {
-    clerk::on_words::step_bytes(&mut d.words, count, s, busy, place)
+    step_read(d, count, bytes_entry(s, busy, place))
 }

@@ -8,14 +8,15 @@ mod line_end;
 use clerk::entry::{Asking, ask_entry};
 use clerk::start::Lengths;
 use desk::outcome::Outcome;
+use lent::{clerk_desk, line_desk};
 use message::Kind;
 use std::io;
 
 fn tell(rt: &impl Print, outcome: Outcome) -> io::Result<()> {
-    if outcome.refusal == 0 {
-        return println!(rt; "taken");
+    match outcome.refusal {
+        None => println!(rt; "taken"),
+        Some(_) => println!(rt; "refused"),
     }
-    println!(rt; "refused")
 }
 
 // Of number 1 for number 2, which is the line desk's one line.
@@ -36,25 +37,22 @@ fn asking() -> Asking {
 const COUNT: u32 = 0;
 
 fn main(rt: HostRuntime) -> io::Result<()> {
-    let begun = clerk::start::start(Lengths {
+    let mut clerkDesk = clerk::start::start(Lengths {
         t1: 20,
         t2Ccbs: 900,
         t2Ccnr: 3600,
         t3: 20,
-    });
-    let emptyDesk = begun.desk;
-    let asked = clerk_end::played(emptyDesk, COUNT, ask_entry(asking()));
-    let clerkDesk = asked.desk;
-    let request = asked.outcome;
-    let sent = request.sending;
+    })
+    .desk;
+    let request = clerk_desk::step(&mut clerkDesk, COUNT, ask_entry(asking()));
     tell(&rt, request)?;
-    let started = line::start::start(b"\x01\x02\0\0\0\0\0\0\0\0\0\0\0\0\0\0\x03", true, false);
-    let lineDesk = started.desk;
-    let kept = line_end::played(lineDesk, COUNT, line_end::entry_of(sent));
-    let result = kept.outcome;
-    let answer = result.sending;
+    let mut lineDesk = line::start::start(
+        b"\x01\x02\0\0\0\0\0\0\0\0\0\0\0\0\0\0\x03",
+        true,
+        false,
+    ).desk;
+    let result = line_desk::step(&mut lineDesk, COUNT, line_end::entry_of(request.sending));
     tell(&rt, result)?;
-    let acknowledged = clerk_end::played(clerkDesk, COUNT, clerk_end::entry_of(answer));
-    let last = acknowledged.outcome;
+    let last = clerk_desk::step(&mut clerkDesk, COUNT, clerk_end::entry_of(result.sending));
     tell(&rt, last)
 }

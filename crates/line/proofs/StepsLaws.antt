@@ -1,9 +1,9 @@
 -- What is made of a desk's words by a planned change, with the deadline of the guard that it starts: for the records, the lines and the settings it is the change.
+use Rattle.std.specs.Prelude.{Option}
 use Prim.Native.Nat.{ℕ}
 use mathlib.Core.Path.{◌≡◌, ◌∙◌}
 use mathlib.Core.List.{List}
 use lib.ListN.{length}
-use Rattle.lists.specs.declared.Found.{Found}
 use Rattle.desk.specs.declared.outcome.Timers.{Timers}
 use Rattle.line_table.specs.declared.record.Change.{Change}
 use Rattle.line_records.specs.Layout as Layout
@@ -14,7 +14,7 @@ use Rattle.line_records.specs.Deadlines.{timed}
 use Rattle.line_records.proofs.ChangeLaws.{applied-length, records-applied, lines-applied, keeps-applied, retains-applied}
 use Rattle.line_records.proofs.DeadlinesLaws.{timed-length, records-timed, lines-timed, keeps-timed, retains-timed}
 
-module _ (words : List ℕ) (change : Change) (l : length words ≡ Layout.words) (count : ℕ) (at : Found) (starts : Timers) where
+module _ (words : List ℕ) (change : Change) (l : length words ≡ Layout.words) (count : ℕ) (at : Option ℕ) (starts : Timers) where
   abbrev changed : List ℕ
   changed = applied words change
 

@@ -1,14 +1,14 @@
 -- A guard that is due belongs to a record in use, and has its row in every state: so its report by hand is taken, and does what the row does.
+use Rattle.std.specs.Prelude.{Some, None}
 use Prim.Native.Nat.{ℕ}
 use mathlib.Core.Path.{◌≡◌, refl, sym, ap, ◌∙◌}
 use mathlib.Core.Bool.{Bool, true}
 use mathlib.Core.List.{List}
 use lib.ListN.{get_or}
 use Rattle.lists.specs.Choice.{pick}
-use Rattle.lists.specs.declared.Found.TheVariants.{At}
 use Rattle.lists.proofs.Lists.{both_parts}
+use Rattle.message.specs.declared.refusal.Refusal.TheVariants.{NoRow}
 use Rattle.desk.specs.declared.Connection.{Connection}
-use Rattle.desk.specs.declared.sends.Sends.TheVariants as Sends
 use Rattle.terms.specs.declared.means.Means.TheVariants as Means
 use Rattle.line_table.specs.Table.{in_use, holds_in}
 use Rattle.line_table.specs.Search.{used}
@@ -27,7 +27,8 @@ use Rattle.line_records.specs.Deadlines.{expiring_at}
 use Rattle.line_records.proofs.DeadlinesLaws.{timed-none}
 use Rattle.line_plan.specs.Decide.{own_meant, own_decision, decided}
 use Rattle.line_plan.specs.Plan.{plan_of, plan_for}
-use Rattle.line.specs.Steps.{desk_of, answered, made, step}
+use Rattle.desk.specs.Steps.{answered}
+use Rattle.line.specs.Steps.{desk_of, made, step}
 use Rattle.line.specs.Ticks.{report}
 use Rattle.line.specs.declared.Desk.{Desk}
 
@@ -37,7 +38,7 @@ pub ends-made :
     answered (desk_of (removed words place)) (row_taken place r GuardRunsOut).outcome ≡ made (desk_of words) count (row_taken place r GuardRunsOut)
 unfolding row_taken applied
 ends-made words count place r =
-    ap (λ (w : List ℕ). answered (desk_of w) (row_taken place r GuardRunsOut).outcome) (sym (timed-none (applied words (Remove place)) count (At place)))
+    ap (λ (w : List ℕ). answered (desk_of w) (row_taken place r GuardRunsOut).outcome) (sym (timed-none (applied words (Remove place)) count (Some place)))
 
 -- ---- a guard that is due
 -- the guard runs in every state
@@ -58,7 +59,7 @@ module _ (words : List ℕ) (i : ℕ) (u : used (get_or (records words) i blank)
   due-decided =
       let r = get_or (records words) i blank in
       ap (λ (b : Bool). own_meant words GuardRunsOut (pick b (Means.At i) Means.Nothing)) u
-      ∙ ap (λ (b : Bool). pick b (Take i GuardRunsOut) (Refuse 7 Sends.Nothing)) (always r.state r.terms.connection ∙ u)
+      ∙ ap (λ (b : Bool). pick b (Take i GuardRunsOut) (Refuse NoRow None)) (always r.state r.terms.connection ∙ u)
 
   used-plan : plan_for words (report i) ≡ row_taken i (get_or (records words) i blank) GuardRunsOut
   unfolding plan_for plan_of

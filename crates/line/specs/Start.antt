@@ -1,18 +1,17 @@
 -- The line desk started from its lines and settings. A line is given as its number in sixteen places, and behind it the kinds that it allows.
-use Rattle.std.specs.Prelude.{ℕ, zero, suc, ◌+◌, ◌*◌, ◌/◌, ◌%◌, Bool, true, false, List, length, get_or, take, drop, replicate, leb, eqb}
+use Rattle.std.specs.Prelude.{ℕ, zero, suc, ◌+◌, ◌*◌, ◌/◌, ◌%◌, Bool, true, false, List, length, get_or, take, drop, replicate, leb, eqb, Option, Some, None}
 use Rattle.lists.specs.Choice.{pick}
 use Rattle.lists.specs.Lists.{both}
-use Rattle.lists.specs.declared.Found.{Found}
-use Rattle.lists.specs.declared.Found.TheVariants.{At, Nothing}
 use Rattle.lists.specs.declared.words.Words.{Words}
 use Rattle.message.specs.Number.{digits_in_range}
+use Rattle.message.specs.declared.refusal.Refusal.TheVariants.{OutOfRange}
 use Rattle.desk.specs.Letter.{number_words}
 use Rattle.desk.specs.Outcome.{no_timers, refused_with, done_with}
-use Rattle.desk.specs.declared.outcome.Sending.TheVariants as Sending
 use Rattle.line_table.specs.declared.line.Line.{Line}
 use Rattle.line_records.specs.Layout as Layout
 use Rattle.line_records.specs.Lines.{lines, line_at, put_line, with_settings}
-use Rattle.line.specs.declared.steps.Stepped.{Stepped}
+use Rattle.desk.specs.declared.outcome.Stepped.{Stepped}
+use Rattle.line.specs.declared.Desk.{Desk}
 
 -- the bytes of a line that is given: its number's, then one of its kinds
 abbrev pub kinds_at : ℕ
@@ -21,9 +20,9 @@ kinds_at = 16
 abbrev pub given_width : ℕ
 given_width = kinds_at + 1
 
-abbrev pub absent : Found → Bool
-absent (At k) = false
-absent Nothing = true
+abbrev pub absent : Option ℕ → Bool
+absent (Some k) = false
+absent None = true
 
 -- kinds are 1 CCBS + 2 CCNR; every line starts free
 abbrev pub line_given : Words → ℕ → Line
@@ -55,15 +54,15 @@ take_lines (suc left) k bytes ws =
     bad
 
 -- no desk is made: the answer has one without lines
-abbrev pub refused_start : Stepped
-refused_start = record { desk = record { words = replicate Layout.words 0 }; outcome = refused_with 2 Sending.Nothing }
+abbrev pub refused_start : Stepped Desk
+refused_start = record { desk = record { words = replicate Layout.words 0 }; outcome = refused_with OutOfRange None }
 
-abbrev pub started_by : Lines → Stepped
-started_by (stored ws) = record { desk = record { words = ws }; outcome = done_with Sending.Nothing no_timers no_timers Nothing }
+abbrev pub started_by : Lines → Stepped Desk
+started_by (stored ws) = record { desk = record { words = ws }; outcome = done_with None no_timers no_timers None }
 started_by bad = refused_start
 
 -- 2 for more than 16 lines, for bytes that end inside a line, and for a line that is not good
-unfoldable pub started : List ℕ → Bool → Bool → Stepped
+unfoldable pub started : List ℕ → Bool → Bool → Stepped Desk
 started given keep retain =
     pick (leb (length given / given_width) Layout.line_places)
     (pick (eqb (length given / given_width * given_width) (length given))

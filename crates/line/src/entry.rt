@@ -3,28 +3,17 @@
 ghost use Rattle.std.specs.Prelude.{◌≡◌};
 ghost use Rattle.line.specs.Entry.{message_entry, act_entry, guard_entry, report_entry, look_entry, bytes_entry};
 
+use desk::entry::BytesEntry;
 use desk::letter::{letter_of, number_words, read_letter};
 use line_table::inputs::{Act, Input};
-use lists::Found;
 use message::Message;
-use message::digits::{PlaceRead, digits_in_range};
+use message::digits::digits_in_range;
 use message::range::in_range;
+use message::refusal::Refusal;
 use terms::request::Name;
 
-// An input, or the number of the refusal.
-#[derive(Clone, Copy)]
-pub enum Entry {
-    Refused(u8),
-    Given(Input),
-}
-
-// The same for bytes, with the first unread place; where they cannot be read, 0 and the place of the fault.
-#[derive(Clone, Copy)]
-pub struct BytesEntry {
-    pub entry: Entry,
-    pub next: usize,
-    pub fault: Found,
-}
+// What came in: an input, or its refusal before the desk is asked.
+pub type Entry = Result<Input, Refusal>;
 
 // A message, with the place that the host names for it: 2.
 #[tactic(auto, unfolding(crate::specs::Entry::message_entry))]
@@ -33,23 +22,23 @@ pub fn message_entry(m: Message, place: usize) -> Entry
 {
     if in_range(m) {
         let l = letter_of(m);
-        return Entry::Given(Input::Message(l, place));
+        return Ok(Input::Message(l, place));
     }
-    Entry::Refused(2)
+    Err(Refusal::OutOfRange)
 }
 
 // An act at the line's end: alerted, call failed, cancel, the connection fell.
 pub fn act_entry(name: Name, act: Act) -> Entry
     ensures { result ≡ act_entry name act }
 {
-    Entry::Given(Input::Act(name, act))
+    Ok(Input::Act(name, act))
 }
 
 // A guard that ran out at the host.
 pub fn guard_entry(name: Name) -> Entry
     ensures { result ≡ guard_entry name }
 {
-    Entry::Given(Input::Guard(name))
+    Ok(Input::Guard(name))
 }
 
 // A line report, busy or free, by the line's digits: 10.
@@ -59,9 +48,9 @@ pub fn report_entry(digits: [u8; 16], busy: bool) -> Entry
 {
     if digits_in_range(digits, 1) {
         let number = number_words(digits);
-        return Entry::Given(Input::Report(number, busy));
+        return Ok(Input::Report(number, busy));
     }
-    Entry::Refused(10)
+    Err(Refusal::NoLine)
 }
 
 // A Look at a line, by its digits: 10.
@@ -71,31 +60,31 @@ pub fn look_entry(digits: [u8; 16]) -> Entry
 {
     if digits_in_range(digits, 1) {
         let number = number_words(digits);
-        return Entry::Given(Input::Look(number));
+        return Ok(Input::Look(number));
     }
-    Entry::Refused(10)
+    Err(Refusal::NoLine)
 }
 
 // Raw bytes, with the place that the host names for the message: the reader's 1 and 2. What was read is in range and its own normal form, so it is neither tested nor normalised again.
 #[tactic(auto, unfolding(crate::specs::Entry::bytes_entry))]
-pub fn bytes_entry(s: &[u8], place: usize) -> BytesEntry
+pub fn bytes_entry(s: &[u8], place: usize) -> BytesEntry<Entry>
     ensures { result ≡ bytes_entry s.now place }
 {
     let answer = reader::read(s);
     let verdict = answer.verdict;
     match verdict {
-        PlaceRead::Refused(fault) => BytesEntry {
-            entry: Entry::Refused(fault.number),
+        Err(fault) => BytesEntry {
+            entry: Err(fault.refusal),
             next: 0,
-            fault: Found::At(fault.place),
+            fault: Some(fault.place),
         },
-        PlaceRead::Taken(next) => {
+        Ok(next) => {
             let m = answer.message;
             let l = read_letter(m);
             BytesEntry {
-                entry: Entry::Given(Input::Message(l, place)),
+                entry: Ok(Input::Message(l, place)),
                 next,
-                fault: Found::Nothing,
+                fault: None,
             }
         }
     }

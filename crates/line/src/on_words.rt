@@ -2,10 +2,11 @@
 // line desk: its functions are no public operations.
 ghost use Rattle.std.specs.Prelude.{◌≡◌};
 ghost use Rattle.line.specs.Steps as Steps;
-ghost use Rattle.line.specs.Steps.{desk_of, answered, answered_bytes, entered, received_bytes};
+ghost use Rattle.desk.specs.Steps.{answered};
+ghost use Rattle.line.specs.Steps.{desk_of, entered};
 
-use crate::entry::{Entry, bytes_entry};
-use desk::outcome::{BytesOutcome, Outcome, Sending, refused};
+use crate::entry::Entry;
+use desk::outcome::{Outcome, refused};
 use line_plan::plan_for;
 use line_records::WORDS;
 use line_records::change::apply;
@@ -33,23 +34,7 @@ pub fn step(words: &mut [u64; WORDS], count: u32, entry: Entry) -> Outcome
     ensures { answered (desk_of words.new) result ≡ entered (desk_of words.old) count entry }
 {
     match entry {
-        Entry::Refused(number) => refused(number, Sending::Nothing),
-        Entry::Given(input) => step_in(words, count, input),
-    }
-}
-
-// A step of raw bytes, with the place that the host names for the message; and the first unread place.
-#[tactic(auto, unfolding(crate::specs::Steps::received_bytes))]
-pub fn step_bytes(words: &mut [u64; WORDS], count: u32, s: &[u8], place: usize) -> BytesOutcome
-    ensures { answered_bytes (desk_of words.new) result ≡ received_bytes (desk_of words.old) count s.now place }
-{
-    let read = bytes_entry(s, place);
-    let entry = read.entry;
-    let fault = read.fault;
-    let outcome = step(words, count, entry);
-    BytesOutcome {
-        outcome,
-        next: read.next,
-        fault,
+        Err(refusal) => refused(refusal, None),
+        Ok(input) => step_in(words, count, input),
     }
 }

@@ -6,16 +6,15 @@ ghost use Rattle.line_records.specs.Lines.{lines, line_at, with_settings};
 ghost use Rattle.line.specs.Start.{given_width, absent, line_given, good_line, line_taken, lines_told, take_lines, started_by, refused_start, started};
 
 use crate::Desk;
-use crate::steps::Stepped;
 use desk::letter::number_words;
-use desk::outcome::{Sending, done, no_timers, refused};
+use desk::outcome::{NO_TIMERS, Stepped, done, refused};
 use line_records::lines::{find_line, put_line, put_settings};
 use line_records::{LINES, WORDS};
 use line_table::line::Line;
-use lists::Found;
 use lists::words::Words;
 use message::copied::copy_between;
 use message::digits::digits_in_range;
+use message::refusal::Refusal;
 
 // The bytes of a line that is given: its number's, then one of its kinds.
 const KINDS_AT: usize = 16;
@@ -27,8 +26,8 @@ fn is_new(words: &[u64; WORDS], number: Words) -> bool
     ensures { result ≡ absent (line_at number (lines words.now)) }
 {
     match find_line(words, number) {
-        Found::At(_) => false,
-        Found::Nothing => true,
+        Some(_) => false,
+        None => true,
     }
 }
 
@@ -95,10 +94,10 @@ fn take_lines(words: &mut [u64; WORDS], given: &[u8], count: usize) -> bool
 }
 
 // No desk is made: the answer has one without lines.
-fn refused_start() -> Stepped
+fn refused_start() -> Stepped<Desk>
     ensures { result ≡ refused_start }
 {
-    let outcome = refused(2, Sending::Nothing);
+    let outcome = refused(Refusal::OutOfRange, None);
     Stepped {
         desk: Desk {
             words: [0u64; WORDS],
@@ -107,15 +106,14 @@ fn refused_start() -> Stepped
     }
 }
 
-fn start_counted(given: &[u8], count: usize, keep: bool, retain: bool) -> Stepped
+fn start_counted(given: &[u8], count: usize, keep: bool, retain: bool) -> Stepped<Desk>
     requires { count * given_width ≤ length given.now }
     ensures { result ≡ started_by (take_lines count 0 given.now (with_settings (replicate Layout.words 0) keep retain)) }
 {
     let mut words = [0u64; WORDS];
     put_settings(&mut words, keep, retain);
     if take_lines(&mut words, given, count) {
-        let none = no_timers();
-        let outcome = done(Sending::Nothing, none, none, Found::Nothing);
+        let outcome = done(None, NO_TIMERS, NO_TIMERS, None);
         return Stepped {
             desk: Desk { words },
             outcome,
@@ -127,7 +125,7 @@ fn start_counted(given: &[u8], count: usize, keep: bool, retain: bool) -> Steppe
 // A desk with its lines, all free, and its settings: 2 for more than 16 lines, bad digits or kinds, one number twice, or bytes that end
 // inside a line.
 #[tactic(auto, unfolding(crate::specs::Start::started))]
-pub fn start(given: &[u8], keep: bool, retain: bool) -> Stepped
+pub fn start(given: &[u8], keep: bool, retain: bool) -> Stepped<Desk>
     ensures { result ≡ started given.now keep retain }
 {
     let count = given.len() / GIVEN;

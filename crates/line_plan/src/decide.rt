@@ -7,7 +7,6 @@ ghost use Rattle.line_plan.specs.Decide.{holds_for, takes_call, row_decision, pl
 
 use desk::carriers::carrier_fits;
 use desk::letter::Letter;
-use desk::sends::Sends;
 use desk::{Connection, Keep};
 use line_records::WORDS;
 use line_records::lines::{find_line, load_line};
@@ -21,8 +20,8 @@ use line_table::line::{Line, allows_kind, can_take};
 use line_table::record::{Decision, Record};
 use line_table::search::Sought;
 use line_table::table::{Row, holds_in, home_of};
-use lists::Found;
 use lists::words::Words;
+use message::refusal::Refusal;
 use terms::means::Means;
 use terms::request::{Name, Names, Request, letter_names};
 
@@ -46,8 +45,8 @@ fn takes_call(words: &[u64; WORDS], number: Words) -> bool
     ensures { result ≡ takes_call words.now number }
 {
     match find_line(words, number) {
-        Found::Nothing => true,
-        Found::At(k) => {
+        None => true,
+        Some(k) => {
             let line = load_line(words, k);
             can_take(line)
         }
@@ -81,9 +80,9 @@ fn decide_row(place: usize, r: Record, l: Letter, message: RecordMessage, row: R
         if carrier_fits(body, connection, carrier) {
             return Decision::Take(place, row);
         }
-        return Decision::Refuse(8, Sends::Nothing);
+        return Decision::Refuse(Refusal::NotInCarrier, None);
     }
-    Decision::Refuse(7, reply_missed(message))
+    Decision::Refuse(Refusal::NoRow, reply_missed(message))
 }
 
 // A message about the record of a place: 7, 8.
@@ -104,8 +103,8 @@ fn decide_record(words: &[u64; WORDS], l: Letter, at: usize, message: RecordMess
     ensures { result ≡ record_decision words.now l at message }
 {
     match find_meant(words, l, at) {
-        Means::Nothing => Decision::Refuse(6, reply_missed(message)),
-        Means::NotNow => Decision::Refuse(7, reply_missed(message)),
+        Means::Nothing => Decision::Refuse(Refusal::NoRecord, reply_missed(message)),
+        Means::NotNow => Decision::Refuse(Refusal::NoRow, reply_missed(message)),
         Means::At(place) => decide_place(words, place, l, message),
     }
 }
@@ -117,7 +116,7 @@ fn decide_counted(words: &[u64; WORDS], names: Names, q: Request, busy: bool) ->
 {
     let numberB = names.numberB;
     if count_line(words, numberB) < LINE_MOST {
-        let Found::At(place) = find_place(words) else {
+        let Some(place) = find_place(words) else {
             return Decision::Deny(1);
         };
         return Decision::Store(place, q, busy);
@@ -131,8 +130,8 @@ fn decide_admitted(words: &[u64; WORDS], names: Names, q: Request, busy: bool) -
     ensures { result ≡ admitted_decision words.now names q busy }
 {
     match find_record(words, Sought::Duplicate(names)) {
-        Found::At(_) => Decision::Deny(1),
-        Found::Nothing => decide_counted(words, names, q, busy),
+        Some(_) => Decision::Deny(1),
+        None => decide_counted(words, names, q, busy),
     }
 }
 
@@ -146,7 +145,7 @@ fn decide_request(words: &[u64; WORDS], l: Letter, q: Request) -> Decision
     if carrier_fits(body, Connection::Empty, carrier) {
         let numberB = l.numberB;
         let kind = q.kind;
-        let Found::At(k) = find_line(words, numberB) else {
+        let Some(k) = find_line(words, numberB) else {
             return Decision::Deny(2);
         };
         let line = load_line(words, k);
@@ -156,7 +155,7 @@ fn decide_request(words: &[u64; WORDS], l: Letter, q: Request) -> Decision
         }
         return Decision::Deny(2);
     }
-    Decision::Refuse(8, Sends::Nothing)
+    Decision::Refuse(Refusal::NotInCarrier, None)
 }
 
 // A message: 3, then a request or a message about a record.
@@ -168,7 +167,7 @@ fn decide_message(words: &[u64; WORDS], l: Letter, at: usize) -> Decision
     match message_for(body) {
         Meant::Request(q) => decide_request(words, l, q),
         Meant::Record(message) => decide_record(words, l, at, message),
-        Meant::NotHere => Decision::Refuse(3, Sends::Nothing),
+        Meant::NotHere => Decision::Refuse(Refusal::NotHere, None),
     }
 }
 
@@ -180,7 +179,7 @@ fn decide_held(words: &[u64; WORDS], place: usize, row: Row) -> Decision
     if holds_for(row, r) {
         return Decision::Take(place, row);
     }
-    Decision::Refuse(7, Sends::Nothing)
+    Decision::Refuse(Refusal::NoRow, None)
 }
 
 // The line's own row, of an act or the guard: 6, 7.
@@ -189,8 +188,8 @@ fn decide_own(words: &[u64; WORDS], name: Name, row: Row) -> Decision
     ensures { result ≡ own_decision words.now name row }
 {
     match find_named(words, name) {
-        Means::Nothing => Decision::Refuse(6, Sends::Nothing),
-        Means::NotNow => Decision::Refuse(7, Sends::Nothing),
+        Means::Nothing => Decision::Refuse(Refusal::NoRecord, None),
+        Means::NotNow => Decision::Refuse(Refusal::NoRow, None),
         Means::At(place) => decide_held(words, place, row),
     }
 }
@@ -201,23 +200,23 @@ fn decide_report(words: &[u64; WORDS], number: Words, busy: bool) -> Decision
     ensures { result ≡ report_decision words.now number busy }
 {
     match find_line(words, number) {
-        Found::Nothing => Decision::Refuse(10, Sends::Nothing),
-        Found::At(k) => Decision::Report(k, busy),
+        None => Decision::Refuse(Refusal::NoLine, None),
+        Some(k) => Decision::Report(k, busy),
     }
 }
 
 // The place of the oldest fitting record of a line; none while the line is busy or blocked.
 #[tactic(auto, unfolding(crate::specs::Decide::offer_at))]
-fn find_offer(words: &[u64; WORDS], line: Line, number: Words) -> Found
+fn find_offer(words: &[u64; WORDS], line: Line, number: Words) -> Option<usize>
     ensures { result ≡ offer_at words.now line number }
 {
     if can_take(line) {
         return match find_record(words, Sought::Blocking(number)) {
-            Found::At(_) => Found::Nothing,
-            Found::Nothing => find_record(words, Sought::Fitting(number)),
+            Some(_) => None,
+            None => find_record(words, Sought::Fitting(number)),
         };
     }
-    Found::Nothing
+    None
 }
 
 // A Look at a line: 10, 11; else the oldest fitting record is offered.
@@ -225,12 +224,12 @@ fn find_offer(words: &[u64; WORDS], line: Line, number: Words) -> Found
 fn decide_look(words: &[u64; WORDS], number: Words) -> Decision
     ensures { result ≡ look_decision words.now number }
 {
-    let Found::At(k) = find_line(words, number) else {
-        return Decision::Refuse(10, Sends::Nothing);
+    let Some(k) = find_line(words, number) else {
+        return Decision::Refuse(Refusal::NoLine, None);
     };
     let line = load_line(words, k);
-    let Found::At(place) = find_offer(words, line, number) else {
-        return Decision::Refuse(11, Sends::Nothing);
+    let Some(place) = find_offer(words, line, number) else {
+        return Decision::Refuse(Refusal::NothingToOffer, None);
     };
     Decision::Take(place, Row::Offers)
 }

@@ -6,17 +6,16 @@ ghost use Rattle.std.specs.Prelude.{◌≡◌};
 ghost use Rattle.line_plan.specs.Plan.{denied_plan, new_record, stored_plan, reported_plan, plan_of, plan_for};
 
 use crate::decide::decide;
-use desk::letter::Identifier;
-use desk::outcome::{Sending, done, no_timers};
-use desk::sends::{Sends, answer_with, reply_with, sent_for};
+use desk::outcome::{NO_TIMERS, done};
+use desk::plan::Plan;
+use desk::sends::{answer_with, reply_with, sent_for};
 use line_records::WORDS;
 use line_records::lines::{desk_keeps, desk_retains};
 use line_records::places::load;
 use line_table::inputs::{Input, connection_chosen, keep_chosen, keep_sent, names_of};
-use line_table::record::{Change, Decision, Plan, Record, refused_plan};
+use line_table::record::{Change, Decision, Record, refused_plan};
 use line_table::step::{only_guard, take_row};
 use line_table::table::State;
-use lists::Found;
 use lists::words::Words;
 use message::Body;
 use terms::elements_of;
@@ -25,14 +24,13 @@ use terms::request::{Names, Request, request_terms};
 pub mod decide;
 
 // A request that is not accepted: 1 short, 2 long. A completed step that stores nothing.
-pub fn denied_plan(identifier: Identifier, error: u8) -> Plan
+pub fn denied_plan(identifier: Option<Words>, error: u8) -> Plan<Change>
     ensures { result ≡ denied_plan identifier error }
 {
     let sending = reply_with(identifier, Body::RequestError { error });
-    let none = no_timers();
     Plan {
         change: Change::Stay,
-        outcome: done(sending, none, none, Found::Nothing),
+        outcome: done(sending, NO_TIMERS, NO_TIMERS, None),
     }
 }
 
@@ -53,7 +51,7 @@ pub fn new_record(words: &[u64; WORDS], names: Names, q: Request, busy: bool) ->
 }
 
 // A record stored: the result is sent, the guard starts.
-pub fn stored_plan(place: usize, r: Record) -> Plan
+pub fn stored_plan(place: usize, r: Record) -> Plan<Change>
     ensures { result ≡ stored_plan place r }
 {
     let agreed = r.terms;
@@ -63,8 +61,8 @@ pub fn stored_plan(place: usize, r: Record) -> Plan
     let body = Body::RequestResult {
         keep: keep_sent(keep),
     };
-    let sending = sent_for(Sends::One(body), elements, connection);
-    let outcome = done(sending, only_guard(), no_timers(), Found::At(place));
+    let sending = sent_for(Some(body), elements, connection);
+    let outcome = done(sending, only_guard(), NO_TIMERS, Some(place));
     Plan {
         change: Change::Put(place, r),
         outcome,
@@ -72,19 +70,18 @@ pub fn stored_plan(place: usize, r: Record) -> Plan
 }
 
 // A line report stored, of the line at a place, with its number.
-pub fn reported_plan(place: usize, number: Words, busy: bool) -> Plan
+pub fn reported_plan(place: usize, number: Words, busy: bool) -> Plan<Change>
     ensures { result ≡ reported_plan place number busy }
 {
-    let none = no_timers();
     Plan {
         change: Change::Report(place, number, busy),
-        outcome: done(Sending::Nothing, none, none, Found::Nothing),
+        outcome: done(None, NO_TIMERS, NO_TIMERS, None),
     }
 }
 
 // What a decision makes of the desk and of the outcome.
 #[tactic(auto, unfolding(crate::specs::Plan::plan_of))]
-fn plan_of(words: &[u64; WORDS], input: Input, decision: Decision) -> Plan
+fn plan_of(words: &[u64; WORDS], input: Input, decision: Decision) -> Plan<Change>
     ensures { result ≡ plan_of words.now input decision }
 {
     let names = names_of(input);
@@ -110,7 +107,7 @@ fn plan_of(words: &[u64; WORDS], input: Input, decision: Decision) -> Plan
 
 // What an input plans.
 #[tactic(auto, unfolding(crate::specs::Plan::plan_for))]
-pub fn plan_for(words: &[u64; WORDS], input: Input) -> Plan
+pub fn plan_for(words: &[u64; WORDS], input: Input) -> Plan<Change>
     ensures { result ≡ plan_for words.now input }
 {
     let decision = decide(words, input);

@@ -1,4 +1,5 @@
 -- The word of the guard's deadline is a word of the desk, and neither a record nor a line nor a setting depends on it.
+use Rattle.std.specs.Prelude.{Option, Some, None}
 use Prim.Native.Nat.{ℕ, ◌+◌, ◌*◌, ◌%◌, ◌≤◌, ◌<◌}
 use mathlib.Core.Path.{◌≡◌, refl, sym, ◌∙◌, ap}
 use mathlib.Core.List.{List, [], ◌∷◌, ◌++◌, map}
@@ -8,7 +9,6 @@ use lib.Dec.{ltb}
 use native.Mathlib.Omega.{arith}
 use borrow.Author.Tests.{ltb-true}
 use Rattle.lists.specs.Parts.{over}
-use Rattle.lists.specs.declared.Found.{Found}
 use Rattle.lists.proofs.Choice.{pick_elim}
 use Rattle.clock.specs.Clock.{turn}
 use Rattle.desk.specs.Outcome.{no_timers}
@@ -79,27 +79,27 @@ unfolding started_at
 started-length count i words = pick_elim (λ (v : List ℕ). length v ≡ length words) (ltb i Layout.places) (λ t. length-set words _ _) (λ f. refl)
 
 -- ---- what a step starts leaves every record, every line and the settings as they are, and as many words
-pub timed-length : (words : List ℕ) (count : ℕ) (at : Found) (starts : Timers) → length (timed count at starts words) ≡ length words
+pub timed-length : (words : List ℕ) (count : ℕ) (at : Option ℕ) (starts : Timers) → length (timed count at starts words) ≡ length words
 unfolding timed
-timed-length words count Found.Nothing starts = refl
-timed-length words count (Found.At i) starts =
+timed-length words count None starts = refl
+timed-length words count (Some i) starts =
     pick_elim (λ (v : List ℕ). length v ≡ length words) starts.guard (λ t. started-length count i words) (λ f. refl)
 
-pub records-timed : (words : List ℕ) → length words ≡ Layout.words → (count : ℕ) (at : Found) (starts : Timers) → records (timed count at starts words) ≡ records words
+pub records-timed : (words : List ℕ) → length words ≡ Layout.words → (count : ℕ) (at : Option ℕ) (starts : Timers) → records (timed count at starts words) ≡ records words
 unfolding timed
-records-timed words l count Found.Nothing starts = refl
-records-timed words l count (Found.At i) starts =
+records-timed words l count None starts = refl
+records-timed words l count (Some i) starts =
     pick_elim (λ (v : List ℕ). records v ≡ records words) starts.guard (λ t. started-records count i words l) (λ f. refl)
 
 timed-behind :
-    (words : List ℕ) → length words ≡ Layout.words → (count : ℕ) (at : Found) (starts : Timers) →
+    (words : List ℕ) → length words ≡ Layout.words → (count : ℕ) (at : Option ℕ) (starts : Timers) →
     drop Layout.lines_at (timed count at starts words) ≡ drop Layout.lines_at words
 unfolding timed
-timed-behind words l count Found.Nothing starts = refl
-timed-behind words l count (Found.At i) starts =
+timed-behind words l count None starts = refl
+timed-behind words l count (Some i) starts =
     pick_elim (λ (v : List ℕ). drop Layout.lines_at v ≡ drop Layout.lines_at words) starts.guard (λ t. started-behind count i words l) (λ f. refl)
 
-module _ (words : List ℕ) (l : length words ≡ Layout.words) (count : ℕ) (at : Found) (starts : Timers) where
+module _ (words : List ℕ) (l : length words ≡ Layout.words) (count : ℕ) (at : Option ℕ) (starts : Timers) where
   abbrev after : List ℕ
   after = timed count at starts words
 
@@ -116,7 +116,7 @@ module _ (words : List ℕ) (l : length words ≡ Layout.words) (count : ℕ) (a
   retains-timed = retains-same after words settings-timed
 
 -- a step that starts nothing leaves every word
-pub timed-none : (words : List ℕ) (count : ℕ) (at : Found) → timed count at no_timers words ≡ words
+pub timed-none : (words : List ℕ) (count : ℕ) (at : Option ℕ) → timed count at no_timers words ≡ words
 unfolding timed
-timed-none words count Found.Nothing = refl
-timed-none words count (Found.At i) = refl
+timed-none words count None = refl
+timed-none words count (Some i) = refl

@@ -1,4 +1,5 @@
 -- The deadline of a guard goes with its record: what puts, turns or marks a record leaves every deadline at its place, a removal moves those behind it up, and a start puts one.
+use Rattle.std.specs.Prelude.{Option, Some, None}
 use Prim.Native.Nat.{ℕ, zero, suc, ◌+◌, ◌%◌, ◌≤◌, ◌<◌}
 use mathlib.Core.Path.{◌≡◌, refl, sym, ◌∙◌, ap}
 use mathlib.Core.Bool.{Bool, true, false}
@@ -12,7 +13,6 @@ use borrow.Author.Tests.{ltb-true, ltb-false}
 use Rattle.lists.specs.Choice.{pick}
 use Rattle.lists.specs.Lists.{without}
 use Rattle.lists.specs.Parts.{over}
-use Rattle.lists.specs.declared.Found.{Found}
 use Rattle.lists.specs.declared.words.Words.{Words}
 use Rattle.lists.proofs.Choice.{pick_elim}
 use Rattle.lists.proofs.Lists.{without-past}
@@ -148,10 +148,10 @@ started-guards count i words l =
     (λ f. sym (set_out (guards words) i x (omega (arith, guards-length words, ltb-false i Layout.places f))))
 
 pub guards-timed :
-    (words : List ℕ) → length words ≡ Layout.words → (count : ℕ) (at : Found) (starts : Timers) →
+    (words : List ℕ) → length words ≡ Layout.words → (count : ℕ) (at : Option ℕ) (starts : Timers) →
     guards (timed count at starts words) ≡ guards_started count at starts (records words) (guards words)
 unfolding timed
-guards-timed words l count Found.Nothing starts = refl
-guards-timed words l count (Found.At i) starts =
+guards-timed words l count None starts = refl
+guards-timed words l count (Some i) starts =
     let x = deadline_of count (guard_length (get_or (records words) i blank).terms.kind) in
     pick_elim (λ (v : List ℕ). guards v ≡ pick starts.guard (set (guards words) i x) (guards words)) starts.guard (λ t. rw t (started-guards count i words l)) (λ f. rw f)

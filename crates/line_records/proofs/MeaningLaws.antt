@@ -1,17 +1,16 @@
 -- What is meant is in use: by each way to mean it in turn.
+use Rattle.lists.specs.declared.words.Words.{Words}
+use Rattle.std.specs.Prelude.{Option, Some, None}
 use Prim.Native.Nat.{ℕ}
 use mathlib.Core.Path.{◌≡◌, refl, subst}
 use mathlib.Core.Bool.{true}
 use mathlib.Core.List.{List}
 use lib.ListN.{get_or}
 use native.Mathlib.Omega.{arith}
-use Rattle.lists.specs.declared.Found.{Found}
 use Rattle.lists.proofs.Choice.{pick_elim}
 use Rattle.lists.proofs.Lists.{both_parts, first_holds}
 use Rattle.message.specs.Format.{has_elements}
 use Rattle.desk.specs.Letter.{same_identifier}
-use Rattle.desk.specs.declared.letter.Identifier.{Identifier}
-use Rattle.desk.specs.declared.letter.Identifier.TheVariants.{Absent, Is}
 use Rattle.desk.specs.declared.letter.Letter.{Letter}
 use Rattle.terms.specs.Means.{fits}
 use Rattle.terms.specs.Request.{letter_names}
@@ -36,12 +35,12 @@ at-uses rs k u i e =
     let q : k ≡ i = cc in
     subst (λ (x : ℕ). used (get_or rs x blank) ≡ true) q u
 
-found-used : (identifier : Identifier) (rs : List Record) (i : ℕ) → identifier_means identifier rs ≡ Found.At i → used (get_or rs i blank) ≡ true
+found-used : (identifier : Option Words) (rs : List Record) (i : ℕ) → identifier_means identifier rs ≡ Some i → used (get_or rs i blank) ≡ true
 unfolding meant
-found-used Absent rs i e = absurd (let z : ◌≡◌ {A = ℕ} 0 1 = cc in omega arith)
-found-used (Is identifier) rs i e =
+found-used None rs i e = absurd (let z : ◌≡◌ {A = ℕ} 0 1 = cc in omega arith)
+found-used (Some identifier) rs i e =
     let r : Record = get_or rs i blank in
-    (both_parts (same_identifier r.terms.identifier (Is identifier)) (used r) (first_holds (identified identifier) rs i blank e)).1
+    (both_parts (same_identifier r.terms.identifier (Some identifier)) (used r) (first_holds (identified identifier) rs i blank e)).1
 
 elements-use : (l : Letter) (rs : List Record) → Uses rs (elements_mean l rs)
 unfolding elements_mean
@@ -49,13 +48,13 @@ elements-use l rs i e =
     let r : Record = get_or rs i blank in
     (both_parts (used r) (fits (letter_names l) r.terms) (oldest-at (fitting (letter_names l)) (is_for l.body) rs blank i e).fitting).0
 
-place-uses : (identifier : Identifier) (place : ℕ) (rs : List Record) → Uses rs (place_means identifier place rs)
-place-uses Absent place rs = pick_elim (Uses rs) (used (get_or rs place blank)) (λ t. at-uses rs place t) (λ f. nothing-uses rs)
-place-uses (Is identifier) place rs = nothing-uses rs
+place-uses : (identifier : Option Words) (place : ℕ) (rs : List Record) → Uses rs (place_means identifier place rs)
+place-uses None place rs = pick_elim (Uses rs) (used (get_or rs place blank)) (λ t. at-uses rs place t) (λ f. nothing-uses rs)
+place-uses (Some identifier) place rs = nothing-uses rs
 
-or-uses : (rs : List Record) (f : Found) (m : Means) → ((i : ℕ) → f ≡ Found.At i → used (get_or rs i blank) ≡ true) → Uses rs m → Uses rs (or_else f m)
-or-uses rs (Found.At k) m found otherwise = at-uses rs k (found k refl)
-or-uses rs Found.Nothing m found otherwise = otherwise
+or-uses : (rs : List Record) (f : Option ℕ) (m : Means) → ((i : ℕ) → f ≡ Some i → used (get_or rs i blank) ≡ true) → Uses rs m → Uses rs (or_else f m)
+or-uses rs (Some k) m found otherwise = at-uses rs k (found k refl)
+or-uses rs None m found otherwise = otherwise
 
 pub meaning-uses : (l : Letter) (place : ℕ) (rs : List Record) → Uses rs (meaning l place rs)
 unfolding meaning

@@ -1,8 +1,7 @@
 -- The deadlines of the line desk's records (document 02, Ask 6): a guard that is started has its deadline put into its record's words; and whether the guard of a record runs out in a tick.
-use Rattle.std.specs.Prelude.{ℕ, ◌+◌, ◌*◌, ◌%◌, Bool, List, map, get_or, set, ltb}
+use Rattle.std.specs.Prelude.{ℕ, ◌+◌, ◌*◌, ◌%◌, Bool, List, map, get_or, set, ltb, Option, Some, None}
 use Rattle.lists.specs.Choice.{pick}
 use Rattle.lists.specs.Lists.{both, without}
-use Rattle.lists.specs.declared.Found.{Found}
 use Rattle.clock.specs.Clock.{turn, deadline_of, due}
 use Rattle.message.specs.declared.Kind.{Kind}
 use Rattle.message.specs.declared.Kind.TheVariants.{Ccbs, Ccnr}
@@ -35,9 +34,9 @@ started_at count i words =
     pick (ltb i places) (set words (i * width + guard_at) (deadline_of count (guard_length (get_or (records words) i blank).terms.kind))) words
 
 -- the guard, if a step starts it, at the place that its outcome tells
-unfoldable pub timed : ℕ → Found → Timers → List ℕ → List ℕ
-timed count Found.Nothing starts words = words
-timed count (Found.At i) starts words = pick starts.guard (started_at count i words) words
+unfoldable pub timed : ℕ → Option ℕ → Timers → List ℕ → List ℕ
+timed count None starts words = words
+timed count (Some i) starts words = pick starts.guard (started_at count i words) words
 
 -- ---- the same for the deadlines of a desk with all its words: one goes with its record, and a start puts one
 abbrev pub guards_after : List ℕ → Change → List ℕ
@@ -47,9 +46,9 @@ guards_after gs (Turn t i) = gs
 guards_after gs (Remove i) = without 0 gs i
 guards_after gs (Report k number busy) = gs
 
-abbrev pub guards_started : ℕ → Found → Timers → List Record → List ℕ → List ℕ
-guards_started count Found.Nothing starts rs gs = gs
-guards_started count (Found.At i) starts rs gs = pick starts.guard (set gs i (deadline_of count (guard_length (get_or rs i blank).terms.kind))) gs
+abbrev pub guards_started : ℕ → Option ℕ → Timers → List Record → List ℕ → List ℕ
+guards_started count None starts rs gs = gs
+guards_started count (Some i) starts rs gs = pick starts.guard (set gs i (deadline_of count (guard_length (get_or rs i blank).terms.kind))) gs
 
 -- ---- a tick
 -- the guard runs in every state: it runs out if it is due

@@ -1,9 +1,8 @@
 -- The lines and settings of the line desk, in the words behind the records.
-use Rattle.std.specs.Prelude.{ℕ, Bool, List, [], ◌∷◌, ◌++◌, map, get_or, take, drop, set, ltb, eqb}
+use Rattle.std.specs.Prelude.{ℕ, Bool, List, [], ◌∷◌, ◌++◌, map, get_or, take, drop, set, ltb, eqb, Option}
 use Rattle.lists.specs.Choice.{pick}
 use Rattle.lists.specs.Lists.{first}
 use Rattle.lists.specs.Words.{same_words}
-use Rattle.lists.specs.declared.Found.{Found}
 use Rattle.lists.specs.declared.words.Words.{Words}
 use Rattle.store.specs.Rows.{rows, put_row}
 use Rattle.terms.specs.Codes.{flag_code}
@@ -36,7 +35,7 @@ lines words = map line_of (rows line_width line_places (drop lines_at words))
 abbrev pub has_number : Words → Line → Bool
 has_number number line = same_words line.number number
 
-unfoldable pub line_at : Words → List Line → Found
+unfoldable pub line_at : Words → List Line → Option ℕ
 line_at number ls = first (has_number number) ls
 
 -- the words with a line at a place; a place that is not there changes nothing

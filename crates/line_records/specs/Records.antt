@@ -1,12 +1,10 @@
 -- The records of the line desk: what the first words of a desk are, as a list of records, and a record put, turned or removed.
-use Rattle.std.specs.Prelude.{ℕ, Bool, true, false, List, [], ◌∷◌, ◌++◌, map, get_or, ltb, eqb}
+use Rattle.std.specs.Prelude.{ℕ, Bool, true, false, List, [], ◌∷◌, ◌++◌, map, get_or, ltb, eqb, Option, Some}
 use Rattle.lists.specs.Choice.{pick}
 use Rattle.lists.specs.Lists.{both, first}
-use Rattle.lists.specs.declared.Found.{Found}
 use Rattle.lists.specs.declared.words.Words.{Words}
 use Rattle.store.specs.Rows.{state_word, rows, put_row, turn_row, drop_row}
 use Rattle.desk.specs.Letter.{same_identifier}
-use Rattle.desk.specs.declared.letter.Identifier.TheVariants.{Is}
 use Rattle.terms.specs.Codes.{kind_code, flag_code}
 use Rattle.terms.specs.Terms.{kind_at, terms_of, terms_words}
 use Rattle.line_table.specs.Search.{used}
@@ -51,13 +49,13 @@ unused r = pick (used r) false true
 
 -- the record in use with that identifier
 abbrev pub identified : Words → Record → Bool
-identified identifier r = both (same_identifier r.terms.identifier (Is identifier)) (used r)
+identified identifier r = both (same_identifier r.terms.identifier (Some identifier)) (used r)
 
-unfoldable pub meant : Words → List Record → Found
+unfoldable pub meant : Words → List Record → Option ℕ
 meant identifier rs = first (identified identifier) rs
 
 -- the first place that is not used
-unfoldable pub place : List Record → Found
+unfoldable pub place : List Record → Option ℕ
 place rs = first unused rs
 
 -- the words with a record at a place, with a place's record turned, and with it removed; a place that is not there changes nothing

@@ -37,10 +37,8 @@ fn mark_place(words: &mut [u64; WORDS], i: usize, number: Words)
 fn mark_line(words: &mut [u64; WORDS], number: Words)
     ensures { words.new ≡ marked number places words.old }
 {
-    let mut i = 0;
-    while i < PLACES {
+    for i in 0..PLACES {
         mark_place(words, i, number);
-        i += 1;
     }
 }
 

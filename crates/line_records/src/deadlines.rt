@@ -7,7 +7,6 @@ use crate::places::load;
 use crate::{GUARD_AT, LAST_STATE, PLACES, WIDTH, WORDS};
 use clock::{count_of, deadline_of, is_due};
 use desk::outcome::Timers;
-use lists::Found;
 use message::Kind;
 
 // How many seconds a guard runs: document 01's, and no setting.
@@ -36,12 +35,12 @@ fn start(words: &mut [u64; WORDS], count: u32, i: usize)
 
 // The guard, if a step starts it, at the place that its outcome tells.
 #[tactic(auto, unfolding(crate::specs::Deadlines::timed))]
-pub fn start_timers(words: &mut [u64; WORDS], count: u32, at: Found, starts: Timers)
+pub fn start_timers(words: &mut [u64; WORDS], count: u32, at: Option<usize>, starts: Timers)
     ensures { words.new ≡ timed count at starts words.old }
 {
     match at {
-        Found::Nothing => {}
-        Found::At(i) => {
+        None => {}
+        Some(i) => {
             if starts.guard {
                 start(words, count, i);
             }
@@ -63,8 +62,5 @@ pub fn guard_of(words: &[u64; WORDS], i: usize) -> u32
 pub fn is_expiring(words: &[u64; WORDS], i: usize, count: u32) -> bool
     ensures { result ≡ expiring_at count words.now i }
 {
-    if store::is_live_at(words, WIDTH, PLACES, i, LAST_STATE) {
-        return is_due(count, guard_of(words, i));
-    }
-    false
+    store::is_live_at::<WIDTH, PLACES>(words, i, LAST_STATE) && is_due(count, guard_of(words, i))
 }

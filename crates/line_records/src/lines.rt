@@ -6,8 +6,7 @@ ghost use Rattle.line_records.specs.Lines.{line_of, line_words, no_line, lines, 
 
 use crate::{KEEPS_AT, LINE_WIDTH, LINES, LINES_AT, RETAINS_AT, WORDS};
 use line_table::line::Line;
-use lists::Found;
-use lists::words::{Words, same_words};
+use lists::words::Words;
 use terms::codes::flag_code;
 
 // The line of a row.
@@ -16,12 +15,11 @@ fn line_of(row: &[u64]) -> Line
     requires { line_width ≤ length row.now }
     ensures { result ≡ line_of row.now }
 {
-    let number = Words {
-        low: row[0],
-        high: row[1],
-    };
     Line {
-        number,
+        number: Words {
+            low: row[0],
+            high: row[1],
+        },
         ccbs: row[2] == 1,
         ccnr: row[3] == 1,
         busy: row[4] == 1,
@@ -33,9 +31,8 @@ fn put_line_words(row: &mut [u64], line: Line)
     requires { line_width ≤ length row.old }
     ensures { row.new ≡ over (line_words line) row.old }
 {
-    let number = line.number;
-    row[0] = number.low;
-    row[1] = number.high;
+    row[0] = line.number.low;
+    row[1] = line.number.high;
     row[2] = flag_code(line.ccbs);
     row[3] = flag_code(line.ccnr);
     row[4] = flag_code(line.busy);
@@ -67,27 +64,24 @@ pub fn load_line(words: &[u64; WORDS], k: usize) -> Line
     no_line()
 }
 
+#[tactic(auto, unfolding(lists::specs::Words::same_words))]
 fn has_number(line: Line, number: Words) -> bool
     ensures { result ≡ has_number number line }
 {
-    let own = line.number;
-    same_words(own, number)
+    line.number == number
 }
 
 // The place of the line with that number.
 #[tactic(auto, unfolding(crate::specs::Lines::line_at))]
-pub fn find_line(words: &[u64; WORDS], number: Words) -> Found
+pub fn find_line(words: &[u64; WORDS], number: Words) -> Option<usize>
     ensures { result ≡ line_at number (lines words.now) }
 {
-    let mut i = 0;
-    while i < LINES {
-        let line = load_line(words, i);
-        if has_number(line, number) {
-            return Found::At(i);
+    for i in 0..LINES {
+        if has_number(load_line(words, i), number) {
+            return Some(i);
         }
-        i += 1;
     }
-    Found::Nothing
+    None
 }
 
 #[tactic(auto, using(lists::proofs::Parts::tail_of_lem, lists::proofs::Parts::mid_tail, crate::proofs::LinesLaws::over_line_parts))]

@@ -8,9 +8,9 @@ ghost use Rattle.line_records.specs.Meaning.{identifier_means, is_for_await, sta
 
 use crate::codes::state_code;
 use crate::{LAST_STATE, PLACES, WIDTH, WORDS};
-use desk::letter::{Identifier, Letter};
+use desk::letter::Letter;
 use line_table::table::State;
-use lists::Found;
+use lists::words::Words;
 use message::{Body, has_elements};
 use store::For;
 use terms::means::Means;
@@ -53,12 +53,12 @@ fn states_for(body: Body) -> For
 }
 
 // (a) The record in use with that identifier.
-fn find_identified(words: &[u64; WORDS], identifier: Identifier) -> Found
+fn find_identified(words: &[u64; WORDS], identifier: Option<Words>) -> Option<usize>
     ensures { result ≡ identifier_means identifier (records words.now) }
 {
     match identifier {
-        Identifier::Absent => Found::Nothing,
-        Identifier::Is(id) => store::find(words, WIDTH, PLACES, id, LAST_STATE),
+        None => None,
+        Some(id) => store::find::<WIDTH, PLACES>(words, id, LAST_STATE),
     }
 }
 
@@ -69,21 +69,21 @@ fn find_fitting(words: &[u64; WORDS], l: Letter) -> Means
     let body = l.body;
     let names = letter_names(l);
     let states = states_for(body);
-    store::find_fitting(words, WIDTH, PLACES, names, LAST_STATE, states)
+    store::find_fitting::<WIDTH, PLACES>(words, names, LAST_STATE, states)
 }
 
 // (c) Without an identifier, the record at the named place.
-fn find_placed(words: &[u64; WORDS], identifier: Identifier, place: usize) -> Means
+fn find_placed(words: &[u64; WORDS], identifier: Option<Words>, place: usize) -> Means
     ensures { result ≡ place_means identifier place (records words.now) }
 {
     match identifier {
-        Identifier::Absent => {
-            if store::is_live_at(words, WIDTH, PLACES, place, LAST_STATE) {
+        None => {
+            if store::is_live_at::<WIDTH, PLACES>(words, place, LAST_STATE) {
                 return Means::At(place);
             }
             Means::Nothing
         }
-        Identifier::Is(_) => Means::Nothing,
+        Some(_) => Means::Nothing,
     }
 }
 
@@ -107,8 +107,8 @@ pub fn find_meant(words: &[u64; WORDS], l: Letter, place: usize) -> Means
 {
     let identifier = l.identifier;
     match find_identified(words, identifier) {
-        Found::Nothing => find_otherwise(words, l, place),
-        Found::At(i) => Means::At(i),
+        None => find_otherwise(words, l, place),
+        Some(i) => Means::At(i),
     }
 }
 
@@ -119,7 +119,7 @@ pub fn find_named(words: &[u64; WORDS], name: Name) -> Means
 {
     let identifier = name.identifier;
     match find_identified(words, identifier) {
-        Found::Nothing => find_placed(words, identifier, name.place),
-        Found::At(i) => Means::At(i),
+        None => find_placed(words, identifier, name.place),
+        Some(i) => Means::At(i),
     }
 }

@@ -9,7 +9,6 @@ ghost use Rattle.line_records.specs.Records.{record_of, record_words, turned_wor
 use crate::codes::{state_code, state_of};
 use crate::{ACTIVE_AT, DOWN_AT, LAST_STATE, PLACES, STATE_AT, SUSPENDED_AT, WIDTH, WORDS};
 use line_table::record::{Record, Turned};
-use lists::Found;
 use terms::codes::{flag_code, kind_code};
 use terms::{put_terms, terms_of};
 
@@ -65,10 +64,10 @@ fn put_words(row: &mut [u64], r: Record)
 }
 
 // The first place that is not used.
-pub fn find_place(words: &[u64; WORDS]) -> Found
+pub fn find_place(words: &[u64; WORDS]) -> Option<usize>
     ensures { result ≡ place (records words.now) }
 {
-    store::find_free(words, WIDTH, PLACES, LAST_STATE)
+    store::find_free::<WIDTH, PLACES>(words, LAST_STATE)
 }
 
 fn load_in(words: &[u64], i: usize) -> Record
@@ -138,5 +137,5 @@ pub fn turn_record(words: &mut [u64; WORDS], i: usize, t: Turned)
 pub fn remove_record(words: &mut [u64; WORDS], i: usize)
     ensures { words.new ≡ removed words.old i }
 {
-    store::remove(words, WIDTH, PLACES, i);
+    store::remove::<WIDTH, PLACES>(words, i);
 }

@@ -14,8 +14,7 @@ use crate::{ACTIVE_AT, PLACES, STATE_AT, SUSPENDED_AT, WIDTH, WORDS};
 use desk::letter::same_identifier;
 use line_table::search::{Sought, fits_kind, in_use, is_invoked, is_waiting};
 use line_table::table::State;
-use lists::Found;
-use lists::words::{Words, same_words};
+use lists::words::Words;
 use terms::means::is_given;
 use terms::request::Names;
 use terms::{identifier_at, kind_at, number_a_at, number_b_at};
@@ -44,10 +43,7 @@ fn names_line(row: &[u64], number: Words) -> bool
     ensures { result ≡ same_words (record_of row.now).terms.numberB number }
 {
     let own = number_b_at(row);
-    if own.high == number.high {
-        return own.low == number.low;
-    }
-    false
+    own.high == number.high && own.low == number.low
 }
 
 // A record of a line.
@@ -56,11 +52,7 @@ fn is_of_line(row: &[u64], number: Words) -> bool
     requires { width ≤ length row.now }
     ensures { result ≡ of_line number (record_of row.now) }
 {
-    if names_line(row, number) {
-        let state = state_at(row);
-        return in_use(state);
-    }
-    false
+    names_line(row, number) && in_use(state_at(row))
 }
 
 // An Invoked record of a line.
@@ -69,11 +61,7 @@ fn is_invoked_on(row: &[u64], number: Words) -> bool
     requires { width ≤ length row.now }
     ensures { result ≡ invoked_on number (record_of row.now) }
 {
-    if names_line(row, number) {
-        let state = state_at(row);
-        return is_invoked(state);
-    }
-    false
+    names_line(row, number) && is_invoked(state_at(row))
 }
 
 // A record that keeps its line from being offered.
@@ -82,11 +70,7 @@ fn is_blocking(row: &[u64], number: Words) -> bool
     requires { width ≤ length row.now }
     ensures { result ≡ blocks number (record_of row.now) }
 {
-    if names_line(row, number) {
-        let state = state_at(row);
-        return is_waiting(state, row[SUSPENDED_AT] == 1);
-    }
-    false
+    names_line(row, number) && is_waiting(state_at(row), row[SUSPENDED_AT] == 1)
 }
 
 // A record that can be offered: Invoked and CCBS, or Invoked, CCNR and marked active.
@@ -94,11 +78,7 @@ fn is_fitting(row: &[u64], number: Words) -> bool
     requires { width ≤ length row.now }
     ensures { result ≡ fits number (record_of row.now) }
 {
-    if is_invoked_on(row, number) {
-        let kind = kind_at(row);
-        return fits_kind(kind, row[ACTIVE_AT] == 1);
-    }
-    false
+    is_invoked_on(row, number) && fits_kind(kind_at(row), row[ACTIVE_AT] == 1)
 }
 
 // Both numberA given and equal, and numberB equal. Whether they are given is asked of the record's, which is there whatever a search is for: of a value that is
@@ -109,10 +89,7 @@ fn has_numbers(row: &[u64], numberA: Words, numberB: Words) -> bool
 {
     if names_line(row, numberB) {
         let own = number_a_at(row);
-        if is_given(own) {
-            return same_words(own, numberA);
-        }
-        return false;
+        return is_given(own) && own == numberA;
     }
     false
 }
@@ -122,14 +99,8 @@ fn has_names(row: &[u64], names: Names) -> bool
     requires { width ≤ length row.now }
     ensures { result ≡ pick (same_identifier (record_of row.now).terms.identifier names.identifier) true (same_numbers names.numberA names.numberB (record_of row.now)) }
 {
-    let own = identifier_at(row);
-    let identifier = names.identifier;
-    let numberA = names.numberA;
-    let numberB = names.numberB;
-    if same_identifier(own, identifier) {
-        return true;
-    }
-    has_numbers(row, numberA, numberB)
+    same_identifier(identifier_at(row), names.identifier)
+        || has_numbers(row, names.numberA, names.numberB)
 }
 
 // A live record with the identifier, or with the two numbers, of a request.
@@ -138,14 +109,11 @@ fn is_duplicate(row: &[u64], names: Names) -> bool
     requires { width ≤ length row.now }
     ensures { result ≡ duplicates names (record_of row.now) }
 {
-    if has_names(row, names) {
-        let state = state_at(row);
-        return in_use(state);
-    }
-    false
+    has_names(row, names) && in_use(state_at(row))
 }
 
-// Whether a record is one that is looked for.
+// Whether a record is one that is looked for. A switch and no closure: what a search promises, and the theorems on what it finds, speak of `Sought` (`passes` in
+// line_table/specs/Search.antt).
 fn is_sought(row: &[u64], sought: Sought) -> bool
     requires { width ≤ length row.now }
     ensures { result ≡ passes sought (record_of row.now) }
@@ -158,32 +126,26 @@ fn is_sought(row: &[u64], sought: Sought) -> bool
 }
 
 // The place of the oldest record that is sought.
-pub fn find_record(words: &[u64; WORDS], sought: Sought) -> Found
+pub fn find_record(words: &[u64; WORDS], sought: Sought) -> Option<usize>
     ensures { result ≡ first (passes sought) (records words.now) }
 {
-    let mut i = 0;
-    while i < PLACES {
-        let row = row_of(words, i);
-        if is_sought(row, sought) {
-            return Found::At(i);
+    for i in 0..PLACES {
+        if is_sought(row_of(words, i), sought) {
+            return Some(i);
         }
-        i += 1;
     }
-    Found::Nothing
+    None
 }
 
 // How many records a line has.
 pub fn count_line(words: &[u64; WORDS], number: Words) -> usize
     ensures { result ≡ count (of_line number) (records words.now) }
 {
-    let mut i = 0;
     let mut found = 0;
-    while i < PLACES {
-        let row = row_of(words, i);
-        if is_of_line(row, number) {
+    for i in 0..PLACES {
+        if is_of_line(row_of(words, i), number) {
             found += 1;
         }
-        i += 1;
     }
     found
 }
@@ -192,9 +154,5 @@ pub fn count_line(words: &[u64; WORDS], number: Words) -> usize
 pub fn is_marked(words: &[u64; WORDS], i: usize, number: Words) -> bool
     ensures { result ≡ marks number (get_or (records words.now) i blank) }
 {
-    if i < PLACES {
-        let row = row_of(words, i);
-        return is_invoked_on(row, number);
-    }
-    false
+    i < PLACES && is_invoked_on(row_of(words, i), number)
 }

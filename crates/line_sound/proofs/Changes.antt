@@ -1,4 +1,5 @@
 -- A step about one record keeps a desk sound, by the laws of a list of places: a record that turns keeps its line, a new one finds fewer than 5 of its line, a removal takes from one line. So does a report: it keeps numbers, identifiers and states. The same for the order of acceptance, and for every other record.
+use Rattle.std.specs.Prelude.{Option, Some, None}
 use Prim.Native.Nat.{ℕ, zero, suc, ◌≤◌, ◌<◌}
 use mathlib.Core.Path.{◌≡◌, refl, sym, ap, ◌∙◌, subst}
 use mathlib.Core.Bool.{Bool, true, false}
@@ -8,8 +9,6 @@ use native.Mathlib.Omega.{arith}
 use Rattle.lists.specs.Choice.{pick}
 use Rattle.lists.specs.Lists.{first_from, count}
 use Rattle.lists.specs.Words.{same_words}
-use Rattle.lists.specs.declared.Found.{Found}
-use Rattle.lists.specs.declared.Found.TheVariants.{At, Nothing}
 use Rattle.lists.specs.declared.words.Words.{Words}
 use Rattle.lists.proofs.Choice.{pick_elim}
 use Rattle.lists.proofs.WordsLaws.{same-words-true}
@@ -72,12 +71,12 @@ pub record Added (rs : List Record) (ls : List Line) (r : Record) : Type 0 where
   pub few : count (of_line r.terms.numberB) rs < line_most
   pub whole : Whole ls r
 
-abbrev pub Moves : List Record → List Line → Found → List Record → Type 0
+abbrev pub Moves : List Record → List Line → Option ℕ → List Record → Type 0
 Moves rs ls about after = Moved line_view (Turned ls) (Added rs ls) about rs after
 
 module _ (rs : List Record) (ls : List Line) (five : (number : Words) → count (of_line number) rs ≤ line_most) where
   added_five :
-      (i : ℕ) (r : Record) → place_in line_view rs ≡ At i → used r ≡ true → count (of_line r.terms.numberB) rs < line_most →
+      (i : ℕ) (r : Record) → place_in line_view rs ≡ Some i → used r ≡ true → count (of_line r.terms.numberB) rs < line_most →
       (number : Words) → count (of_line number) (set rs i r) ≤ line_most
   added_five i r free is few number = by (same_words r.terms.numberB number) refl
     where
@@ -94,7 +93,7 @@ module _ (rs : List Record) (ls : List Line) (five : (number : Words) → count 
           let other : of_line number r ≡ false = rw (is, f) in
           omega (arith, stored_same (of_line_view number) rs i r (other ∙ sym before), five number)
 
-  moved-five : {about : Found} {after : List Record} → Moves rs ls about after → (number : Words) → count (of_line number) after ≤ line_most
+  moved-five : {about : Option ℕ} {after : List Record} → Moves rs ls about after → (number : Words) → count (of_line number) after ≤ line_most
   moved-five (P.stays here e) number = rw e (five number)
   moved-five (P.turns i r here was is own turn e) number =
       rw e
@@ -106,7 +105,7 @@ module _ (rs : List Record) (ls : List Line) (five : (number : Words) → count 
   moved-five (P.stores i r here free new is added e) number = rw e (added_five i r free is added.few number)
   moved-five (P.removes i here was e) number = rw e (omega (arith, stored-without (of_line_view number) rs i (blank_of_line number), five number))
 
-moved_parts : {rs : List Record} {ls : List Line} {about : Found} {after : List Record} → Parts rs ls → Moves rs ls about after → Parts after ls
+moved_parts : {rs : List Record} {ls : List Line} {about : Option ℕ} {after : List Record} → Parts rs ls → Moves rs ls about after → Parts after ls
 moved_parts {rs} {ls} parts moves =
     record {
       placed = moved-placed line_view parts.placed moves;
@@ -200,38 +199,38 @@ report_parts rs ls k number busy parts =
     (pick_elim (λ (x : List Record). Parts x ls) busy (λ t. marked_parts number rs ls parts) (λ f. parts))
 
 -- ---- what a change makes of a desk, with the place that the outcome tells; the deadlines of what it starts change no record and no line
-pub data Goes (ws : List ℕ) : Input → Found → Change → Type 0 where
+pub data Goes (ws : List ℕ) : Input → Option ℕ → Change → Type 0 where
   -- about the record of one place, or about none
   moved :
-      {input : Input} {about : Found} {c : Change} → lines_after (lines ws) c ≡ lines ws → Moves (records ws) (lines ws) about (records_after (records ws) c) →
+      {input : Input} {about : Option ℕ} {c : Change} → lines_after (lines ws) c ≡ lines ws → Moves (records ws) (lines ws) about (records_after (records ws) c) →
       Goes ws input about c
-  reported : (k : ℕ) (number : Words) (busy : Bool) → Goes ws (Input.Report number busy) Nothing (Report k number busy)
+  reported : (k : ℕ) (number : Words) (busy : Bool) → Goes ws (Input.Report number busy) None (Report k number busy)
 
 module _ (ws : List ℕ) (sound : Sound ws) (count : ℕ) (starts : Timers) where
-  abbrev after : Found → Change → List ℕ
+  abbrev after : Option ℕ → Change → List ℕ
   after about c = timed count about starts (applied ws c)
 
-  after-records : (about : Found) (c : Change) → records (after about c) ≡ records_after (records ws) c
+  after-records : (about : Option ℕ) (c : Change) → records (after about c) ≡ records_after (records ws) c
   after-records about c = records-made ws c sound.full count about starts
 
-  after-sound : (about : Found) (c : Change) → Parts (records_after (records ws) c) (lines_after (lines ws) c) → Sound (after about c)
+  after-sound : (about : Option ℕ) (c : Change) → Parts (records_after (records ws) c) (lines_after (lines ws) c) → Sound (after about c)
   after-sound about c =
       sound_of (after about c) (made-length ws c sound.full count about starts) (after-records about c) (lines-made ws c sound.full count about starts)
 
-  pub goes-sound : {input : Input} {about : Found} {c : Change} → Goes ws input about c → Sound (after about c)
+  pub goes-sound : {input : Input} {about : Option ℕ} {c : Change} → Goes ws input about c → Sound (after about c)
   goes-sound {about = about} {c = c} (moved same moves) =
       after-sound about c (subst (Parts (records_after (records ws) c)) (sym same) (moved_parts (parts_of ws sound) moves))
   goes-sound (reported k number busy) =
-      after-sound Nothing (Report k number busy) (report_parts (records ws) (lines ws) k number busy (parts_of ws sound))
+      after-sound None (Report k number busy) (report_parts (records ws) (lines ws) k number busy (parts_of ws sound))
 
   -- ---- the order of acceptance
   abbrev Ordered : List Record → Type 0
   Ordered rs = Queued (names line_view (records ws)) (names line_view rs)
 
-  pub goes_order : {input : Input} {about : Found} {c : Change} → Goes ws input about c → Ordered (records (after about c))
+  pub goes_order : {input : Input} {about : Option ℕ} {c : Change} → Goes ws input about c → Ordered (records (after about c))
   goes_order {about = about} {c = c} (moved same moves) = subst Ordered (sym (after-records about c)) (moved_order line_view sound.placed moves)
   goes_order (reported k number busy) =
-      subst Ordered (sym (after-records Nothing (Report k number busy)))
+      subst Ordered (sym (after-records None (Report k number busy)))
       (pick_elim Ordered busy
       (λ t.
       subst (Queued (names line_view (records ws)))
@@ -240,7 +239,7 @@ module _ (ws : List ℕ) (sound : Sound ws) (count : ℕ) (starts : Timers) wher
 
   -- ---- every other record
   pub goes-others :
-      {input : Input} {about : Found} {c : Change} → Goes ws input about c → NoReport input → OthersStay line_view about (records ws) (records (after about c))
+      {input : Input} {about : Option ℕ} {c : Change} → Goes ws input about c → NoReport input → OthersStay line_view about (records ws) (records (after about c))
   goes-others {about = about} {c = c} (moved same moves) silent =
       subst (OthersStay line_view about (records ws)) (sym (after-records about c)) (moved-others line_view moves)
   goes-others (reported k number busy) silent = absurd silent

@@ -1,4 +1,6 @@
 -- What is decided is good for the desk: a row is taken for the record that is meant, or that fits a Look; a request is stored at the first free place, under a new identifier or none, if its line has fewer than 5. And a good decision's plan is about one record, or a report: no row changes the terms or leads to Free, and only Await is suspended.
+use Rattle.message.specs.declared.Body.{Body}
+use Rattle.std.specs.Prelude.{Option, Some, None}
 use Prim.Native.Nat.{ℕ, ◌<◌}
 use mathlib.Core.Path.{◌≡◌, refl, sym, ap, ◌∙◌}
 use mathlib.Core.Bool.{Bool, true}
@@ -9,20 +11,15 @@ use native.Mathlib.Omega.{arith}
 use borrow.Author.Tests.{ltb-true}
 use Rattle.lists.specs.Lists.{both, first, count}
 use Rattle.lists.specs.Words.{same_words}
-use Rattle.lists.specs.declared.Found.{Found}
-use Rattle.lists.specs.declared.Found.TheVariants.{At, Nothing}
 use Rattle.lists.specs.declared.words.Words.{Words}
 use Rattle.lists.proofs.Choice.{no_true, pick_elim}
 use Rattle.lists.proofs.Lists.{both_parts, first_holds, first-none}
 use Rattle.desk.specs.Carriers.{carrier_fits}
 use Rattle.desk.specs.Letter.{same_identifier}
-use Rattle.desk.specs.declared.letter.Identifier.{Identifier}
-use Rattle.desk.specs.declared.letter.Identifier.TheVariants.{Absent, Is}
 use Rattle.desk.specs.declared.Connection.TheVariants as Connection
 use Rattle.desk.specs.declared.Connection.TheVariants.{Ret}
 use Rattle.desk.proofs.CarriersLaws.{retained-holds}
 use Rattle.desk.specs.declared.letter.Letter.{Letter}
-use Rattle.desk.specs.declared.sends.Sends.{Sends}
 use Rattle.terms.specs.Request.{letter_names}
 use Rattle.terms.specs.declared.means.Means.{Means}
 use Rattle.terms.specs.declared.request.Name.{Name}
@@ -37,6 +34,7 @@ use Rattle.line_table.specs.Record.{turned}
 use Rattle.line_table.specs.Step.{row_taken}
 use Rattle.line_table.specs.Inputs.{names_of, message_for, row_for}
 use Rattle.message.specs.declared.Kind.{Kind}
+use Rattle.message.specs.declared.refusal.Refusal.{Refusal}
 use Rattle.terms.specs.Terms.{with_kind}
 use Rattle.terms.specs.declared.Terms.{Terms}
 use Rattle.line_table.specs.Table.{in_use, home_of, holds_in}
@@ -69,13 +67,13 @@ use Rattle.line_sound.proofs.Changes.{Moves, Goes, moved, reported}
 
 -- ---- a decision that is good for a desk
 pub data Good (ws : List ℕ) : Input → Decision → Type 0 where
-  refuses : {input : Input} {number : ℕ} {reply : Sends} → Good ws input (Refuse number reply)
+  refuses : {input : Input} {refusal : Refusal} {reply : Option Body} → Good ws input (Refuse refusal reply)
   denies : {input : Input} {error : ℕ} → Good ws input (Deny error)
   takes :
       {input : Input} (i : ℕ) (row : Row) → used (get_or (records ws) i blank) ≡ true → holds_for row (get_or (records ws) i blank) ≡ true →
       Good ws input (Take i row)
   stores :
-      {input : Input} (i : ℕ) (q : Request) (busy : Bool) → place (records ws) ≡ At i → P.known_in line_view (names_of input).identifier (records ws) ≡ Nothing →
+      {input : Input} (i : ℕ) (q : Request) (busy : Bool) → place (records ws) ≡ Some i → P.known_in line_view (names_of input).identifier (records ws) ≡ None →
       count (of_line (names_of input).numberB) (records ws) < line_most → Whole (lines ws) (new_record ws (names_of input) q busy) →
       Good ws input (Store i q busy)
   reports : {number : Words} {busy : Bool} (k : ℕ) → Good ws (Input.Report number busy) (Report k busy)
@@ -89,7 +87,7 @@ module _ (ws : List ℕ) (sound : Sound ws) where
   -- a change about the record of a place, which leaves the lines
   record Turns (i : ℕ) (c : Change) : Type 0 where
     lines_same : lines_after (lines ws) c ≡ lines ws
-    moves : Moves (records ws) (lines ws) (At i) (records_after (records ws) c)
+    moves : Moves (records ws) (lines ws) (Some i) (records_after (records ws) c)
 
   module _ (i : ℕ) (u : used (get_or (records ws) i blank) ≡ true) where
     abbrev its : Record
@@ -158,9 +156,9 @@ module _ (ws : List ℕ) (input : Input) (name : Name) (row : Row) where
 
 -- ---- a line report
 module _ (ws : List ℕ) (number : Words) (busy : Bool) where
-  good-report-found : (f : Found) → Good ws (Input.Report number busy) (report_found busy f)
-  good-report-found Nothing = refuses
-  good-report-found (At k) = reports k
+  good-report-found : (f : Option ℕ) → Good ws (Input.Report number busy) (report_found busy f)
+  good-report-found None = refuses
+  good-report-found (Some k) = reports k
 
   pub good-report : Good ws (Input.Report number busy) (report_decision ws number busy)
   unfolding report_decision
@@ -168,27 +166,27 @@ module _ (ws : List ℕ) (number : Words) (busy : Bool) where
 
 -- ---- Look: what is offered fits
 module _ (ws : List ℕ) (number : Words) where
-  abbrev GoodLook : Found → Type 0
+  abbrev GoodLook : Option ℕ → Type 0
   GoodLook f = Good ws (Input.Look number) (offer_decision f)
 
-  good-fitting : (f : Found) → first (passes (Fitting number)) (records ws) ≡ f → GoodLook f
-  good-fitting Nothing e = refuses
-  good-fitting (At i) e =
+  good-fitting : (f : Option ℕ) → first (passes (Fitting number)) (records ws) ≡ f → GoodLook f
+  good-fitting None e = refuses
+  good-fitting (Some i) e =
       let h = fitting-holds number (get_or (records ws) i blank) (first_holds (passes (Fitting number)) (records ws) i blank e) in
       takes i Offers h.0 h.1
 
-  good_blocking : (f : Found) → GoodLook (offer_found ws number f)
-  good_blocking (At i) = refuses
-  good_blocking Nothing = good-fitting (first (passes (Fitting number)) (records ws)) refl
+  good_blocking : (f : Option ℕ) → GoodLook (offer_found ws number f)
+  good_blocking (Some i) = refuses
+  good_blocking None = good-fitting (first (passes (Fitting number)) (records ws)) refl
 
   good_offer : (line : Line) → GoodLook (offer_at ws line number)
   unfolding offer_at
   good_offer line =
       pick_elim GoodLook (can_take line) (λ t. good_blocking (first (passes (Blocking number)) (records ws))) (λ f. refuses)
 
-  good-look-found : (f : Found) → Good ws (Input.Look number) (look_found ws number f)
-  good-look-found Nothing = refuses
-  good-look-found (At k) = good_offer (get_or (lines ws) k no_line)
+  good-look-found : (f : Option ℕ) → Good ws (Input.Look number) (look_found ws number f)
+  good-look-found None = refuses
+  good-look-found (Some k) = good_offer (get_or (lines ws) k no_line)
 
   pub good-look : Good ws (Input.Look number) (look_decision ws number)
   unfolding look_decision
@@ -196,12 +194,12 @@ module _ (ws : List ℕ) (number : Words) where
 
 -- ---- messages
 -- where none is a duplicate, no record has the identifier, if there is one
-new-identifier : (rs : List Record) (asked : Names) → first (passes (Duplicate asked)) rs ≡ Nothing → P.known_in line_view asked.identifier rs ≡ Nothing
+new-identifier : (rs : List Record) (asked : Names) → first (passes (Duplicate asked)) rs ≡ None → P.known_in line_view asked.identifier rs ≡ None
 new-identifier rs asked none = by asked.identifier refl
   where
-    found : (identifier : Words) → asked.identifier ≡ Is identifier → (f : Found) → P.meant_in line_view identifier rs ≡ f → P.meant_in line_view identifier rs ≡ Nothing
-    found identifier q Nothing e = e
-    found identifier q (At i) e =
+    found : (identifier : Words) → asked.identifier ≡ Some identifier → (f : Option ℕ) → P.meant_in line_view identifier rs ≡ f → P.meant_in line_view identifier rs ≡ None
+    found identifier q None e = e
+    found identifier q (Some i) e =
         let r : Record = get_or rs i blank in
         let m = meant-its line_view rs identifier i e in
         let same : same_identifier r.terms.identifier asked.identifier ≡ true =
@@ -209,11 +207,11 @@ new-identifier rs asked none = by asked.identifier refl
         let t : passes (Duplicate asked) r ≡ true = rw (m.0, same) in
         absurd (no_true (sym (first-none (passes (Duplicate asked)) rs blank none i (used-inside line_view rs i blank-unused m.0)) ∙ t))
 
-    by : (k : Identifier) → asked.identifier ≡ k → P.known_in line_view k rs ≡ Nothing
-    by Absent q = refl
-    by (Is identifier) q = found identifier q (P.meant_in line_view identifier rs) refl
+    by : (k : Option Words) → asked.identifier ≡ k → P.known_in line_view k rs ≡ None
+    by None q = refl
+    by (Some identifier) q = found identifier q (P.meant_in line_view identifier rs) refl
 
-found-line : (f : Found) (k : ℕ) → f ≡ At k → f ≡ Nothing → ⊥
+found-line : (f : Option ℕ) (k : ℕ) → f ≡ Some k → f ≡ None → ⊥
 found-line f k e n = let z : ◌≡◌ {A = ℕ} 0 1 = cc in omega arith
 
 module _ (ws : List ℕ) (l : Letter) (at : ℕ) where
@@ -244,34 +242,34 @@ module _ (ws : List ℕ) (l : Letter) (at : ℕ) where
   -- ---- requests
   -- what a request of this letter stores is in range
   abbrev Stored : Request → Type 0
-  Stored q = (busy : Bool) → (line_at l.numberB (lines ws) ≡ Nothing → ⊥) → Whole (lines ws) (new_record ws (letter_names l) q busy)
+  Stored q = (busy : Bool) → (line_at l.numberB (lines ws) ≡ None → ⊥) → Whole (lines ws) (new_record ws (letter_names l) q busy)
 
   abbrev pub Ranged : Type 0
   Ranged = (q : Request) → message_for l.body ≡ Meant.Request q → Stored q
 
   module _ (q : Request) (whole : Stored q) where
-    module _ (busy : Bool) (line : line_at l.numberB (lines ws) ≡ Nothing → ⊥) where
-      good-store : P.known_in line_view l.identifier (records ws) ≡ Nothing → count (of_line l.numberB) (records ws) < line_most → (f : Found) → place (records ws) ≡ f → GoodHere (store_found q busy f)
-      good-store new few Nothing e = denies
-      good-store new few (At i) e = stores i q busy e new few (whole busy line)
+    module _ (busy : Bool) (line : line_at l.numberB (lines ws) ≡ None → ⊥) where
+      good-store : P.known_in line_view l.identifier (records ws) ≡ None → count (of_line l.numberB) (records ws) < line_most → (f : Option ℕ) → place (records ws) ≡ f → GoodHere (store_found q busy f)
+      good-store new few None e = denies
+      good-store new few (Some i) e = stores i q busy e new few (whole busy line)
 
-      good-counted : P.known_in line_view l.identifier (records ws) ≡ Nothing → GoodHere (counted_decision ws (letter_names l) q busy)
+      good-counted : P.known_in line_view l.identifier (records ws) ≡ None → GoodHere (counted_decision ws (letter_names l) q busy)
       unfolding counted_decision
       good-counted new =
           let n : ℕ = count (of_line l.numberB) (records ws) in
           pick_elim GoodHere (ltb n line_most) (λ t. good-store new (ltb-true n line_most t) (place (records ws)) refl) (λ f. denies)
 
-      good_duplicate : (f : Found) → first (passes (Duplicate (letter_names l))) (records ws) ≡ f → GoodHere (duplicate_found ws (letter_names l) q busy f)
-      good_duplicate (At i) e = denies
-      good_duplicate Nothing e = good-counted (new-identifier (records ws) (letter_names l) e)
+      good_duplicate : (f : Option ℕ) → first (passes (Duplicate (letter_names l))) (records ws) ≡ f → GoodHere (duplicate_found ws (letter_names l) q busy f)
+      good_duplicate (Some i) e = denies
+      good_duplicate None e = good-counted (new-identifier (records ws) (letter_names l) e)
 
       good-admitted : GoodHere (admitted_decision ws (letter_names l) q busy)
       unfolding admitted_decision
       good-admitted = good_duplicate (first (passes (Duplicate (letter_names l))) (records ws)) refl
 
-    good-line : (f : Found) → line_at l.numberB (lines ws) ≡ f → GoodHere (line_found ws (letter_names l) q f)
-    good-line Nothing e = denies
-    good-line (At k) e =
+    good-line : (f : Option ℕ) → line_at l.numberB (lines ws) ≡ f → GoodHere (line_found ws (letter_names l) q f)
+    good-line None e = denies
+    good-line (Some k) e =
         let line : Line = get_or (lines ws) k no_line in
         pick_elim GoodHere (allows line q.kind) (λ h. good-admitted line.busy (found-line (line_at l.numberB (lines ws)) k e)) (λ h. denies)
 

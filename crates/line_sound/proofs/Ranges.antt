@@ -1,4 +1,5 @@
 -- What a request in range stores is in range; and a message that is read is formed, and its numbers are bytes, since it was read from bytes.
+use Rattle.std.specs.Prelude.{Option, None}
 use Prim.Native.Nat.{ℕ, ◌-◌, ◌/◌}
 use mathlib.Core.Path.{◌≡◌, subst}
 use mathlib.Core.Bool.{Bool, true}
@@ -8,7 +9,6 @@ use lib.Dec.{eqb}
 use native.Mathlib.Omega.{arith}
 use Rattle.lists.specs.Choice.{pick}
 use Rattle.lists.specs.Words.{Bytes}
-use Rattle.lists.specs.declared.Found.TheVariants.{Nothing}
 use Rattle.lists.proofs.Choice.{no_true, pick_elim}
 use Rattle.lists.proofs.WordsLaws.{bytes_take, bytes_drop}
 use Rattle.message.specs.Reading.{Read, took, refused}
@@ -19,9 +19,8 @@ use Rattle.message.specs.declared.Carrier.{Carrier}
 use Rattle.message.specs.declared.Body.{Body}
 use Rattle.message.specs.declared.Body.TheVariants.{CcbsRequest, CcnrRequest, RequestResult, RequestError, CcExecPossible, CcRingout, RingoutError, CcSuspend, CcResume, CcCancel, CallAlerts, CallFailed}
 use Rattle.message.specs.declared.Fault.{Fault}
-use Rattle.message.specs.declared.Service.{Service}
 use Rattle.message.specs.declared.Message.{Message}
-use Rattle.message.proofs.Reading.{never-took, then_elim}
+use Rattle.message.proofs.Reading.{never-took, took_same, then_elim}
 use Rattle.message.proofs.RangeLaws.{RequestRanged, request-ranged}
 use Rattle.writer.proofs.Claims.{read-is-written}
 use Rattle.desk.specs.Letter.{letter_of}
@@ -73,7 +72,7 @@ no-request : {q : Request} → Meant.NotHere ≡ Meant.Request q → ⊥
 no-request e = let z : ◌≡◌ {A = ℕ} 0 1 = cc in omega arith
 
 request-fields :
-    (a b : List ℕ) (service : Service) (carrier : Carrier) (body : Body) (q : Request) → message_for body ≡ Meant.Request q →
+    (a b : List ℕ) (service : Option ℕ) (carrier : Carrier) (body : Body) (q : Request) → message_for body ≡ Meant.Request q →
     pick (has_elements body carrier) (elements_in_range a b service) (fields_in_range a b body) ≡ true → request_in_range a b q.service q.flags ≡ true
 request-fields a b s c (CcbsRequest flags service) q e h =
     subst (λ (x : Request). request_in_range a b x.service x.flags ≡ true) (same-request _ q e) h
@@ -93,7 +92,7 @@ request-fields a b s c CallFailed q e h = absurd (no-request e)
 -- a new record of a line is whole
 pub request-whole :
     (ws : List ℕ) (m : Message) → Typed m → in_range m ≡ true → (q : Request) → message_for (letter_of m).body ≡ Meant.Request q →
-    (busy : Bool) → (line_at (letter_of m).numberB (lines ws) ≡ Nothing → ⊥) → Whole (lines ws) (new_record ws (letter_names (letter_of m)) q busy)
+    (busy : Bool) → (line_at (letter_of m).numberB (lines ws) ≡ None → ⊥) → Whole (lines ws) (new_record ws (letter_names (letter_of m)) q busy)
 unfolding in_range letter_of
 request-whole ws m typed ranged q e busy line =
     let r : RequestRanged m.numberA m.numberB q.service q.flags =
@@ -127,7 +126,7 @@ identified-bytes type carrier identified s at b =
     then_elim BytesRead (identifier_at identified s at) _ not-read (λ identifier next ei.
     then_elim BytesRead (fields_at type carrier s next) _ not-read (λ f behind ef.
     λ m n e.
-    let q : message_with carrier identified identifier s next f ≡ m = cc in
+    let q = (took_same e).0 in
     rw (← q) (between-bytes s next f.behindA b, between-bytes s f.behindA f.behindB b)))
 
 head_bytes : (type : ℕ) (carrier : Carrier) (s : List ℕ) (at : ℕ) → Bytes s → BytesRead (behind_head type carrier s at)

@@ -1,4 +1,5 @@
 -- A fair input is decided well, so its step is about one record, or a report: every reached desk is sound, its records stand in the order of acceptance, and a step leaves every other record as it was.
+use Rattle.std.specs.Prelude.{Ok, Err, Result}
 use Prim.Native.Nat.{ℕ}
 use mathlib.Core.Path.{◌≡◌, refl, subst}
 use mathlib.Core.Bool.{Bool, true, false}
@@ -6,10 +7,12 @@ use mathlib.Core.List.{List}
 use native.Mathlib.Omega.{arith}
 use Rattle.lists.specs.Choice.{pick}
 use Rattle.lists.specs.Words.{Bytes}
-use Rattle.message.specs.Reading.{Read, took, refused}
+use Rattle.message.specs.Reading.{Read, took}
 use Rattle.message.specs.Format.{in_range}
 use Rattle.message.specs.Wire.{message_at}
 use Rattle.message.specs.declared.Message.{Message}
+use Rattle.message.specs.declared.refusal.Refusal.TheVariants.{OutOfRange}
+use Rattle.message.specs.declared.refusal.Refusal.{Refusal}
 use Rattle.desk.specs.Letter.{letter_of}
 use Rattle.places.specs.Places.{same}
 use Rattle.places.proofs.Counting.{stored-most}
@@ -24,8 +27,6 @@ use Rattle.line_plan.specs.Plan.{plan_for}
 use Rattle.line.specs.Entry.{message_entry, read_entry, bytes_entry}
 use Rattle.line.specs.Steps.{step, entered, received, received_bytes}
 use Rattle.line.specs.declared.Desk.{Desk}
-use Rattle.line.specs.declared.entry.Entry.{Entry}
-use Rattle.line.specs.declared.entry.Entry.TheVariants.{Refused, Given}
 use Rattle.line_sound.specs.Sound as S
 use Rattle.line_sound.specs.Sound.{line_view, Sound, Typed, Fair, hears, acts, guards, reports, looks, Reached, ReachedSound, ReachedMost, InOrder, OrderOfAcceptance, OthersHeld}
 use Rattle.line_sound.proofs.Starting.{start-sound}
@@ -36,7 +37,7 @@ use Rattle.line_sound.proofs.Ranges.{request-whole, read-typed}
 -- ---- a fair input is decided well
 good-entry :
     (ws : List ℕ) (m : Message) (place : ℕ) → Typed m → (b : Bool) → in_range m ≡ b → {input : Input} →
-    pick b (Given (Input.Message (letter_of m) place)) (Refused 2) ≡ Given input → Good ws input (decided ws input)
+    pick b (Ok (Input.Message (letter_of m) place)) (Err OutOfRange) ≡ Ok input → Good ws input (decided ws input)
 unfolding decided
 good-entry ws m place typed true ranged {input} e =
     let same : Input.Message (letter_of m) place ≡ input = cc in
@@ -62,21 +63,21 @@ unfolding step
 sound-step d sound count {input} fair = goes-sound d.words sound count (plan_for d.words input).outcome.starts (step-goes d sound fair)
 
 -- ---- what comes in at the entry: a fair input, or a refusal that leaves the desk
-abbrev pub FairEntry : Entry → Type 0
-FairEntry entry = (input : Input) → entry ≡ Given input → Fair input
+abbrev pub FairEntry : Result Input Refusal → Type 0
+FairEntry entry = (input : Input) → entry ≡ Ok input → Fair input
 
 read-fair : (r : Read Message) (place : ℕ) → ((m : Message) (n : ℕ) → r ≡ took m n → Typed m) → FairEntry (read_entry r place).entry
-read-fair (took m next) place typed = λ input e. hears m place (typed m next refl) e
-read-fair (refused number) place typed = λ input e. absurd (let z : ◌≡◌ {A = ℕ} 0 1 = cc in omega arith)
+read-fair (Ok (m, next)) place typed = λ input e. hears m place (typed m next refl) e
+read-fair (Err number) place typed = λ input e. absurd (let z : ◌≡◌ {A = ℕ} 0 1 = cc in omega arith)
 
 pub bytes-fair : (bytes : List ℕ) (place : ℕ) → Bytes bytes → FairEntry (bytes_entry bytes place).entry
 unfolding bytes_entry
 bytes-fair bytes place b = read-fair (message_at bytes) place (read-typed bytes b)
 
-sound-entered : (d : Desk) → Sound d.words → (count : ℕ) (entry : Entry) → FairEntry entry → Sound (entered d count entry).desk.words
+sound-entered : (d : Desk) → Sound d.words → (count : ℕ) (entry : Result Input Refusal) → FairEntry entry → Sound (entered d count entry).desk.words
 unfolding entered
-sound-entered d sound count (Refused number) fair = sound
-sound-entered d sound count (Given input) fair = sound-step d sound count (fair input refl)
+sound-entered d sound count (Err refusal) fair = sound
+sound-entered d sound count (Ok input) fair = sound-step d sound count (fair input refl)
 
 -- ---- every reached desk
 sound-reached : {d : Desk} → Reached d → Sound d.words
@@ -97,10 +98,10 @@ pub reached-goes :
 reached-goes d reached fair = step-goes d (reached-sound d reached) fair
 
 -- a desk that is reached, after what comes in at the entry
-pub reached-entered : (d : Desk) → Reached d → (count : ℕ) (entry : Entry) → FairEntry entry → Reached (entered d count entry).desk
+pub reached-entered : (d : Desk) → Reached d → (count : ℕ) (entry : Result Input Refusal) → FairEntry entry → Reached (entered d count entry).desk
 unfolding entered
-reached-entered d reached count (Refused number) fair = reached
-reached-entered d reached count (Given input) fair = S.steps count (fair input refl) reached
+reached-entered d reached count (Err refusal) fair = reached
+reached-entered d reached count (Ok input) fair = S.steps count (fair input refl) reached
 
 pub reached-received : (d : Desk) → Reached d → (count : ℕ) (m : Message) (place : ℕ) → Typed m → Reached (received d count m place).desk
 reached-received d reached count m place typed = reached-entered d reached count (message_entry m place) (λ input e. hears m place typed e)
@@ -111,10 +112,10 @@ unfolding step
 step-order d reached count {input} fair =
     goes_order d.words (reached-sound d reached) count (plan_for d.words input).outcome.starts (reached-goes d reached fair)
 
-entered-order : (d : Desk) → Reached d → (count : ℕ) (entry : Entry) → FairEntry entry → InOrder d (entered d count entry).desk
+entered-order : (d : Desk) → Reached d → (count : ℕ) (entry : Result Input Refusal) → FairEntry entry → InOrder d (entered d count entry).desk
 unfolding entered
-entered-order d reached count (Refused number) fair = same
-entered-order d reached count (Given input) fair = step-order d reached count (fair input refl)
+entered-order d reached count (Err refusal) fair = same
+entered-order d reached count (Ok input) fair = step-order d reached count (fair input refl)
 
 bytes-order : (d : Desk) → Reached d → (count : ℕ) (bytes : List ℕ) (place : ℕ) → Bytes bytes → InOrder d (received_bytes d count bytes place).desk
 unfolding received_bytes

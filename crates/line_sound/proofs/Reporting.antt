@@ -1,15 +1,16 @@
 -- What a line report changes: the decision of a report that is not refused, and what its change is for records and lines.
+use Rattle.std.specs.Prelude.{Option, Some, None}
 use Prim.Native.Nat.{ℕ}
-use mathlib.Core.Path.{◌≡◌, refl, ap, ◌∙◌}
+use mathlib.Core.Path.{◌≡◌, refl, ap, ◌∙◌, sym}
 use mathlib.Core.Bool.{Bool, true, false}
 use mathlib.Core.List.{List, [], ◌∷◌, map}
 use lib.ListN.{length, get_or, set}
 use native.Mathlib.Omega.{arith}
 use Rattle.lists.specs.Choice.{pick}
 use Rattle.lists.specs.Lists.{both}
-use Rattle.lists.specs.declared.Found.{Found}
-use Rattle.lists.specs.declared.Found.TheVariants.{At, Nothing}
 use Rattle.lists.specs.declared.words.Words.{Words}
+use Rattle.message.specs.declared.refusal.Refusal.TheVariants.{NoLine}
+use Rattle.std.proofs.lemmas.Option.{none-some}
 use Rattle.desk.specs.Outcome.{no_timers}
 use Rattle.line_table.specs.Line.{with_status}
 use Rattle.line_table.specs.Search.{marks}
@@ -42,23 +43,23 @@ marked-busy number false rs = map_same rs
 
 module _ (d : Desk) (count : ℕ) (number : Words) (busy : Bool) (full : length d.words ≡ Layout.words) where
   marks-found :
-      (f : Found) → (plan_of d.words (Input.Report number busy) (report_found busy f)).outcome.refusal ≡ 0 →
+      (f : Option ℕ) → (plan_of d.words (Input.Report number busy) (report_found busy f)).outcome.refusal ≡ None →
       records (made d count (plan_of d.words (Input.Report number busy) (report_found busy f))).desk.words ≡ marked number busy (records d.words)
   unfolding plan_of
-  marks-found Nothing zero = absurd (omega (arith, zero))
-  marks-found (At k) zero = records-made d.words (Report k number busy) full count Nothing no_timers ∙ marked-busy number busy (records d.words)
+  marks-found None taken = absurd (none-some NoLine (sym taken))
+  marks-found (Some k) taken = records-made d.words (Report k number busy) full count None no_timers ∙ marked-busy number busy (records d.words)
 
   report-marks :
-      (step d count (Input.Report number busy)).outcome.refusal ≡ 0 →
+      (step d count (Input.Report number busy)).outcome.refusal ≡ None →
       records (step d count (Input.Report number busy)).desk.words ≡ marked number busy (records d.words)
   unfolding step plan_for decided report_decision
   report-marks = marks-found (line_at number (lines d.words))
 
 report-status :
-    (d : Desk) (count : ℕ) (number : Words) (busy : Bool) (k : ℕ) → length d.words ≡ Layout.words → line_at number (lines d.words) ≡ At k →
+    (d : Desk) (count : ℕ) (number : Words) (busy : Bool) (k : ℕ) → length d.words ≡ Layout.words → line_at number (lines d.words) ≡ Some k →
     lines (step d count (Input.Report number busy)).desk.words ≡ set (lines d.words) k (with_status (get_or (lines d.words) k no_line) busy)
 unfolding step plan_for plan_of decided report_decision
-report-status d count number busy k full its = rw its (lines-made d.words (Report k number busy) full count Nothing no_timers)
+report-status d count number busy k full its = rw its (lines-made d.words (Report k number busy) full count None no_timers)
 
 pub reports : Reports
 reports = record { marks = report-marks; status = report-status }

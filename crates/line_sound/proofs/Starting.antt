@@ -1,4 +1,5 @@
 -- A started desk is sound: no place is used, and the number of each line was looked for before it was put.
+use Rattle.std.specs.Prelude.{Option, Some, None}
 use Prim.Native.Nat.{ℕ, zero, suc, ◌*◌, ◌/◌, ◌<◌}
 use mathlib.Core.Path.{◌≡◌, refl, sym, ap, ◌∙◌, subst}
 use mathlib.Core.Bool.{Bool, true, false}
@@ -8,8 +9,6 @@ use lib.Dec.{ltb, leb, eqb}
 use native.Mathlib.Omega.{arith}
 use borrow.Author.Tests.{ltb-true, ltb-false}
 use Rattle.lists.specs.Lists.{both}
-use Rattle.lists.specs.declared.Found.{Found}
-use Rattle.lists.specs.declared.Found.TheVariants.{At, Nothing}
 use Rattle.lists.specs.declared.words.Words.{Words}
 use Rattle.lists.proofs.Choice.{no_true, pick_elim}
 use Rattle.lists.proofs.Lists.{both_parts, first-none}
@@ -18,7 +17,6 @@ use Rattle.message.specs.Number.{digits_in_range}
 use Rattle.store.specs.Rows.{rows}
 use Rattle.desk.specs.Letter.{number_words}
 use Rattle.desk.specs.Sends.{no_number}
-use Rattle.desk.specs.declared.letter.Identifier.TheVariants.{Is}
 use Rattle.places.specs.Places.{View}
 use Rattle.places.proofs.Staying.{set_elim, start-placed}
 use Rattle.places.proofs.Counting.{stored-none}
@@ -32,8 +30,9 @@ use Rattle.line_records.specs.Records.{record_of, blank, records}
 use Rattle.line_records.specs.Lines.{line_of, no_line, lines, has_number, line_at, put_line, with_settings}
 use Rattle.line_records.proofs.LinesLaws.{lines-length, over_line-length, records-over_line, lines-put}
 use Rattle.line.specs.Start.{kinds_at, given_width, absent, line_given, good_line, line_taken, Lines, take_lines, started_by, started}
-use Rattle.line.specs.declared.steps.Stepped.{Stepped}
+use Rattle.desk.specs.declared.outcome.Stepped.{Stepped}
 use Rattle.line_sound.specs.Sound.{line_view, Sound}
+use Rattle.line.specs.declared.Desk.{Desk}
 
 -- ---- what a free place and a place without a line have
 pub blank-unused : used blank ≡ false
@@ -58,10 +57,10 @@ Apart ls = (k m : ℕ) → ((get_or ls k no_line).number ≡ no_number → ⊥) 
 
 -- a line, as a record of the places of lines
 abbrev place_of_line : View Line
-place_of_line = record { used = λ line. true; name = λ line. Is line.number; blank = no_line }
+place_of_line = record { used = λ line. true; name = λ line. Some line.number; blank = no_line }
 
 -- a number that is no line's, put at a place
-module _ (ls : List Line) (k : ℕ) (line : Line) (inside : k < length ls) (apart : Apart ls) (new : line_at line.number ls ≡ Nothing) where
+module _ (ls : List Line) (k : ℕ) (line : Line) (inside : k < length ls) (apart : Apart ls) (new : line_at line.number ls ≡ None) where
   nowhere : (j : ℕ) → (line.number ≡ no_number → ⊥) → line.number ≡ (get_or ls j no_line).number → ⊥
   unfolding line_at
   nowhere j n e = by (ltb j (length ls)) refl
@@ -150,7 +149,7 @@ settings-started keep retain =
     all-blank (with_settings (replicate Layout.words 0) keep retain) (settings-length keep retain) (settings-records keep retain) (settings-lines keep retain)
 
 -- ---- one line after the other
-put-started : (ws : List ℕ) (k : ℕ) (line : Line) → Started ws → line_at line.number (lines ws) ≡ Nothing → Started (put_line ws k line)
+put-started : (ws : List ℕ) (k : ℕ) (line : Line) → Started ws → line_at line.number (lines ws) ≡ None → Started (put_line ws k line)
 unfolding put_line
 put-started ws k line s new =
     pick_elim Started (ltb k Layout.line_places)
@@ -165,14 +164,14 @@ put-started ws k line s new =
     })
     (λ f. s)
 
-absent-nothing : (f : Found) → absent f ≡ true → f ≡ Nothing
-absent-nothing (At k) e = absurd (no_true e)
-absent-nothing Nothing e = refl
+absent-nothing : (f : Option ℕ) → absent f ≡ true → f ≡ None
+absent-nothing (Some k) e = absurd (no_true e)
+absent-nothing None e = refl
 
-good_new : (ws digits : List ℕ) (kinds : ℕ) → good_line ws digits kinds ≡ true → line_at (number_words digits) (lines ws) ≡ Nothing
+good_new : (ws digits : List ℕ) (kinds : ℕ) → good_line ws digits kinds ≡ true → line_at (number_words digits) (lines ws) ≡ None
 unfolding good_line
 good_new ws digits kinds e =
-    let there : Found = line_at (number_words digits) (lines ws) in
+    let there : Option ℕ = line_at (number_words digits) (lines ws) in
     let p = both_parts (digits_in_range 1 digits) (both (leb kinds 3) (absent there)) e in
     absent-nothing there (both_parts (leb kinds 3) (absent there) p.1).1
 
@@ -199,9 +198,9 @@ lines-made (suc left) k bytes ws s =
 started-made : (given : List ℕ) (keep retain : Bool) → Started (started given keep retain).desk.words
 unfolding started
 started-made given keep retain =
-    pick_elim (λ (step : Stepped). Started step.desk.words) (leb (length given / given_width) Layout.line_places)
+    pick_elim (λ (step : Stepped Desk). Started step.desk.words) (leb (length given / given_width) Layout.line_places)
     (λ h.
-    pick_elim (λ (step : Stepped). Started step.desk.words) (eqb (length given / given_width * given_width) (length given))
+    pick_elim (λ (step : Stepped Desk). Started step.desk.words) (eqb (length given / given_width * given_width) (length given))
     (λ g.
     lines-made (length given / given_width) 0 given (with_settings (replicate Layout.words 0) keep retain) (settings-started keep retain))
     (λ g. zeros-started))

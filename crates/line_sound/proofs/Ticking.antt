@@ -1,16 +1,16 @@
 -- A guard that is due belongs to a record in use, so its report is taken and the record removed: those before it stay, and those behind it move up to the place that is looked at next.
+use Rattle.desk.specs.declared.letter.Letter.{Letter}
+use Rattle.std.specs.Prelude.{Option, Some}
 use Prim.Native.Nat.{ℕ, zero, suc, ◌+◌, ◌≤◌, ◌<◌}
 use mathlib.Core.Path.{◌≡◌, refl, sym, ap, ap₂, ◌∙◌}
 use mathlib.Core.Bool.{true, false}
 use mathlib.Core.List.{List, ◌∷◌, map}
 use lib.ListN.{length, get_or}
 use native.Mathlib.Omega.{arith}
-use Rattle.lists.specs.declared.Found.TheVariants.{At}
 use Rattle.lists.proofs.Choice.{pick_elim}
 use Rattle.lists.proofs.Lists.{get_or-without-before}
 use Rattle.desk.specs.Outcome.{no_timers}
 use Rattle.desk.specs.Ticked.{Ticked}
-use Rattle.desk.specs.declared.outcome.Sending.{Sending}
 use Rattle.places.proofs.Staying.{moved_up}
 use Rattle.places.proofs.Passing.{Alike, alike-here, alike_next, alike-gone, to-here, everywhere}
 use Rattle.line_table.specs.Step.{row_taken}
@@ -28,15 +28,16 @@ use Rattle.line_records.proofs.ChangeLaws.{applied-length}
 use Rattle.line.proofs.StepsLaws.{made-length, records-made, lines-made}
 use Rattle.line.proofs.TickLaws.{due-plan, due-step}
 use Rattle.line_records.proofs.GuardsLaws.{guards-applied, guards-timed}
-use Rattle.line_table.specs.declared.record.Plan.{Plan}
+use Rattle.desk.specs.declared.plan.Plan.{Plan}
 use Rattle.line_plan.specs.Plan.{plan_for}
 use Rattle.line.specs.Steps.{step}
 use Rattle.line.specs.Ticks.{report, ticking, ticked, sendings_from, sendings}
 use Rattle.line.specs.declared.Desk.{Desk}
-use Rattle.line.specs.declared.steps.Stepped.{Stepped}
+use Rattle.desk.specs.declared.outcome.Stepped.{Stepped}
 use Rattle.line_sound.specs.Sound as S
 use Rattle.line_sound.specs.Sound.{Reached}
 use Rattle.line_sound.specs.Ticking.{Expires, DueExpires, due_from, TickExpires, TickSends, NoneDue, TickReached}
+use Rattle.line_table.specs.declared.record.Change.{Change}
 
 -- ---- the report of a guard that is due
 pub due-expires : DueExpires
@@ -44,13 +45,13 @@ unfolding row_taken
 due-expires d count i full t =
     let same = due-step d count i t in
     record {
-      taken = ap (λ (s : Stepped). s.outcome.refusal) same;
-      gone = ap (λ (s : Stepped). records s.desk.words) same ∙ records-made d.words (Remove i) full count (At i) no_timers;
+      taken = ap (λ (s : Stepped Desk). s.outcome.refusal) same;
+      gone = ap (λ (s : Stepped Desk). records s.desk.words) same ∙ records-made d.words (Remove i) full count (Some i) no_timers;
       deadlines =
-          ap (λ (s : Stepped). guards s.desk.words) same
-          ∙ guards-timed (applied d.words (Remove i)) (applied-length d.words (Remove i) full) count (At i) no_timers
+          ap (λ (s : Stepped Desk). guards s.desk.words) same
+          ∙ guards-timed (applied d.words (Remove i)) (applied-length d.words (Remove i) full) count (Some i) no_timers
           ∙ guards-applied d.words (Remove i) full;
-      others = ap (λ (s : Stepped). lines s.desk.words) same ∙ lines-made d.words (Remove i) full count (At i) no_timers;
+      others = ap (λ (s : Stepped Desk). lines s.desk.words) same ∙ lines-made d.words (Remove i) full count (Some i) no_timers;
     }
 
 step-full : (d : Desk) (count i : ℕ) → length d.words ≡ Layout.words → length (step d count (report i)).desk.words ≡ Layout.words
@@ -111,14 +112,14 @@ unfolding ticked
 tick-expires d count full = expires-from count d.words Layout.places 0 0 d full (λ k. refl)
 
 -- ---- what the report of a guard that is due sends: what its row sends of the record, whatever its place
-abbrev row_sends : Record → Sending
+abbrev row_sends : Record → Option Letter
 row_sends r = (row_taken 0 r GuardRunsOut).outcome.sending
 
 due-sends :
     (d : Desk) (count i : ℕ) → expiring_at count d.words i ≡ true →
     (step d count (report i)).outcome.sending ≡ row_sends (get_or (records d.words) i blank)
 unfolding row_taken
-due-sends d count i t = ap (λ (s : Stepped). s.outcome.sending) (due-step d count i t)
+due-sends d count i t = ap (λ (s : Stepped Desk). s.outcome.sending) (due-step d count i t)
 
 abbrev record_at : Desk → ℕ → Record
 record_at d i = get_or (records d.words) i blank
@@ -143,7 +144,7 @@ module _ (count : ℕ) (before : Desk) where
       ∙ ap row_sends (alike-here (record_at d) (record_at before) at i alike)
       ∙ sym (due-sends before count i (here ∙ t)) in
       rw (here ∙ t)
-      (ap₂ (λ (x : Sending) (xs : List Sending). x ∷ xs) sent
+      (ap₂ (λ (x : Option Letter) (xs : List (Option Letter)). x ∷ xs) sent
       (sends-from n (suc i) at next (step-full d count at full)
       (alike-gone now (expiring_at count next.words) was at i (due-behind d count at gone) same)
       (alike-gone (record_at d) (record_at next) (record_at before) at i (record-behind d count at gone) alike))))
@@ -196,4 +197,4 @@ tick-reached d reached count = ticking-reached count Layout.places 0 0 d reached
 -- ---- the report of a guard that is due plans that its record goes
 pub due-removes : (count : ℕ) (words : List ℕ) (i : ℕ) → expiring_at count words i ≡ true → (plan_for words (report i)).change ≡ Remove i
 unfolding row_taken
-due-removes count words i t = ap (λ (p : Plan). p.change) (due-plan count words i t)
+due-removes count words i t = ap (λ (p : Plan Change). p.change) (due-plan count words i t)

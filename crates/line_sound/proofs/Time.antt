@@ -1,4 +1,5 @@
 -- Beside every used record stands its guard's start, and its deadline is that of the start: so the clock's laws over true time are the desk's.
+use Rattle.std.specs.Prelude.{Ok, Err, Result}
 use Prim.Native.Nat.{ℕ, ◌+◌, ◌%◌, ◌≤◌, ◌<◌}
 use mathlib.Core.Path.{◌≡◌, refl, sym, ap, ◌∙◌, subst}
 use mathlib.Core.Bool.{Bool, true, false, false≢true}
@@ -15,6 +16,7 @@ use Rattle.clock.specs.Clock.{turn, half_turn, deadline_of, due}
 use Rattle.store.proofs.Decoded.{decoded_length}
 use Rattle.message.specs.declared.Kind.{Kind}
 use Rattle.message.specs.declared.Kind.TheVariants.{Ccbs, Ccnr}
+use Rattle.message.specs.declared.refusal.Refusal.{Refusal}
 use Rattle.places.specs.Notes.{Note, unstarted, started, day}
 use Rattle.places.proofs.Noting.{Noted, noted-start, noted-later, noted-early, noted-due, noted-looked}
 use Rattle.places.proofs.Staying.{at_map, place_inside, moved_up}
@@ -24,15 +26,15 @@ use Rattle.line_table.specs.Record.{turned}
 use Rattle.line_table.specs.Step.{row_taken, changed}
 use Rattle.line_table.specs.Table.{effect_of}
 use Rattle.line_table.specs.declared.inputs.Input.{Input}
-use Rattle.line_table.specs.declared.table.Next.{Next}
-use Rattle.line_table.specs.declared.table.Next.TheVariants.{Gone, Same, To}
+use Rattle.desk.specs.declared.plan.Next.{Next}
+use Rattle.desk.specs.declared.plan.Next.TheVariants.{Gone, Same, To}
 use Rattle.line_table.specs.declared.table.Effect.{Effect}
 use Rattle.line_table.specs.declared.record.Record.{Record}
 use Rattle.line_table.specs.declared.record.Turned.{Turned}
 use Rattle.line_table.specs.declared.record.Change.{Change}
 use Rattle.line_table.specs.declared.record.Decision.{Decision}
 use Rattle.line_table.specs.declared.record.Decision.TheVariants as Decide
-use Rattle.line_table.specs.declared.record.Plan.{Plan}
+use Rattle.desk.specs.declared.plan.Plan.{Plan}
 use Rattle.line_table.specs.declared.record.Change.TheVariants.{Stay, Put, Turn, Remove, Report}
 use Rattle.line_records.specs.Layout as Layout
 use Rattle.line_records.specs.Records.{blank, records, place}
@@ -48,8 +50,6 @@ use Rattle.line_plan.specs.Plan.{new_record, plan_of, plan_for}
 use Rattle.line.specs.Entry.{bytes_entry}
 use Rattle.line.specs.Steps.{step, entered, received_bytes}
 use Rattle.line.specs.declared.Desk.{Desk}
-use Rattle.line.specs.declared.entry.Entry.{Entry}
-use Rattle.line.specs.declared.entry.Entry.TheVariants.{Refused, Given}
 use Rattle.line_sound.specs.Sound as S
 use Rattle.line_sound.specs.Sound.{line_view, Fair, Reached}
 use Rattle.line_sound.proofs.Changes.{marking-used, marking-blank}
@@ -57,6 +57,7 @@ use Rattle.line_sound.proofs.Decisions.{Good, refuses, denies, takes, stores, re
 use Rattle.line_sound.proofs.Reaching.{good-input, FairEntry, bytes-fair, reached-sound}
 use Rattle.line_sound.proofs.Starting.{start-free, blank-unused}
 use Rattle.line_sound.specs.Time.{notes_after, notes_entered, Lasting, begins, passes, steps, reads, ticks, NothingEarly, DueInTick}
+use Rattle.line_table.specs.declared.table.State.{State}
 
 -- ---- every used record has its note, and the deadline beside it
 record Kept (rs : List Record) (gs : List ℕ) (ns : List Note) (now last : ℕ) : Type 0 where
@@ -142,14 +143,14 @@ module _ {rs : List Record} {gs : List ℕ} {ns : List Note} {now last : ℕ} (o
 
 -- ---- the plan of a decision that is good for a desk
 module _ (ws : List ℕ) (full : length ws ≡ Layout.words) {ns : List Note} {now last : ℕ} (order : last ≤ now) (kept : Kept (records ws) (guards ws) ns now last) where
-  abbrev Made : Plan → Type 0
+  abbrev Made : Plan Change → Type 0
   Made plan =
       let words = timed (now % turn) plan.outcome.at plan.outcome.starts (applied ws plan.change) in
       Kept (records words) (guards words) (notes_after plan.change now ns) now last
 
   -- by what the three lists are afterwards
   made :
-      (plan : Plan) →
+      (plan : Plan Change) →
       guards_started (now % turn) plan.outcome.at plan.outcome.starts (records_after (records ws) plan.change) (guards_after (guards ws) plan.change)
       ≡ guards_changed now (guards ws) plan.change →
       Kept (records_after (records ws) plan.change) (guards_changed now (guards ws) plan.change) (notes_after plan.change now ns) now last → Made plan
@@ -166,7 +167,7 @@ module _ (ws : List ℕ) (full : length ws ≡ Layout.words) {ns : List Note} {n
       subst (λ (rs : List Record). Kept rs (guards (timed (now % turn) a s (applied ws c))) (notes_after c now ns) now last) (sym r)
       (subst (λ (gs : List ℕ). Kept (records_after (records ws) c) gs (notes_after c now ns) now last) (sym g) after)
 
-  row_kept : (next : Next) (effect : Effect) (i : ℕ) → used (get_or (records ws) i blank) ≡ true →
+  row_kept : (next : Next State) (effect : Effect) (i : ℕ) → used (get_or (records ws) i blank) ≡ true →
       let c = changed next effect i (get_or (records ws) i blank) in
       (guards_after (guards ws) c ≡ guards_changed now (guards ws) c) × Kept (records_after (records ws) c) (guards_changed now (guards ws) c) (notes_after c now ns) now last
   row_kept Gone effect i u = (refl, remove-kept order kept i)
@@ -175,7 +176,7 @@ module _ (ws : List ℕ) (full : length ws ≡ Layout.words) {ns : List Note} {n
 
   plan-kept : {input : Input} {decision : Decision} → Good ws input decision → Made (plan_of ws input decision)
   unfolding plan_of row_taken place
-  plan-kept {input} (refuses {number = number} {reply}) = made (plan_of ws input (Decide.Refuse number reply)) refl kept
+  plan-kept {input} (refuses {refusal = refusal} {reply}) = made (plan_of ws input (Decide.Refuse refusal reply)) refl kept
   plan-kept {input} (denies {error = error}) = made (plan_of ws input (Decide.Deny error)) refl kept
   plan-kept (takes i row u h) = let k = row_kept (effect_of row).next (effect_of row) i u in made (row_taken i (get_or (records ws) i blank) row) k.0 k.1
   plan-kept {input} (stores i q busy free new few whole) =
@@ -228,11 +229,11 @@ step_sure d {now = now} s fair =
     }
 
 entered_sure :
-    (d : Desk) {ns : List Note} {now last : ℕ} → Sure d ns now last → (entry : Entry) → FairEntry entry →
+    (d : Desk) {ns : List Note} {now last : ℕ} → Sure d ns now last → (entry : Result Input Refusal) → FairEntry entry →
     Sure (entered d (now % turn) entry).desk (notes_entered d entry now ns) now last
 unfolding entered
-entered_sure d s (Refused number) fair = s
-entered_sure d s (Given input) fair = step_sure d s (fair input refl)
+entered_sure d s (Err refusal) fair = s
+entered_sure d s (Ok input) fair = step_sure d s (fair input refl)
 
 lasting : {d : Desk} {ns : List Note} {now last : ℕ} → Lasting d ns now last → Sure d ns now last
 unfolding received_bytes

@@ -1,13 +1,12 @@
 -- The sentences of document 01 on the line desk as a whole: a refusal leaves it as it was, what every reached desk is, and which record a Look offers. Each claim is a type; its proof has its name.
-use Rattle.std.specs.Prelude.{ℕ, ◌≤◌, ◌<◌, ◌≡◌, Bool, true, false, List, map, length, get_or, set, replicate}
+use Rattle.std.specs.Prelude.{ℕ, ◌≤◌, ◌<◌, ◌≡◌, Bool, true, false, List, map, length, get_or, set, replicate, Option, Some, None, Ok, Result}
 use Rattle.lists.specs.Choice.{pick}
 use Rattle.lists.specs.Lists.{both, count}
 use Rattle.lists.specs.Words.{Bytes, bytes_of}
-use Rattle.lists.specs.declared.Found.{Found}
-use Rattle.lists.specs.declared.Found.TheVariants.{At, Nothing}
 use Rattle.lists.specs.declared.words.Words.{Words}
 use Rattle.message.specs.Number.{digits_in_range}
 use Rattle.message.specs.declared.Message.{Message}
+use Rattle.message.specs.declared.refusal.Refusal.{Refusal}
 use Rattle.desk.specs.Sends.{no_number}
 use Rattle.desk.specs.Outcome.{refused_with}
 use Rattle.desk.specs.declared.outcome.Outcome.{Outcome}
@@ -40,8 +39,6 @@ use Rattle.line.specs.Entry.{message_entry}
 use Rattle.line.specs.Start.{started}
 use Rattle.line.specs.Steps.{step, entered, received_bytes}
 use Rattle.line.specs.declared.Desk.{Desk}
-use Rattle.line.specs.declared.entry.Entry.{Entry}
-use Rattle.line.specs.declared.entry.Entry.TheVariants.{Given}
 
 -- how a record of the line desk is looked at
 abbrev pub line_view : View Record
@@ -53,16 +50,16 @@ record_at d i = get_or (records d.words) i blank
 
 -- ---- a refusal leaves everything as it was: lines, status, settings, every place; and tells its number and perhaps a reply: no timer, no place
 abbrev pub Same : Desk → Desk → Outcome → Type 0
-Same before after outcome = (outcome.refusal ≡ 0 → ⊥) → (after ≡ before) × (outcome ≡ refused_with outcome.refusal outcome.sending)
+Same before after outcome = (refusal : Refusal) → outcome.refusal ≡ Some refusal → (after ≡ before) × (outcome ≡ refused_with refusal outcome.sending)
 
 pub record RefusedSame : Type 0 where
-  pub steps : (d : Desk) (count : ℕ) (entry : Entry) → Same d (entered d count entry).desk (entered d count entry).outcome
+  pub steps : (d : Desk) (count : ℕ) (entry : Result Input Refusal) → Same d (entered d count entry).desk (entered d count entry).outcome
   pub bytes :
       (d : Desk) (count : ℕ) (bytes : List ℕ) (place : ℕ) →
       Same d (received_bytes d count bytes place).desk (received_bytes d count bytes place).outcome
   -- no desk is made: the answer has one without lines
   pub starts :
-      (given : List ℕ) (keep retain : Bool) → ((started given keep retain).outcome.refusal ≡ 0 → ⊥) →
+      (given : List ℕ) (keep retain : Bool) → ((started given keep retain).outcome.refusal ≡ None → ⊥) →
       (started given keep retain).desk.words ≡ replicate Layout.words 0
 
 -- ---- a sound desk
@@ -78,7 +75,7 @@ pub record Agreed (t : Terms) : Type 0 where
 -- a used record: its line is there, it is suspended only in Await, and only a retained connection is marked down
 pub record Whole (ls : List Line) (r : Record) : Type 0 where
   pub agreed : Agreed r.terms
-  pub line : line_at r.terms.numberB ls ≡ Nothing → ⊥
+  pub line : line_at r.terms.numberB ls ≡ None → ⊥
   pub suspension : r.suspended ≡ true → r.state ≡ Await
   pub fell : r.down ≡ true → r.terms.connection ≡ Connection.Ret
 
@@ -103,7 +100,7 @@ pub record Typed (m : Message) : Type 0 where
 
 -- an input that the entry makes of values of the code's types: a message in range, with any place; any name, and any number
 pub data Fair : Input → Type 0 where
-  hears : {input : Input} (m : Message) (place : ℕ) → Typed m → message_entry m place ≡ Given input → Fair input
+  hears : {input : Input} (m : Message) (place : ℕ) → Typed m → message_entry m place ≡ Ok input → Fair input
   acts : (name : Name) (act : Act) → Fair (Input.Act name act)
   guards : (name : Name) → Fair (Input.Guard name)
   reports : (number : Words) (busy : Bool) → Fair (Input.Report number busy)
@@ -156,12 +153,12 @@ pub record Admitted : Type 0 where
       counted_decision d.words asked q busy ≡ Deny 1
 
 -- ---- which record a Look offers, on every desk: the oldest of the line that fits
-pub record Offered (d : Desk) (number : Words) (after : Desk) (told : Found) : Type 0 where
+pub record Offered (d : Desk) (number : Words) (after : Desk) (told : Option ℕ) : Type 0 where
   pub place : ℕ
   -- the outcome tells its place
-  pub at : told ≡ At place
+  pub at : told ≡ Some place
   pub line : ℕ
-  pub its : line_at number (lines d.words) ≡ At line
+  pub its : line_at number (lines d.words) ≡ Some line
   pub free : can_take (get_or (lines d.words) line no_line) ≡ true
   pub unblocked : (j : ℕ) → blocks number (record_at d j) ≡ false
   pub fitting : fits number (record_at d place) ≡ true
@@ -172,13 +169,13 @@ pub record Offered (d : Desk) (number : Words) (after : Desk) (told : Found) : T
 
 pub record OldestOffered : Type 0 where
   pub offers :
-      (d : Desk) (count : ℕ) (number : Words) → length d.words ≡ Layout.words → (step d count (Input.Look number)).outcome.refusal ≡ 0 →
+      (d : Desk) (count : ℕ) (number : Words) → length d.words ≡ Layout.words → (step d count (Input.Look number)).outcome.refusal ≡ None →
       Offered d number (step d count (Input.Look number)).desk (step d count (Input.Look number)).outcome.at
   -- 11 only if the line is busy, a record of the line blocks it, or none fits
   pub nothing :
-      (d : Desk) (count : ℕ) (number : Words) (k : ℕ) → line_at number (lines d.words) ≡ At k → can_take (get_or (lines d.words) k no_line) ≡ true →
+      (d : Desk) (count : ℕ) (number : Words) (k : ℕ) → line_at number (lines d.words) ≡ Some k → can_take (get_or (lines d.words) k no_line) ≡ true →
       ((j : ℕ) → blocks number (record_at d j) ≡ false) → (i : ℕ) → fits number (record_at d i) ≡ true →
-      (step d count (Input.Look number)).outcome.refusal ≡ 0
+      (step d count (Input.Look number)).outcome.refusal ≡ None
 
 -- ---- what busy again with keep leaves (document 02, Ask 5): a record that fits a Look from now on, whatever its activity mark
 pub data Kept (place : ℕ) (r : Record) : Change → Type 0 where
@@ -190,9 +187,9 @@ KeptFits = (place : ℕ) (r : Record) → Kept place r (row_taken place r BusyAg
 -- ---- what a line report changes: the line's status, and marks of activity, set and never cleared
 pub record Reports : Type 0 where
   pub marks :
-      (d : Desk) (count : ℕ) (number : Words) (busy : Bool) → length d.words ≡ Layout.words → (step d count (Input.Report number busy)).outcome.refusal ≡ 0 →
+      (d : Desk) (count : ℕ) (number : Words) (busy : Bool) → length d.words ≡ Layout.words → (step d count (Input.Report number busy)).outcome.refusal ≡ None →
       records (step d count (Input.Report number busy)).desk.words
       ≡ map (λ r. pick (both busy (marks number r)) (activated r) r) (records d.words)
   pub status :
-      (d : Desk) (count : ℕ) (number : Words) (busy : Bool) (k : ℕ) → length d.words ≡ Layout.words → line_at number (lines d.words) ≡ At k →
+      (d : Desk) (count : ℕ) (number : Words) (busy : Bool) (k : ℕ) → length d.words ≡ Layout.words → line_at number (lines d.words) ≡ Some k →
       lines (step d count (Input.Report number busy)).desk.words ≡ set (lines d.words) k (with_status (get_or (lines d.words) k no_line) busy)

@@ -1,5 +1,5 @@
 -- The sentences of document 02, Ask 6, on one tick of the line desk: which records expire and in what order, and what is left. Each claim is a type; its proof has its name.
-use Rattle.std.specs.Prelude.{ℕ, zero, suc, ◌≡◌, true, false, List, [], ◌∷◌, map, length}
+use Rattle.std.specs.Prelude.{ℕ, zero, suc, ◌≡◌, true, false, List, [], ◌∷◌, map, length, None}
 use Rattle.lists.specs.Choice.{pick}
 use Rattle.lists.specs.Lists.{without}
 use Rattle.line_records.specs.Layout as Layout
@@ -13,7 +13,7 @@ use Rattle.line_sound.specs.Sound.{Reached}
 
 -- ---- a record whose guard is due: its report is taken, and the record goes, its deadline with it
 pub record Expires (d : Desk) (count place : ℕ) : Type 0 where
-  pub taken : (step d count (report place)).outcome.refusal ≡ 0
+  pub taken : (step d count (report place)).outcome.refusal ≡ None
   pub gone : records (step d count (report place)).desk.words ≡ without blank (records d.words) place
   pub deadlines : guards (step d count (report place)).desk.words ≡ without 0 (guards d.words) place
   pub others : lines (step d count (report place)).desk.words ≡ lines d.words

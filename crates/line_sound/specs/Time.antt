@@ -1,8 +1,9 @@
 -- The promise of time at the line desk (document 02, Ask 6): over true time in seconds that never goes back, where the count is that time modulo 2^32 and a tick is made at least once a day. Each claim is a type; its proof has its name.
-use Rattle.std.specs.Prelude.{ℕ, zero, suc, ◌+◌, ◌%◌, ◌≤◌, ◌<◌, ◌≡◌, Bool, true, false, List, get_or, set, replicate, eqb}
+use Rattle.std.specs.Prelude.{ℕ, zero, suc, ◌+◌, ◌%◌, ◌≤◌, ◌<◌, ◌≡◌, Bool, true, false, List, get_or, set, replicate, eqb, Ok, Err, Result}
 use Rattle.lists.specs.Choice.{pick}
 use Rattle.lists.specs.Lists.{count, without}
 use Rattle.lists.specs.Words.{Bytes}
+use Rattle.message.specs.declared.refusal.Refusal.{Refusal}
 use Rattle.clock.specs.Clock.{turn}
 use Rattle.places.specs.Notes.{Note, unstarted, started, Passed, day}
 use Rattle.line_table.specs.Search.{used}
@@ -18,8 +19,6 @@ use Rattle.line.specs.Entry.{bytes_entry}
 use Rattle.line.specs.Steps.{step, received_bytes}
 use Rattle.line.specs.Ticks.{report, ticked}
 use Rattle.line.specs.declared.Desk.{Desk}
-use Rattle.line.specs.declared.entry.Entry.{Entry}
-use Rattle.line.specs.declared.entry.Entry.TheVariants.{Refused, Given}
 use Rattle.line_sound.specs.Sound.{Fair}
 use Rattle.line_sound.specs.Ticking.{places_of}
 
@@ -33,9 +32,9 @@ notes_after (Remove i) now ns = without unstarted ns i
 notes_after (Report k number busy) now ns = ns
 
 -- bytes that are read are the step of an input, or refused
-abbrev pub notes_entered : Desk → Entry → ℕ → List Note → List Note
-notes_entered d (Refused number) now ns = ns
-notes_entered d (Given input) now ns = notes_after (plan_for d.words input).change now ns
+abbrev pub notes_entered : Desk → Result Input Refusal → ℕ → List Note → List Note
+notes_entered d (Err refusal) now ns = ns
+notes_entered d (Ok input) now ns = notes_after (plan_for d.words input).change now ns
 
 -- ---- a desk in true time: the notes beside it, the time now and that of the last tick
 pub data Lasting : Desk → List Note → ℕ → ℕ → Type 0 where

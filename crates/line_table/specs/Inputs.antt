@@ -1,5 +1,5 @@
 -- The inputs of the line desk, and what each means: whom it names; the row of each message and act; the replies that go with a refusal; the choices that a request brings.
-use Rattle.std.specs.Prelude.{ℕ, ◌/◌, Bool, eqb}
+use Rattle.std.specs.Prelude.{ℕ, ◌/◌, Bool, eqb, Option, Some, None}
 use Rattle.lists.specs.Choice.{pick}
 use Rattle.message.specs.declared.Kind.TheVariants.{Ccbs, Ccnr}
 use Rattle.message.specs.declared.Body.{Body}
@@ -8,7 +8,6 @@ use Rattle.desk.specs.declared.Connection.{Connection}
 use Rattle.desk.specs.declared.Connection.TheVariants.{Ret, Rls}
 use Rattle.desk.specs.declared.Keep.{Keep}
 use Rattle.desk.specs.declared.Keep.TheVariants.{Empty, Ends, Keeps}
-use Rattle.desk.specs.declared.sends.Sends.{Sends}
 use Rattle.terms.specs.Request.{letter_names, only_identifier, only_line, can_keep_sent}
 use Rattle.terms.specs.declared.request.Names.{Names}
 use Rattle.line_table.specs.declared.table.Row.{Row}
@@ -66,11 +65,11 @@ row_of_act Act.Cancel = LineCancels
 row_of_act Act.Fell = Falls
 
 -- ---- replies on 6 or 7: ringout error failureToMatch to a ccRingout, ccCancel to a ccResume (8.2.2.2)
-abbrev pub reply_missed : RecordMessage → Sends
-reply_missed Suspend = Sends.Nothing
-reply_missed Resume = Sends.One CcCancel
-reply_missed Ringout = Sends.One (RingoutError 2)
-reply_missed Cancel = Sends.Nothing
+abbrev pub reply_missed : RecordMessage → Option Body
+reply_missed Suspend = None
+reply_missed Resume = Some CcCancel
+reply_missed Ringout = Some (RingoutError 2)
+reply_missed Cancel = None
 
 -- ---- the choices that a request brings; flags are can-keep plus 2 × preference
 -- keep exactly if can-keep and the desk keeps (8.2.1.3)

@@ -1,13 +1,15 @@
 -- A record of the line desk in flight, in another state, turned, and marked active or not; and a step that is refused: it changes nothing.
-use Rattle.std.specs.Prelude.{ℕ, Bool, true}
+use Rattle.desk.specs.declared.letter.Letter.{Letter}
+use Rattle.std.specs.Prelude.{Bool, true, Option}
+use Rattle.message.specs.declared.refusal.Refusal.{Refusal}
 use Rattle.desk.specs.Outcome.{refused_with}
-use Rattle.desk.specs.declared.outcome.Sending.{Sending}
 use Rattle.terms.specs.Terms.{with_kind}
 use Rattle.line_table.specs.declared.table.State.{State}
 use Rattle.line_table.specs.declared.record.Record.{Record}
 use Rattle.line_table.specs.declared.record.Turned.{Turned}
 use Rattle.line_table.specs.declared.record.Change.TheVariants.{Stay}
-use Rattle.line_table.specs.declared.record.Plan.{Plan}
+use Rattle.desk.specs.declared.plan.Plan.{Plan}
+use Rattle.line_table.specs.declared.record.Change.{Change}
 
 abbrev pub with_state : Record → State → Record
 with_state r state = record { terms = r.terms; state = state; active = r.active; suspended = r.suspended; down = r.down }
@@ -25,5 +27,5 @@ activity r = record { kind = r.terms.kind; state = r.state; active = true; suspe
 abbrev pub activated : Record → Record
 activated r = with_activity r true
 
-abbrev pub refused_plan : ℕ → Sending → Plan
-refused_plan number reply = record { change = Stay; outcome = refused_with number reply }
+abbrev pub refused_plan : Refusal → Option Letter → Plan Change
+refused_plan refusal reply = record { change = Stay; outcome = refused_with refusal reply }

@@ -1,21 +1,19 @@
 -- The line's table: document 01, "Steps at the line desk", as mended (M5). Over each row stands when it is taken, with the clause of H.450.9, and behind the dot document 01's words for what it does.
-use Rattle.std.specs.Prelude.{Bool, true, false}
+use Rattle.std.specs.Prelude.{Bool, true, false, Option, Some, None}
 use Rattle.message.specs.declared.Kind.{Kind}
 use Rattle.message.specs.declared.Kind.TheVariants.{Ccbs}
 use Rattle.message.specs.declared.Body.{Body}
 use Rattle.message.specs.declared.Body.TheVariants.{CcExecPossible, RingoutError, CallAlerts, CallFailed, CcCancel}
 use Rattle.desk.specs.Carriers.{by_connection}
 use Rattle.desk.specs.declared.Connection.{Connection}
-use Rattle.desk.specs.declared.sends.Sends.{Sends}
-use Rattle.terms.specs.declared.Becomes.{Becomes}
 use Rattle.line_table.specs.declared.table.State.{State}
 use Rattle.line_table.specs.declared.table.State.TheVariants.{Free, Invoked, Await, Alert}
 use Rattle.line_table.specs.declared.table.Row.{Row}
 use Rattle.line_table.specs.declared.table.Row.TheVariants.{Offers, Suspends, Resumes, RingsOut, BusyAgainKept, BusyAgainEnded, Alerts, CallFails, ClerkCancels, LineCancels, Falls, GuardRunsOut}
 use Rattle.line_table.specs.declared.table.Home.{Home}
 use Rattle.line_table.specs.declared.table.Home.TheVariants.{InInvoked, InAwait, InAlert, WhereRetained, Always}
-use Rattle.line_table.specs.declared.table.Next.{Next}
-use Rattle.line_table.specs.declared.table.Next.TheVariants.{Gone, Same, To}
+use Rattle.desk.specs.declared.plan.Next.{Next}
+use Rattle.desk.specs.declared.plan.Next.TheVariants.{Gone, Same, To}
 use Rattle.line_table.specs.declared.table.Mark.{Mark}
 use Rattle.line_table.specs.declared.table.Effect.{Effect}
 use Rattle.line_table.specs.declared.table.Rule.{Rule}
@@ -31,13 +29,13 @@ pub data Cell : Column → Type 0 where
   sets : Cell marking
   clears : Cell marking
 
-abbrev kept : Cell changing → Becomes
-kept nothing = Becomes.Nothing
-kept (becomes kind) = Becomes.One kind
+abbrev kept : Cell changing → Option Kind
+kept nothing = None
+kept (becomes kind) = Some kind
 
-abbrev sent : Cell sending → Sends
-sent nothing = Sends.Nothing
-sent (sends body) = Sends.One body
+abbrev sent : Cell sending → Option Body
+sent nothing = None
+sent (sends body) = Some body
 
 abbrev marked : Cell marking → Mark
 marked nothing = Mark.Nothing
@@ -45,11 +43,11 @@ marked sets = Mark.Sets
 marked clears = Mark.Clears
 
 -- a row of the table: where it is taken, and what it does
-abbrev pub rule : Home → Next → Becomes → Sends → Mark → Mark → Mark → Rule
+abbrev pub rule : Home → Next State → Option Kind → Option Body → Mark → Mark → Mark → Rule
 rule home next kind message activity suspension fall =
     record { home = home; effect = record { next = next; kind = kind; sends = message; active = activity; suspended = suspension; down = fall } }
 
-abbrev row : Home → Next → Cell changing → Cell sending → Cell marking → Cell marking → Cell marking → Rule
+abbrev row : Home → Next State → Cell changing → Cell sending → Cell marking → Cell marking → Cell marking → Rule
 row home next kind message activity suspension fall = rule home next (kept kind) (sent message) (marked activity) (marked suspension) (marked fall)
 
 -- ---- the table

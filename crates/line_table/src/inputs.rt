@@ -5,7 +5,6 @@ ghost use Rattle.line_table.specs.Inputs.{names_of, message_for, ringout_row, ro
 
 use crate::table::Row;
 use desk::letter::Letter;
-use desk::sends::Sends;
 use desk::{Connection, Keep};
 use lists::words::Words;
 use message::{Body, Kind};
@@ -56,16 +55,8 @@ pub fn names_of(input: Input) -> Names
 {
     match input {
         Input::Message(l, _) => letter_names(l),
-        Input::Act(name, _) => {
-            let identifier = name.identifier;
-            only_identifier(identifier)
-        }
-        Input::Guard(name) => {
-            let identifier = name.identifier;
-            only_identifier(identifier)
-        }
-        Input::Report(number, _) => only_line(number),
-        Input::Look(number) => only_line(number),
+        Input::Act(name, _) | Input::Guard(name) => only_identifier(name.identifier),
+        Input::Report(number, _) | Input::Look(number) => only_line(number),
     }
 }
 
@@ -84,11 +75,11 @@ pub fn message_for(body: Body) -> Meant
             service,
             flags,
         }),
-        Body::RequestResult { keep: _ } => Meant::NotHere,
-        Body::RequestError { error: _ } => Meant::NotHere,
+        Body::RequestResult { .. } => Meant::NotHere,
+        Body::RequestError { .. } => Meant::NotHere,
         Body::CcExecPossible => Meant::NotHere,
         Body::CcRingout => Meant::Record(RecordMessage::Ringout),
-        Body::RingoutError { error: _ } => Meant::NotHere,
+        Body::RingoutError { .. } => Meant::NotHere,
         Body::CcSuspend => Meant::Record(RecordMessage::Suspend),
         Body::CcResume => Meant::Record(RecordMessage::Resume),
         Body::CcCancel => Meant::Record(RecordMessage::Cancel),
@@ -101,12 +92,11 @@ fn ringout_row(takes: bool, keep: Keep) -> Row
     ensures { result ≡ ringout_row takes keep }
 {
     if takes {
-        return Row::RingsOut;
-    }
-    match keep {
-        Keep::Empty => Row::BusyAgainEnded,
-        Keep::Ends => Row::BusyAgainEnded,
-        Keep::Keeps => Row::BusyAgainKept,
+        Row::RingsOut
+    } else if keep == Keep::Keeps {
+        Row::BusyAgainKept
+    } else {
+        Row::BusyAgainEnded
     }
 }
 
@@ -135,14 +125,14 @@ pub fn row_of_act(act: Act) -> Row
 }
 
 // The reply to a message that has no record, or whose record has no row for it: to a ccRingout and to a ccResume.
-pub fn reply_missed(message: RecordMessage) -> Sends
+pub fn reply_missed(message: RecordMessage) -> Option<Body>
     ensures { result ≡ reply_missed message }
 {
     match message {
-        RecordMessage::Suspend => Sends::Nothing,
-        RecordMessage::Resume => Sends::One(Body::CcCancel),
-        RecordMessage::Ringout => Sends::One(Body::RingoutError { error: 2 }),
-        RecordMessage::Cancel => Sends::Nothing,
+        RecordMessage::Suspend => None,
+        RecordMessage::Resume => Some(Body::CcCancel),
+        RecordMessage::Ringout => Some(Body::RingoutError { error: 2 }),
+        RecordMessage::Cancel => None,
     }
 }
 
@@ -150,29 +140,23 @@ pub fn reply_missed(message: RecordMessage) -> Sends
 pub fn keep_chosen(flags: u8, keeps: bool) -> Keep
     ensures { result ≡ keep_chosen flags keeps }
 {
-    if can_keep_sent(flags) {
-        if keeps {
-            return Keep::Keeps;
-        }
-        return Keep::Ends;
+    if can_keep_sent(flags) && keeps {
+        Keep::Keeps
+    } else {
+        Keep::Ends
     }
-    Keep::Ends
 }
 
 // By the preference, by the desk's default if none.
 pub fn connection_chosen(flags: u8, retains: bool) -> Connection
     ensures { result ≡ connection_chosen flags retains }
 {
-    if flags / 2 == 1 {
-        return Connection::Ret;
+    match flags / 2 {
+        1 => Connection::Ret,
+        2 => Connection::Rls,
+        _ if retains => Connection::Ret,
+        _ => Connection::Rls,
     }
-    if flags / 2 == 2 {
-        return Connection::Rls;
-    }
-    if retains {
-        return Connection::Ret;
-    }
-    Connection::Rls
 }
 
 // The keep that a result carries.
@@ -180,8 +164,7 @@ pub fn keep_sent(keep: Keep) -> u8
     ensures { result ≡ keep_sent keep }
 {
     match keep {
-        Keep::Empty => 0,
-        Keep::Ends => 0,
+        Keep::Empty | Keep::Ends => 0,
         Keep::Keeps => 1,
     }
 }

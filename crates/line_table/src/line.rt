@@ -34,11 +34,5 @@ pub fn can_take(line: Line) -> bool
 pub fn with_status(line: Line, busy: bool) -> Line
     ensures { result ≡ with_status line busy }
 {
-    let number = line.number;
-    Line {
-        number,
-        ccbs: line.ccbs,
-        ccnr: line.ccnr,
-        busy,
-    }
+    Line { busy, ..line }
 }

@@ -4,10 +4,12 @@ ghost use Rattle.std.specs.Prelude.{◌≡◌};
 ghost use Rattle.line_table.specs.Record.{refused_plan};
 
 use crate::table::{Row, State};
-use desk::outcome::{Outcome, Sending, refused};
-use desk::sends::Sends;
+use desk::letter::Letter;
+use desk::outcome::refused;
+use desk::plan::Plan;
 use lists::words::Words;
-use message::Kind;
+use message::refusal::Refusal;
+use message::{Body, Kind};
 use terms::Terms;
 use terms::request::Request;
 
@@ -20,11 +22,11 @@ pub struct Record {
     pub down: bool,
 }
 
-// What a step decides, of its input and the desk: a refusal, by its number, with its reply or none; a request denied by its error, 1 short or 2 long, which stores
+// What a step decides, of its input and the desk: a refusal, with its reply or none; a request denied by its error, 1 short or 2 long, which stores
 // nothing; a row taken for the record of a place; a request stored at a place, its line busy or not; the line of a place reported busy or free.
 #[derive(Clone, Copy)]
 pub enum Decision {
-    Refuse(u8, Sends),
+    Refuse(Refusal, Option<Body>),
     Deny(u8),
     Take(usize, Row),
     Store(usize, Request, bool),
@@ -52,19 +54,12 @@ pub enum Change {
     Report(usize, Words, bool),
 }
 
-#[derive(Clone, Copy)]
-pub struct Plan {
-    pub change: Change,
-    pub outcome: Outcome,
-}
-
 // A refusal changes nothing.
-pub fn refused_plan(refusal: u8, reply: Sending) -> Plan
+pub fn refused_plan(refusal: Refusal, reply: Option<Letter>) -> Plan<Change>
     ensures { result ≡ refused_plan refusal reply }
 {
-    let outcome = refused(refusal, reply);
     Plan {
         change: Change::Stay,
-        outcome,
+        outcome: refused(refusal, reply),
     }
 }

@@ -19,23 +19,13 @@ pub enum Sought {
 pub fn in_use(state: State) -> bool
     ensures { result ≡ in_use state }
 {
-    match state {
-        State::Free => false,
-        State::Invoked => true,
-        State::Await => true,
-        State::Alert => true,
-    }
+    state != State::Free
 }
 
 pub fn is_invoked(state: State) -> bool
     ensures { result ≡ invoked state }
 {
-    match state {
-        State::Free => false,
-        State::Invoked => true,
-        State::Await => false,
-        State::Alert => false,
-    }
+    state == State::Invoked
 }
 
 // In Alert, or in Await without suspended mark.
@@ -43,8 +33,7 @@ pub fn is_waiting(state: State, suspended: bool) -> bool
     ensures { result ≡ waits state suspended }
 {
     match state {
-        State::Free => false,
-        State::Invoked => false,
+        State::Free | State::Invoked => false,
         State::Await => !suspended,
         State::Alert => true,
     }

@@ -1,20 +1,17 @@
 // The line's table: document 01, "Steps at the line desk", as mended (M5), one row for each of its steps with a record, with the clause of H.450.9 beside it.
 // A row says in which states it is taken and what it does; everything else about the line desk reads it here.
 ghost use Rattle.std.specs.Prelude.{◌≡◌};
-ghost use Rattle.terms.specs.declared.Becomes.TheVariants as Becomes;
-ghost use Rattle.line_table.specs.declared.table.Next.TheVariants.{Gone, Same, To};
+ghost use Rattle.desk.specs.declared.plan.Next.TheVariants.{Gone};
 ghost use Rattle.line_table.specs.declared.table.Home.TheVariants.{WhereRetained};
 ghost use Rattle.line_table.specs.declared.table.Mark.TheVariants as Mark;
-ghost use Rattle.desk.specs.declared.sends.Sends.TheVariants as Sends;
 ghost use Rattle.line_table.specs.Table.{rule, rule_of, home_of, effect_of, holds_in};
 
 use desk::Connection;
-use desk::sends::Sends;
+use desk::plan::Next;
 use message::{Body, Kind};
-use terms::Becomes;
 
 // Free is a place with no record, CC-Idle; then CC-Invoked-User-B, CC-Await-Call-Completion and CC-Wait-User-B-Alert.
-#[derive(Clone, Copy)]
+#[derive(Clone, Copy, PartialEq, Eq)]
 pub enum State {
     Free,
     Invoked,
@@ -60,14 +57,6 @@ pub enum Home {
     Always,
 }
 
-// What becomes of the record: deleted, in the state that it is in, or on to a state.
-#[derive(Clone, Copy)]
-pub enum Next {
-    Gone,
-    Same,
-    To(State),
-}
-
 // What becomes of a mark: nothing, or it is set, or cleared.
 #[derive(Clone, Copy)]
 pub enum Mark {
@@ -79,9 +68,9 @@ pub enum Mark {
 // What becomes of the record and of its kind, what is sent, and what becomes of its three marks.
 #[derive(Clone, Copy)]
 pub struct Effect {
-    pub next: Next,
-    pub kind: Becomes,
-    pub sends: Sends,
+    pub next: Next<State>,
+    pub kind: Option<Kind>,
+    pub sends: Option<Body>,
     pub active: Mark,
     pub suspended: Mark,
     pub down: Mark,
@@ -94,58 +83,27 @@ pub struct Rule {
     pub effect: Effect,
 }
 
-// The record goes on to a state, or stays in it.
-fn goes(
-    home: Home,
-    state: State,
-    kind: Becomes,
-    sends: Sends,
-    active: Mark,
-    suspended: Mark,
-) -> Rule
-    ensures { result ≡ rule home (To state) kind sends active suspended Mark.Nothing }
-{
-    let effect = Effect {
-        next: Next::To(state),
-        kind,
-        sends,
-        active,
-        suspended,
-        down: Mark::Nothing,
-    };
-    Rule { home, effect }
-}
+// A row that changes nothing and sends nothing: each row below names what it does beside that.
+const QUIET: Effect = Effect {
+    next: Next::Same,
+    kind: None,
+    sends: None,
+    active: Mark::Nothing,
+    suspended: Mark::Nothing,
+    down: Mark::Nothing,
+};
 
-// The record is deleted.
-fn ends(home: Home, sends: Sends) -> Rule
-    ensures { result ≡ rule home Gone Becomes.Nothing sends Mark.Nothing Mark.Nothing Mark.Nothing }
+// A row that deletes the record.
+fn ends(home: Home, sends: Option<Body>) -> Rule
+    ensures { result ≡ rule home Gone None sends Mark.Nothing Mark.Nothing Mark.Nothing }
 {
-    let effect = Effect {
-        next: Next::Gone,
-        kind: Becomes::Nothing,
-        sends,
-        active: Mark::Nothing,
-        suspended: Mark::Nothing,
-        down: Mark::Nothing,
-    };
-    Rule { home, effect }
-}
-
-// The mark "connection down" is set; the record stays in its state.
-fn falls() -> Rule
-    ensures { result ≡ rule WhereRetained Same Becomes.Nothing Sends.Nothing Mark.Nothing Mark.Nothing Mark.Sets }
-{
-    let effect = Effect {
-        next: Next::Same,
-        kind: Becomes::Nothing,
-        sends: Sends::Nothing,
-        active: Mark::Nothing,
-        suspended: Mark::Nothing,
-        down: Mark::Sets,
-    };
     Rule {
-        home: Home::WhereRetained,
-        effect,
+        home,
+        effect: Effect {
+            next: Next::Gone,
+            sends,
+            ..QUIET
+        },
     }
 }
 
@@ -154,53 +112,62 @@ pub fn rule_of(row: Row) -> Rule
     ensures { result ≡ rule_of row }
 {
     match row {
-        Row::Offers => goes(
-            Home::InInvoked,
-            State::Await,
-            Becomes::Nothing,
-            Sends::One(Body::CcExecPossible),
-            Mark::Nothing,
-            Mark::Nothing,
-        ),
-        Row::Suspends => goes(
-            Home::InAwait,
-            State::Await,
-            Becomes::Nothing,
-            Sends::Nothing,
-            Mark::Nothing,
-            Mark::Sets,
-        ),
-        Row::Resumes => goes(
-            Home::InAwait,
-            State::Invoked,
-            Becomes::Nothing,
-            Sends::Nothing,
-            Mark::Nothing,
-            Mark::Clears,
-        ),
-        Row::RingsOut => goes(
-            Home::InAwait,
-            State::Alert,
-            Becomes::Nothing,
-            Sends::Nothing,
-            Mark::Nothing,
-            Mark::Clears,
-        ),
-        Row::BusyAgainKept => goes(
-            Home::InAwait,
-            State::Invoked,
-            Becomes::One(Kind::Ccbs),
-            Sends::One(Body::RingoutError { error: 1 }),
-            Mark::Sets,
-            Mark::Clears,
-        ),
-        Row::BusyAgainEnded => ends(Home::InAwait, Sends::One(Body::RingoutError { error: 1 })),
-        Row::Alerts => ends(Home::InAlert, Sends::One(Body::CallAlerts)),
-        Row::CallFails => ends(Home::InAlert, Sends::One(Body::CallFailed)),
-        Row::ClerkCancels => ends(Home::Always, Sends::Nothing),
-        Row::LineCancels => ends(Home::Always, Sends::One(Body::CcCancel)),
-        Row::Falls => falls(),
-        Row::GuardRunsOut => ends(Home::Always, Sends::One(Body::CcCancel)),
+        Row::Offers => Rule {
+            home: Home::InInvoked,
+            effect: Effect {
+                next: Next::To(State::Await),
+                sends: Some(Body::CcExecPossible),
+                ..QUIET
+            },
+        },
+        Row::Suspends => Rule {
+            home: Home::InAwait,
+            effect: Effect {
+                next: Next::To(State::Await),
+                suspended: Mark::Sets,
+                ..QUIET
+            },
+        },
+        Row::Resumes => Rule {
+            home: Home::InAwait,
+            effect: Effect {
+                next: Next::To(State::Invoked),
+                suspended: Mark::Clears,
+                ..QUIET
+            },
+        },
+        Row::RingsOut => Rule {
+            home: Home::InAwait,
+            effect: Effect {
+                next: Next::To(State::Alert),
+                suspended: Mark::Clears,
+                ..QUIET
+            },
+        },
+        Row::BusyAgainKept => Rule {
+            home: Home::InAwait,
+            effect: Effect {
+                next: Next::To(State::Invoked),
+                kind: Some(Kind::Ccbs),
+                sends: Some(Body::RingoutError { error: 1 }),
+                active: Mark::Sets,
+                suspended: Mark::Clears,
+                ..QUIET
+            },
+        },
+        Row::BusyAgainEnded => ends(Home::InAwait, Some(Body::RingoutError { error: 1 })),
+        Row::Alerts => ends(Home::InAlert, Some(Body::CallAlerts)),
+        Row::CallFails => ends(Home::InAlert, Some(Body::CallFailed)),
+        Row::ClerkCancels => ends(Home::Always, None),
+        Row::LineCancels => ends(Home::Always, Some(Body::CcCancel)),
+        Row::Falls => Rule {
+            home: Home::WhereRetained,
+            effect: Effect {
+                down: Mark::Sets,
+                ..QUIET
+            },
+        },
+        Row::GuardRunsOut => ends(Home::Always, Some(Body::CcCancel)),
     }
 }
 
@@ -208,16 +175,14 @@ pub fn rule_of(row: Row) -> Rule
 pub fn home_of(row: Row) -> Home
     ensures { result ≡ home_of row }
 {
-    let rule = rule_of(row);
-    rule.home
+    rule_of(row).home
 }
 
 // What a row does.
 pub fn effect_of(row: Row) -> Effect
     ensures { result ≡ effect_of row }
 {
-    let rule = rule_of(row);
-    rule.effect
+    rule_of(row).effect
 }
 
 // Whether a state is one of a row's, and the connection choice; a free place has no row.
@@ -225,39 +190,10 @@ pub fn holds_in(home: Home, state: State, connection: Connection) -> bool
     ensures { result ≡ holds_in home state connection }
 {
     match home {
-        Home::InInvoked => match state {
-            State::Free => false,
-            State::Invoked => true,
-            State::Await => false,
-            State::Alert => false,
-        },
-        Home::InAwait => match state {
-            State::Free => false,
-            State::Invoked => false,
-            State::Await => true,
-            State::Alert => false,
-        },
-        Home::InAlert => match state {
-            State::Free => false,
-            State::Invoked => false,
-            State::Await => false,
-            State::Alert => true,
-        },
-        Home::WhereRetained => match connection {
-            Connection::Empty => false,
-            Connection::Ret => match state {
-                State::Free => false,
-                State::Invoked => true,
-                State::Await => true,
-                State::Alert => true,
-            },
-            Connection::Rls => false,
-        },
-        Home::Always => match state {
-            State::Free => false,
-            State::Invoked => true,
-            State::Await => true,
-            State::Alert => true,
-        },
+        Home::InInvoked => state == State::Invoked,
+        Home::InAwait => state == State::Await,
+        Home::InAlert => state == State::Alert,
+        Home::WhereRetained => connection == Connection::Ret && state != State::Free,
+        Home::Always => state != State::Free,
     }
 }

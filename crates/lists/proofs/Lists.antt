@@ -1,4 +1,5 @@
 -- Laws of specs/Lists.antt, over any element type: what a loop asks at an index, and what a finished search or removal says. Each goes along the list. Assumes nothing.
+use Rattle.std.specs.Prelude.{Some, None}
 use Prim.Native.Nat.{ℕ, zero, suc, ◌+◌, ◌≤◌, ◌<◌}
 use mathlib.Core.Bool.{Bool, true, false, false≢true}
 use mathlib.Core.List.{List, [], ◌∷◌, ◌++◌, map, map-append}
@@ -13,7 +14,6 @@ use lib.ListN.{length, get_or, drop, set, drop_of_length-le, length-append}
 use lib.Seq.{drop-cons}
 use Rattle.lists.specs.Choice.{pick}
 use Rattle.lists.specs.Lists.{both, first_from, first, count, without}
-use Rattle.lists.specs.declared.Found.TheVariants.{At, Nothing}
 use Rattle.lists.proofs.Choice.{pick_elim, pick-cases, pick-else}
 
 -- ---- both
@@ -38,11 +38,11 @@ module _ {A : Type 0} (p : A → Bool) where
   -- ---- first, a turn of its loop
   first_step :
       (xs : List A) (i : ℕ) (d : A) → i < length xs →
-      first_from p i (drop i xs) ≡ pick (p (get_or xs i d)) (At i) (first_from p (i + 1) (drop (i + 1) xs))
+      first_from p i (drop i xs) ≡ pick (p (get_or xs i d)) (Some i) (first_from p (i + 1) (drop (i + 1) xs))
   unfolding first_from
   first_step xs i d h = rw (add-one, drop-cons xs i d)
 
-  pub first_hit : (xs : List A) (i : ℕ) (d : A) → i < length xs → p (get_or xs i d) ≡ true → first_from p i (drop i xs) ≡ At i
+  pub first_hit : (xs : List A) (i : ℕ) (d : A) → i < length xs → p (get_or xs i d) ≡ true → first_from p i (drop i xs) ≡ Some i
   first_hit xs i d h e = first_step xs i d h ∙ rw e
 
   pub first_miss :
@@ -50,12 +50,12 @@ module _ {A : Type 0} (p : A → Bool) where
       first_from p i (drop i xs) ≡ first_from p (i + 1) (drop (i + 1) xs)
   first_miss xs i d h e = first_step xs i d h ∙ rw e
 
-  pub first-end : (xs : List A) (i : ℕ) → length xs ≤ i → first_from p i (drop i xs) ≡ Nothing
+  pub first-end : (xs : List A) (i : ℕ) → length xs ≤ i → first_from p i (drop i xs) ≡ None
   unfolding first_from
   first-end xs i h = rw (drop_of_length-le xs h)
 
   -- ---- first, what was found
-  not_found : {i : ℕ} → Nothing ≡ At i → ⊥
+  not_found : {i : ℕ} → None ≡ Some i → ⊥
   not_found e = let z : ◌≡◌ {A = ℕ} 0 1 = cc in omega arith
 
   -- an index behind a head that fails
@@ -73,7 +73,7 @@ module _ {A : Type 0} (p : A → Bool) where
     pub passes : p (get_or xs index d) ≡ true
     pub earlier : (j : ℕ) → j < index → p (get_or xs j d) ≡ false
 
-  finds : (k : ℕ) (xs : List A) (n : ℕ) (d : A) → first_from p k xs ≡ At n → Finds k xs n d
+  finds : (k : ℕ) (xs : List A) (n : ℕ) (d : A) → first_from p k xs ≡ Some n → Finds k xs n d
   unfolding first_from
   finds k [] n d e = absurd (not_found e)
   finds k (x ∷ xs) n d e =
@@ -91,31 +91,31 @@ module _ {A : Type 0} (p : A → Bool) where
         passes = r.passes;
         earlier = behind-head x xs r.index d f.0 r.earlier;
       })
-      (pick-cases (p x) (At k) (first_from p (suc k) xs) (At n) e)
+      (pick-cases (p x) (Some k) (first_from p (suc k) xs) (Some n) e)
 
   -- an index that is found is one of the list
-  pub first_below : (k : ℕ) (xs : List A) (i : ℕ) → first_from p k xs ≡ At i → i < k + length xs
+  pub first_below : (k : ℕ) (xs : List A) (i : ℕ) → first_from p k xs ≡ Some i → i < k + length xs
   unfolding first_from
   first_below k [] i e = absurd (not_found e)
   first_below k (x ∷ xs) i e = let r = finds k (x ∷ xs) i x e in omega arith
 
   -- what is found passes
-  pub first_holds : (xs : List A) (i : ℕ) (d : A) → first p xs ≡ At i → p (get_or xs i d) ≡ true
+  pub first_holds : (xs : List A) (i : ℕ) (d : A) → first p xs ≡ Some i → p (get_or xs i d) ≡ true
   first_holds xs i d e = let r = finds 0 xs i d e in let q : i ≡ r.index = omega arith in rw q r.passes
 
   -- no earlier one passes
-  pub first-earlier : (xs : List A) (i : ℕ) (d : A) → first p xs ≡ At i → (j : ℕ) → j < i → p (get_or xs j d) ≡ false
+  pub first-earlier : (xs : List A) (i : ℕ) (d : A) → first p xs ≡ Some i → (j : ℕ) → j < i → p (get_or xs j d) ≡ false
   first-earlier xs i d e j h = let r = finds 0 xs i d e in r.earlier j (omega arith)
 
   -- where none is found, none passes
-  none_from : (k : ℕ) (xs : List A) (d : A) → first_from p k xs ≡ Nothing → (j : ℕ) → j < length xs → p (get_or xs j d) ≡ false
+  none_from : (k : ℕ) (xs : List A) (d : A) → first_from p k xs ≡ None → (j : ℕ) → j < length xs → p (get_or xs j d) ≡ false
   unfolding first_from
   none_from k [] d e j h = absurd (not-suc-le-zero h)
   none_from k (x ∷ xs) d e j h =
-      let r = pick-else (p x) (At k) (first_from p (suc k) xs) Nothing (λ q. not_found (sym q)) e in
+      let r = pick-else (p x) (Some k) (first_from p (suc k) xs) None (λ q. not_found (sym q)) e in
       behind-head x xs (length xs) d r.0 (none_from (suc k) xs d r.1) j h
 
-  pub first-none : (xs : List A) (d : A) → first p xs ≡ Nothing → (j : ℕ) → j < length xs → p (get_or xs j d) ≡ false
+  pub first-none : (xs : List A) (d : A) → first p xs ≡ None → (j : ℕ) → j < length xs → p (get_or xs j d) ≡ false
   first-none xs d e = none_from 0 xs d e
 
   -- ---- count, a turn of its loop: n were counted before i

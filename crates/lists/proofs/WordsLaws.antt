@@ -3,15 +3,19 @@ use Prim.Native.Nat.{ℕ, zero, suc, ◌+◌, ◌*◌, ◌/◌, ◌%◌, ◌^◌
 use mathlib.Core.Bool.{true, false, true≢false, not-eq-not}
 use mathlib.Core.List.{List, [], ◌∷◌, ◌++◌}
 use mathlib.Core.Path.{◌≡◌, refl, sym, ap, ◌∙◌}
-use native.Mathlib.Nat.{pow-zero, pow-suc, add-zero, add_assoc, div-div-eq-div-mul}
+use native.Mathlib.Nat.{pow-zero, pow-suc, div-div-eq-div-mul}
 use native.Mathlib.Omega.{arith}
 use borrow.Author.Tests.{eq-eqb, eqb-true}
 use lib.Dec.{eqb}
 use lib.ListN.{length, get_or, take, drop, length-drop, take-append-drop}
 use lib.Seq.{length-take-le, take_all, drop-drop, get_or-drop}
-use Rattle.lists.specs.Flat.{flat_word, flat_bytes}
+use Rattle.std.proofs.Common.{lit<}
+use Rattle.std.proofs.lemmas.List.{get_or-take}
+use Rattle.std.specs.Int.{w64, from_le_bytes, to_le_bytes}
 use Rattle.lists.specs.Words.{Bytes, word, octets, words_of, bytes_of, same_words}
 use Rattle.lists.specs.declared.words.Words.{Words}
+use Rattle.lists.specs.contracts.words.WordsPartialEq.TheImpl.{ghosts}
+use Rattle.std.proofs.lemmas.Grind.{common_steps}
 use Rattle.lists.proofs.Lists.{both_parts}
 
 -- ---- lists of bytes: a part of one, two joined, the octets of a number
@@ -60,10 +64,10 @@ word-step zero [] = refl
 word-step (suc n) [] = refl
 word-step n (x ∷ xs) = refl
 
--- the number of eight bytes from an index on, written out
-pub word_flat : (i : ℕ) (xs : List ℕ) → word (take 8 (drop i xs)) ≡ flat_word xs i
+-- the library's number of eight bytes, and its eight bytes of a number, are these
+pub from-le-word : (xs : List ℕ) → from_le_bytes w64 (take 8 xs) ≡ word (take 8 xs)
 unfolding word
-word_flat i xs =
+from-le-word xs =
     simp (
       word-step 7,
       word-step 6,
@@ -75,15 +79,20 @@ word_flat i xs =
       word-step 0,
       drop-drop,
       get_or-drop,
-      add-zero,
-      add_assoc,
+      get_or-take 8 xs 0 0 (lit< tt),
+      get_or-take 8 xs 1 0 (lit< tt),
+      get_or-take 8 xs 2 0 (lit< tt),
+      get_or-take 8 xs 3 0 (lit< tt),
+      get_or-take 8 xs 4 0 (lit< tt),
+      get_or-take 8 xs 5 0 (lit< tt),
+      get_or-take 8 xs 6 0 (lit< tt),
+      get_or-take 8 xs 7 0 (lit< tt),
     )
     (omega arith)
 
--- the bytes of two words, written out
-pub bytes-flat : (w : Words) → bytes_of w ≡ flat_bytes w.low (flat_bytes w.high [])
-unfolding octets bytes_of
-bytes-flat w = simp div-div-eq-div-mul
+pub to-le-octets : (w : ℕ) → to_le_bytes w64 w ≡ octets 8 w
+unfolding octets
+to-le-octets w = simp div-div-eq-div-mul
 
 -- ---- two words and their bytes
 -- two words have sixteen bytes
@@ -124,6 +133,11 @@ words-tell a b la lb ha hb e = sym (bytes-words a la ha) ∙ ap bytes_of e ∙ b
 -- ---- what the comparison says: true exactly if the two are equal
 words-equal : (a b : Words) → a.low ≡ b.low → a.high ≡ b.high → a ≡ b
 words-equal a b l h = λ i. record { low = l i; high = h i }
+
+-- and the derived `==` of Words is it
+pub eq-same : (a b : Words) → ghosts.eq a b ≡ same_words a b
+unfolding same_words
+eq-same a b = grind (arith, common_steps)
 
 pub same-words-true : (a b : Words) → same_words a b ≡ true → a ≡ b
 unfolding same_words

@@ -2,4 +2,3 @@ pub mod Choice
 pub mod Lists
 pub mod Parts
 pub mod Words
-pub mod Flat

@@ -1,8 +1,6 @@
 -- Lists of anything: the first that passes a test, how many do, one taken out.
-use Rattle.std.specs.Prelude.{ℕ, zero, suc, Bool, true, false, List, [], ◌∷◌, ◌++◌}
+use Rattle.std.specs.Prelude.{ℕ, zero, suc, Bool, true, false, List, [], ◌∷◌, ◌++◌, Option, Some, None}
 use Rattle.lists.specs.Choice.{pick}
-use Rattle.lists.specs.declared.Found.{Found}
-use Rattle.lists.specs.declared.Found.TheVariants.{At, Nothing}
 
 -- both tests are true
 abbrev pub both : Bool → Bool → Bool
@@ -10,12 +8,12 @@ both true b = b
 both false b = false
 
 -- the index of the first that passes, where the list's first has the index k
-unfoldable pub first_from : {A : Type 0} → (A → Bool) → ℕ → List A → Found
-first_from p k [] = Nothing
-first_from p k (x ∷ xs) = pick (p x) (At k) (first_from p (suc k) xs)
+unfoldable pub first_from : {A : Type 0} → (A → Bool) → ℕ → List A → Option ℕ
+first_from p k [] = None
+first_from p k (x ∷ xs) = pick (p x) (Some k) (first_from p (suc k) xs)
 
 -- the index of the first that passes
-abbrev pub first : {A : Type 0} → (A → Bool) → List A → Found
+abbrev pub first : {A : Type 0} → (A → Bool) → List A → Option ℕ
 first p xs = first_from p 0 xs
 
 -- how many pass

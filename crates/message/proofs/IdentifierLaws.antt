@@ -1,4 +1,5 @@
 -- The identifier behind its length: by whether there is one.
+use Rattle.std.specs.Prelude.{Ok, Err}
 use Prim.Native.Nat.{ℕ, ◌+◌, ◌≤◌, ◌<◌}
 use mathlib.Core.Path.{◌≡◌}
 use mathlib.Core.Bool.{Bool, true, false}
@@ -15,26 +16,23 @@ use Rattle.message.specs.Reading.{Read, took, refused, and_then, wrong_at, ended
 use Rattle.message.specs.Number.{number_at}
 use Rattle.message.specs.Wire.{identified_at, identifier_at}
 use Rattle.message.specs.Copied.{copied}
-use Rattle.message.proofs.Reading.{never-took}
+use Rattle.message.specs.declared.refusal.Refusal.TheVariants.{OutOfRange}
+use Rattle.message.proofs.Reading.{never-took, took_same}
 use Rattle.message.proofs.CopiedLaws.{copied-whole}
 
 identified-by :
     (at : ℕ) (b : Bool) (n : ℕ) (r : Read ℕ) →
-    and_then r (λ length next. pick (eqb length 16) (took true next) (pick (eqb length 0) (took false next) (wrong_at 2 at))) ≡ took b n → r ≡ took (pick b 16 0) n
-identified-by at b n (refused x) e = absurd (never-took e)
-identified-by at b n (took v m) e =
+    and_then r (λ length next. pick (eqb length 16) (took true next) (pick (eqb length 0) (took false next) (wrong_at OutOfRange at))) ≡ took b n → r ≡ took (pick b 16 0) n
+identified-by at b n (Err x) e = absurd (never-took e)
+identified-by at b n (Ok (v, m)) e =
     ⊎_elim
     (λ p.
-    let q = p.1 in
-    let qb : true ≡ b = cc in
-    let qm : m ≡ n = cc in
-    rw (← qb, ← qm, eqb-true v 16 p.0))
+    let q = took_same p.1 in
+    rw (← q.0, ← q.1, eqb-true v 16 p.0))
     (λ p.
-    let t = pick-then (eqb v 0) (took false m) (wrong_at 2 at) (took b n) never-took p.1 in
-    let q = t.1 in
-    let qb : false ≡ b = cc in
-    let qm : m ≡ n = cc in
-    rw (← qb, ← qm, eqb-true v 0 t.0))
+    let t = pick-then (eqb v 0) (took false m) (wrong_at OutOfRange at) (took b n) never-took p.1 in
+    let q = took_same t.1 in
+    rw (← q.0, ← q.1, eqb-true v 0 t.0))
     (pick-cases _ _ _ _ e)
 
 -- a length that was taken is the number 16, or 0 where there is none

@@ -16,6 +16,7 @@ use Rattle.lists.proofs.Choice.{pick_elim, pick-else}
 use Rattle.lists.proofs.Parts.{at_in, length_over}
 use Rattle.message.specs.Reading.{took, wrong_at, ended_in}
 use Rattle.message.specs.Number.{number_at, number_bytes, field_at, scan_at, digits_at, digits_in_range, digits_bytes, sixteen}
+use Rattle.message.specs.declared.refusal.Refusal.TheVariants.{OutOfRange}
 use Rattle.message.proofs.Reading.{never-took}
 use Rattle.message.proofs.NumberLaws.{number_shape, field-read, digits-read}
 use Rattle.message.proofs.RangeLaws.{small_bytes, number-length, digits-ranged, digits-length}
@@ -64,7 +65,7 @@ unfolding scan_at
 scan-same zero s t a b m e h l = ap (λ (k : ℕ). took tt k) (sym (add-zero b))
 scan-same (suc count) s t a b m e h l =
     let p = pick-else (leb (length s) a) (ended_in s) _ _ never-took e in
-    let q = pick-else (ltb 9 (get_or s a 0)) (wrong_at 2 a) _ _ never-took p.1 in
+    let q = pick-else (ltb 9 (get_or s a 0)) (wrong_at OutOfRange a) _ _ never-took p.1 in
     let g : get_or t b 0 ≡ get_or s a 0 = rw (add-zero, add-zero) at (h 0 (omega arith)) in
     let next : (i : ℕ) → i < count → get_or t (b + 1 + i) 0 ≡ get_or s (a + 1 + i) 0 =
     λ i k. let eb : b + 1 + i ≡ b + (i + 1) = omega arith in let ea : a + 1 + i ≡ a + (i + 1) = omega arith in rw (eb, ea) (h (i + 1) (omega arith)) in

@@ -1,4 +1,5 @@
 -- Laws of the numbers of the wire: what a number that was read says of the bytes, and that written and read are two ways of one thing.
+use Rattle.std.specs.Prelude.{Ok, Err}
 use Prim.Native.Nat.{ℕ, zero, suc, ◌+◌, ◌-◌, ◌*◌, ◌≤◌, ◌<◌}
 use mathlib.Core.Path.{◌≡◌, refl, sym}
 use mathlib.Core.Logic.{◌⊎◌, inl, inr, ⊎_elim}
@@ -13,7 +14,8 @@ use Rattle.lists.proofs.Choice.{pick_elim, pick-both, pick-cases, pick-then, pic
 use Rattle.message.specs.Reading.{Read, took, refused, and_then, wrong_at, ended_in}
 use Rattle.message.specs.Number.{number_at, within, field_at, scan_at, digits_at, is_taken}
 use Rattle.message.specs.Ends.{bytes_end, digits_end}
-use Rattle.message.proofs.Reading.{never-took}
+use Rattle.message.specs.declared.refusal.Refusal.TheVariants.{OutOfRange}
+use Rattle.message.proofs.Reading.{never-took, took_same}
 
 -- ---- what a number that was read says of the bytes
 pub number_shape :
@@ -26,14 +28,14 @@ number_shape s at v n e =
     let a = pick-else _ _ _ _ never-took e in (
       leb-false (length s) at a.0,
       ⊎_elim
-          (λ p. let q = p.1 in inl (ltb-true _ _ p.0, (cc, cc)))
+          (λ p. let q = took_same (sym p.1) in inl (ltb-true _ _ p.0, q))
           (λ p.
           let b = pick-else _ _ _ _ never-took p.1 in
           let d = pick-else _ _ _ _ never-took b.1 in
           let f = pick-then _ _ _ _ never-took d.1 in
-          let q = f.1 in
+          let q = took_same (sym f.1) in
           let ne : get_or s (at + 1) 0 ≡ 0 → ⊥ = eqb-false _ _ d.0 in
-          inr (ltb-false _ _ p.0, (leb-false (length s) (at + 1) b.0, (omega arith, (ltb-true _ _ f.0, (cc, cc))))))
+          inr (ltb-false _ _ p.0, (leb-false (length s) (at + 1) b.0, (omega arith, (ltb-true _ _ f.0, q)))))
           (pick-cases _ _ _ _ a.1),
     )
 
@@ -44,12 +46,10 @@ number-ends s at v n e = let h = number_shape s at v n e in ⊎_elim (λ p. omeg
 -- ---- fields
 within-took : (at low high w m v n : ℕ) → within at low high w m ≡ took v n → (low ≤ v) × ((v ≤ high) × ((w ≡ v) × (m ≡ n)))
 within-took at low high w m v n e =
-    let a = pick-else (ltb w low) (wrong_at 2 at) _ _ never-took e in
-    let b = pick-else (ltb high w) (wrong_at 2 at) _ _ never-took a.1 in
-    let q = b.1 in
-    let wv : w ≡ v = cc in
-    let mn : m ≡ n = cc in
-    (omega (arith, ltb-false w low a.0), (omega (arith, ltb-false high w b.0), (wv, mn)))
+    let a = pick-else (ltb w low) (wrong_at OutOfRange at) _ _ never-took e in
+    let b = pick-else (ltb high w) (wrong_at OutOfRange at) _ _ never-took a.1 in
+    let q = took_same b.1 in
+    (omega (arith, ltb-false w low a.0), (omega (arith, ltb-false high w b.0), q))
 
 -- a field that was read is a number, in its range, and ends within the bytes
 pub record FieldRead (s : List ℕ) (at low high v n : ℕ) : Type 0 where
@@ -60,8 +60,8 @@ pub record FieldRead (s : List ℕ) (at low high v n : ℕ) : Type 0 where
   pub ends : n ≤ length s
 
 field-by : (s : List ℕ) (at low high v n : ℕ) (r : Read ℕ) → number_at s at ≡ r → and_then r (within at low high) ≡ took v n → FieldRead s at low high v n
-field-by s at low high v n (refused x) h e = absurd (never-took e)
-field-by s at low high v n (took w m) h e =
+field-by s at low high v n (Err x) h e = absurd (never-took e)
+field-by s at low high v n (Ok (w, m)) h e =
     let b = within-took at low high w m v n e in
     let number : number_at s at ≡ took v n = rw (← b.1.1.0, ← b.1.1.1) h in
     let ends = number-ends s at v n number in
@@ -81,14 +81,14 @@ digits_step s at end h = let e : end - at ≡ suc (end - (at + 1)) = omega arith
 -- of so many bytes the front ones, where they are there, and then the others
 scan-front :
     (front count : ℕ) (s : List ℕ) (at : ℕ) → front ≤ count → at + front ≤ length s →
-    scan_at count s at ≡ pick (ltb (digits_end front s at) (at + front)) (wrong_at 2 (digits_end front s at)) (scan_at (count - front) s (at + front))
+    scan_at count s at ≡ pick (ltb (digits_end front s at) (at + front)) (wrong_at OutOfRange (digits_end front s at)) (scan_at (count - front) s (at + front))
 unfolding scan_at digits_end
 scan-front zero count s at few there =
     let z : count - 0 ≡ count = omega arith in
     rw (add-zero at, le-ltb at at (omega arith), z)
 scan-front (suc front) zero s at few there = absurd (omega arith)
 scan-front (suc front) (suc count) s at few there =
-    let Tells : Read (Unit {0}) → ℕ → Type 0 = λ r end. r ≡ pick (ltb end (at + suc front)) (wrong_at 2 end) (scan_at (suc count - suc front) s (at + suc front)) in
+    let Tells : Read (Unit {0}) → ℕ → Type 0 = λ r end. r ≡ pick (ltb end (at + suc front)) (wrong_at OutOfRange end) (scan_at (suc count - suc front) s (at + suc front)) in
     let k : at + suc front ≡ at + 1 + front = omega arith in
     let m : suc count - suc front ≡ count - front = omega arith in
     rw (lt-leb (length s) at (omega arith))
@@ -114,11 +114,11 @@ bytes-all count s at h = rw (le-ltb (length s - at) count h)
 pub scan-by-ends :
     (count : ℕ) (s : List ℕ) (at : ℕ) → at ≤ length s →
     scan_at count s at ≡
-    pick (ltb (digits_end (bytes_end count s at - at) s at) (bytes_end count s at)) (wrong_at 2 (digits_end (bytes_end count s at - at) s at))
+    pick (ltb (digits_end (bytes_end count s at - at) s at) (bytes_end count s at)) (wrong_at OutOfRange (digits_end (bytes_end count s at - at) s at))
     (pick (ltb (length s - at) count) (ended_in s) (took tt (at + count)))
 unfolding scan_at bytes_end
 scan-by-ends count s at h =
-    pick-both (λ (end : ℕ) (r : Read (Unit {0})). scan_at count s at ≡ pick (ltb (digits_end (end - at) s at) end) (wrong_at 2 (digits_end (end - at) s at)) r) (ltb (length s - at) count)
+    pick-both (λ (end : ℕ) (r : Read (Unit {0})). scan_at count s at ≡ pick (ltb (digits_end (end - at) s at) end) (wrong_at OutOfRange (digits_end (end - at) s at)) r) (ltb (length s - at) count)
     (λ t.
     let few = ltb-true (length s - at) count t in
     let k : at + (length s - at) ≡ length s = omega arith in
@@ -144,10 +144,10 @@ scan-taken count s at h =
 -- digits end behind their place and within the bytes
 pub scan-ends : (count : ℕ) (s : List ℕ) (at n : ℕ) → scan_at count s at ≡ took tt n → at ≤ length s → (n ≡ at + count) × (n ≤ length s)
 unfolding scan_at
-scan-ends zero s at n e h = let z : at ≡ n = cc in omega arith
+scan-ends zero s at n e h = let z = took_same e in omega arith
 scan-ends (suc count) s at n e h =
     let a = pick-else (leb (length s) at) (ended_in s) _ _ never-took e in
-    let b = pick-else (ltb 9 (get_or s at 0)) (wrong_at 2 at) _ _ never-took a.1 in
+    let b = pick-else (ltb 9 (get_or s at 0)) (wrong_at OutOfRange at) _ _ never-took a.1 in
     let i = scan-ends count s (at + 1) n b.1 (omega (arith, leb-false (length s) at a.0)) in
     omega arith
 
@@ -169,8 +169,8 @@ pub record DigitsRead (s : List ℕ) (at low n : ℕ) : Type 0 where
   pub ends : n ≤ length s
 
 digits-by : (s : List ℕ) (at low n : ℕ) (r : Read ℕ) → field_at s at low 15 ≡ r → and_then r (λ count next. scan_at count s next) ≡ took tt n → DigitsRead s at low n
-digits-by s at low n (refused x) h e = absurd (never-took e)
-digits-by s at low n (took v m) h e =
+digits-by s at low n (Err x) h e = absurd (never-took e)
+digits-by s at low n (Ok (v, m)) h e =
     let f = field-read s at low 15 v m h in
     let b = (length-byte s at low v m h).1 in
     let scanned : scan_at (get_or s at 0) s (at + 1) ≡ took tt n = rw (← b.0, ← b.1) e in

@@ -1,4 +1,5 @@
 -- What a message in range says of its fields, and how many bytes they take: by the tests of the range.
+use Rattle.std.specs.Prelude.{Option, Some, None, Ok, Err}
 use Prim.Native.Nat.{ℕ, ◌+◌, ◌≤◌, ◌<◌}
 use mathlib.Core.Path.{◌≡◌, refl, ◌∙◌}
 use mathlib.Core.Bool.{Bool, true, false}
@@ -17,8 +18,6 @@ use Rattle.message.specs.declared.Carrier.{Carrier}
 use Rattle.message.specs.declared.Carrier.TheVariants.{Setup, Connect, Facility, ReleaseComplete, Alerting}
 use Rattle.message.specs.declared.Body.{Body}
 use Rattle.message.specs.declared.Body.TheVariants.{CcbsRequest, CcnrRequest, RequestResult, RequestError, CcExecPossible, CcRingout, RingoutError, CcSuspend, CcResume, CcCancel, CallAlerts, CallFailed}
-use Rattle.message.specs.declared.Service.{Service}
-use Rattle.message.specs.declared.Service.TheVariants.{Absent, Is}
 use Rattle.message.specs.declared.Message.{Message}
 use Rattle.message.proofs.NumberLaws.{DigitsRead, digits-read}
 
@@ -34,8 +33,8 @@ small-length v h = rw (small_bytes v h)
 
 -- ---- numbers of digits
 taken_of : (g : List ℕ) (low : ℕ) (r : Read (Unit {0})) → digits_at g 0 low ≡ r → is_taken r ≡ true → {G : Type 0} → ((n : ℕ) → DigitsRead g 0 low n → G) → G
-taken_of g low (took u n) h e k = k n (digits-read g 0 low n h)
-taken_of g low (refused x) h e k = absurd (no_true e)
+taken_of g low (Ok (u, n)) h e k = k n (digits-read g 0 low n h)
+taken_of g low (Err x) h e k = absurd (no_true e)
 
 -- sixteen places in range read as a number of digits
 pub digits-ranged : (g : List ℕ) (low : ℕ) → digits_in_range low g ≡ true → {G : Type 0} → ((n : ℕ) → DigitsRead g 0 low n → G) → G
@@ -151,7 +150,7 @@ pub record NumbersRanged (a b : List ℕ) (service : ℕ) : Type 0 where
   pub most_b : get_or b 0 0 ≤ 15
   pub most_service : service < 16384
 
-pub numbers-ranged : (a b : List ℕ) (service : ℕ) → elements_in_range a b (Is service) ≡ true → elements_complete b (Is service) ≡ true → NumbersRanged a b service
+pub numbers-ranged : (a b : List ℕ) (service : ℕ) → elements_in_range a b (Some service) ≡ true → elements_complete b (Some service) ≡ true → NumbersRanged a b service
 numbers-ranged a b service e f =
     let p = pick-then (digits_in_range 0 a) _ false true no_true e in
     let q = pick-then (digits_in_range 0 b) _ false true no_true p.1 in
@@ -164,25 +163,25 @@ numbers-ranged a b service e f =
       most_service = ltb-true service 16384 q.1;
     }
 
-pub elements-few : (a b : List ℕ) (service : Service) → elements_in_range a b service ≡ true → (get_or a 0 0 ≤ 15) × (get_or b 0 0 ≤ 15)
+pub elements-few : (a b : List ℕ) (service : Option ℕ) → elements_in_range a b service ≡ true → (get_or a 0 0 ≤ 15) × (get_or b 0 0 ≤ 15)
 elements-few a b service e =
     let p = pick-then (digits_in_range 0 a) _ false true no_true e in
     let q = pick-then (digits_in_range 0 b) _ false true no_true p.1 in
     ((digits-few a 0 p.0).1, (digits-few b 0 q.0).1)
 
-pub never-absent : (b : List ℕ) → elements_complete b Absent ≡ true → ⊥
+pub never-absent : (b : List ℕ) → elements_complete b None ≡ true → ⊥
 never-absent b e = no_true (pick-then (ltb 0 (get_or b 0 0)) false false true no_true e).1
 
 pub numbers-length :
     (a b : List ℕ) (service : ℕ) → length a ≡ 16 → length b ≡ 16 → get_or a 0 0 ≤ 15 → get_or b 0 0 ≤ 15 →
-    length (element_bytes a b (Is service)) ≡ (get_or a 0 0 + 1) + ((get_or b 0 0 + 1) + length (number_bytes service))
+    length (element_bytes a b (Some service)) ≡ (get_or a 0 0 + 1) + ((get_or b 0 0 + 1) + length (number_bytes service))
 numbers-length a b service la lb ha hb =
     length-append (digits_bytes a) (digits_bytes b ++ number_bytes service)
     ∙ rw (digits-length a la ha, length-append (digits_bytes b) (number_bytes service), digits-length b lb hb)
 
-elements-most : (a b : List ℕ) (service : Service) → length a ≡ 16 → length b ≡ 16 → elements_in_range a b service ≡ true → elements_complete b service ≡ true → length (element_bytes a b service) ≤ 35
-elements-most a b Absent la lb e f = absurd (never-absent b f)
-elements-most a b (Is service) la lb e f =
+elements-most : (a b : List ℕ) (service : Option ℕ) → length a ≡ 16 → length b ≡ 16 → elements_in_range a b service ≡ true → elements_complete b service ≡ true → length (element_bytes a b service) ≤ 35
+elements-most a b None la lb e f = absurd (never-absent b f)
+elements-most a b (Some service) la lb e f =
     let r = numbers-ranged a b service e f in
     omega (arith, numbers-length a b service la lb r.most_a r.most_b, r.most_a, r.most_b, number-length service)
 

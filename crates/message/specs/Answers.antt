@@ -1,15 +1,8 @@
--- What each answer of the code tells: its values where it is taken, what is wrong where it is refused.
-use Rattle.std.specs.Prelude.{ℕ}
+-- What the answer of a reader of digits tells: nothing but the place, which is all that its caller asks for.
+use Rattle.std.specs.Prelude.{ℕ, Result, Ok, Err}
 use Rattle.message.specs.Reading.{Read, took, refused}
-use Rattle.message.specs.declared.number.NumberRead.{NumberRead}
-use Rattle.message.specs.declared.number.NumberRead.TheVariants as N
-use Rattle.message.specs.declared.digits.PlaceRead.{PlaceRead}
-use Rattle.message.specs.declared.digits.PlaceRead.TheVariants as P
+use Rattle.message.specs.declared.Fault.{Fault}
 
-abbrev pub number_told : NumberRead → Read ℕ
-number_told (N.Value value next) = took value next
-number_told (N.Refused fault) = refused fault
-
-abbrev pub place_told : PlaceRead → Read (Unit {0})
-place_told (P.Taken next) = took tt next
-place_told (P.Refused fault) = refused fault
+abbrev pub place_told : Result ℕ Fault → Read (Unit {0})
+place_told (Ok next) = took tt next
+place_told (Err fault) = refused fault

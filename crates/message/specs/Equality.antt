@@ -1,13 +1,11 @@
 -- Equality of messages as document 01 and request 1 say it: of type, carrier, identifier or its absence, and the type's own fields; places behind the last digit don't count.
-use Rattle.std.specs.Prelude.{ℕ, ◌≡◌, Bool, true, List, [], ◌∷◌, get_or, take, drop, replicate, length}
+use Rattle.std.specs.Prelude.{ℕ, ◌≡◌, Bool, true, List, [], ◌∷◌, get_or, take, drop, replicate, length, Option, None}
 use Rattle.lists.specs.Choice.{pick}
 use Rattle.message.specs.Number.{digits_bytes, sixteen}
 use Rattle.message.specs.Format.{has_elements}
 use Rattle.message.specs.declared.Carrier.{Carrier}
 use Rattle.message.specs.declared.Body.{Body}
 use Rattle.message.specs.declared.Body.TheVariants.{CcbsRequest, CcnrRequest, RequestResult, RequestError, CcExecPossible, CcRingout, RingoutError, CcSuspend, CcResume, CcCancel, CallAlerts, CallFailed}
-use Rattle.message.specs.declared.Service.{Service}
-use Rattle.message.specs.declared.Service.TheVariants.{Absent}
 use Rattle.message.specs.declared.Message.{Message}
 
 -- the digits of a number: as many as its length says
@@ -51,8 +49,8 @@ normal_identifier identified identifier = pick identified identifier (replicate 
 abbrev pub normal_number : Body → Carrier → List ℕ → List ℕ
 normal_number body carrier number = with_numbers body carrier (sixteen (digits_bytes number)) (replicate 16 0)
 
-abbrev pub normal_service : Body → Carrier → Service → Service
-normal_service body carrier service = pick (has_elements body carrier) service Absent
+abbrev pub normal_service : Body → Carrier → Option ℕ → Option ℕ
+normal_service body carrier service = pick (has_elements body carrier) service None
 
 unfoldable pub normal : Message → Message
 normal m =

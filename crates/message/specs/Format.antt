@@ -1,5 +1,5 @@
 -- Document 01, "Messages and carriers", and request 1: the numbers of types and carriers, which messages have elements, the range of each field, the bytes of a message.
-use Rattle.std.specs.Prelude.{ℕ, Bool, true, false, List, [], ◌++◌, get_or, ltb}
+use Rattle.std.specs.Prelude.{ℕ, Bool, true, false, List, [], ◌++◌, get_or, ltb, Option, Some, None}
 use Rattle.lists.specs.Choice.{pick}
 use Rattle.message.specs.Number.{number_bytes, digits_bytes, digits_in_range}
 use Rattle.message.specs.declared.Carrier.{Carrier}
@@ -8,8 +8,6 @@ use Rattle.message.specs.declared.Kind.{Kind}
 use Rattle.message.specs.declared.Kind.TheVariants.{Ccbs, Ccnr}
 use Rattle.message.specs.declared.Body.{Body}
 use Rattle.message.specs.declared.Body.TheVariants.{CcbsRequest, CcnrRequest, RequestResult, RequestError, CcExecPossible, CcRingout, RingoutError, CcSuspend, CcResume, CcCancel, CallAlerts, CallFailed}
-use Rattle.message.specs.declared.Service.{Service}
-use Rattle.message.specs.declared.Service.TheVariants.{Absent, Is}
 use Rattle.message.specs.declared.Message.{Message}
 
 abbrev pub request_body : Kind → ℕ → ℕ → Body
@@ -83,11 +81,11 @@ fields_in_range a b CallAlerts = true
 fields_in_range a b CallFailed = true
 
 -- of elements: each may be absent, a number of digits by having none
-abbrev pub service_in_range : Service → Bool
-service_in_range Absent = true
-service_in_range (Is service) = ltb service 16384
+abbrev pub service_in_range : Option ℕ → Bool
+service_in_range None = true
+service_in_range (Some service) = ltb service 16384
 
-abbrev pub elements_in_range : List ℕ → List ℕ → Service → Bool
+abbrev pub elements_in_range : List ℕ → List ℕ → Option ℕ → Bool
 elements_in_range numberA numberB service = pick (digits_in_range 0 numberA) (pick (digits_in_range 0 numberB) (service_in_range service) false) false
 
 unfoldable pub in_range : Message → Bool
@@ -96,11 +94,11 @@ in_range m =
     (fields_in_range m.numberA m.numberB m.body)
 
 -- ---- the byte form has no way to say that numberB or service is absent
-abbrev pub is_given : Service → Bool
-is_given Absent = false
-is_given (Is service) = true
+abbrev pub is_given : Option ℕ → Bool
+is_given None = false
+is_given (Some service) = true
 
-abbrev pub elements_complete : List ℕ → Service → Bool
+abbrev pub elements_complete : List ℕ → Option ℕ → Bool
 elements_complete numberB service = pick (ltb 0 (get_or numberB 0 0)) (is_given service) false
 
 unfoldable pub complete : Message → Bool
@@ -132,11 +130,11 @@ field_bytes a b CallAlerts = []
 field_bytes a b CallFailed = []
 
 -- elements go as a request's numbers and service
-abbrev pub service_bytes : Service → List ℕ
-service_bytes Absent = []
-service_bytes (Is service) = number_bytes service
+abbrev pub service_bytes : Option ℕ → List ℕ
+service_bytes None = []
+service_bytes (Some service) = number_bytes service
 
-abbrev pub element_bytes : List ℕ → List ℕ → Service → List ℕ
+abbrev pub element_bytes : List ℕ → List ℕ → Option ℕ → List ℕ
 element_bytes numberA numberB service = digits_bytes numberA ++ (digits_bytes numberB ++ service_bytes service)
 
 abbrev pub fields_of : Message → List ℕ

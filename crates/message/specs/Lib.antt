@@ -6,3 +6,4 @@ pub mod Equality
 pub mod Wire
 pub mod Copied
 pub mod Answers
+pub mod Refusals

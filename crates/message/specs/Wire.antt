@@ -1,17 +1,16 @@
 -- Reading one message from the front of some bytes (document 01, "Messages and carriers", and request 1; first fault from the left).
-use Rattle.std.specs.Prelude.{ℕ, ◌+◌, ◌-◌, Bool, true, false, List, length, take, drop, replicate, ltb, eqb}
+use Rattle.std.specs.Prelude.{ℕ, ◌+◌, ◌-◌, Bool, true, false, List, length, take, drop, replicate, ltb, eqb, Option, Some, None}
 use Rattle.lists.specs.Choice.{pick}
 use Rattle.message.specs.Reading.{Read, took, and_then, wrong_at, ended_in}
 use Rattle.message.specs.Number.{number_at, field_at, digits_at, sixteen}
 use Rattle.message.specs.Format.{request_body, has_elements}
+use Rattle.message.specs.declared.refusal.Refusal.TheVariants.{OutOfRange}
 use Rattle.message.specs.declared.Carrier.{Carrier}
 use Rattle.message.specs.declared.Carrier.TheVariants.{Setup, Connect, Facility, ReleaseComplete, Alerting}
 use Rattle.message.specs.declared.Kind.{Kind}
 use Rattle.message.specs.declared.Kind.TheVariants.{Ccbs, Ccnr}
 use Rattle.message.specs.declared.Body.{Body}
 use Rattle.message.specs.declared.Body.TheVariants.{RequestResult, RequestError, CcExecPossible, CcRingout, RingoutError, CcSuspend, CcResume, CcCancel, CallAlerts, CallFailed}
-use Rattle.message.specs.declared.Service.{Service}
-use Rattle.message.specs.declared.Service.TheVariants.{Absent, Is}
 use Rattle.message.specs.declared.Message.{Message}
 
 -- the carrier of a number from 1 to 5
@@ -29,7 +28,7 @@ identified_at s at =
     and_then (number_at s at) (λ length next.
     pick (eqb length 16) (took true next)
     (pick (eqb length 0) (took false next)
-    (wrong_at 2 at)))
+    (wrong_at OutOfRange at)))
 
 -- 16 raw bytes, where there is one
 unfoldable pub identifier_at : Bool → List ℕ → ℕ → Read (List ℕ)
@@ -41,7 +40,7 @@ identifier_at identified s at =
 pub record Fields : Type 0 where
   pub behindA : ℕ
   pub behindB : ℕ
-  pub service : Service
+  pub service : Option ℕ
   pub body : Body
 
 -- numberA, numberB, service, flags
@@ -49,7 +48,7 @@ unfoldable pub request_tail : Kind → List ℕ → ℕ → ℕ → Read Fields
 request_tail kind s behindA behindB =
     and_then (field_at s behindB 0 16383) (λ service next.
     and_then (field_at s next 0 5) (λ flags behind.
-    took (record { behindA = behindA; behindB = behindB; service = Absent; body = request_body kind service flags }) behind))
+    took (record { behindA = behindA; behindB = behindB; service = None; body = request_body kind service flags }) behind))
 
 unfoldable pub request_at : Kind → List ℕ → ℕ → Read Fields
 request_at kind s at =
@@ -61,7 +60,7 @@ request_at kind s at =
 unfoldable pub elements_tail : Body → List ℕ → ℕ → ℕ → Read Fields
 elements_tail body s behindA behindB =
     and_then (field_at s behindB 0 16383) (λ service behind.
-    took (record { behindA = behindA; behindB = behindB; service = Is service; body = body }) behind)
+    took (record { behindA = behindA; behindB = behindB; service = Some service; body = body }) behind)
 
 unfoldable pub elements_at : Body → List ℕ → ℕ → Read Fields
 elements_at body s at =
@@ -71,7 +70,7 @@ elements_at body s at =
 
 -- a body without numbers of digits
 abbrev pub plain_at : ℕ → Body → ℕ → Read Fields
-plain_at at body next = took (record { behindA = at; behindB = at; service = Absent; body = body }) next
+plain_at at body next = took (record { behindA = at; behindB = at; service = None; body = body }) next
 
 -- a type without fields of its own: elements where it has them, or nothing
 abbrev pub bare_at : Body → Carrier → List ℕ → ℕ → Read Fields

@@ -5,14 +5,8 @@ ghost use Rattle.message.specs.Ends.{bytes_end, digits_end};
 ghost use Rattle.message.specs.Answers.{place_told};
 
 use crate::Fault;
-use crate::number::{NumberRead, read_field};
-
-// The place of the first unread byte, or what is wrong.
-#[derive(Clone, Copy)]
-pub enum PlaceRead {
-    Taken(usize),
-    Refused(Fault),
-}
+use crate::number::read_field;
+use crate::refusal::Refusal;
 
 // The place behind so many bytes from a place on; where there are fewer, the place behind the last one.
 #[tactic(auto, unfolding(crate::specs::Ends::bytes_end))]
@@ -43,40 +37,35 @@ fn digits_end(s: &[u8], at: usize, end: usize) -> usize
     next
 }
 
-// So many bytes from a place on, each of them a digit.
-fn scan(s: &[u8], at: usize, count: usize) -> PlaceRead
+// So many bytes from a place on, each of them a digit: the place of the first unread byte, or what is wrong.
+fn scan(s: &[u8], at: usize, count: usize) -> Result<usize, Fault>
     requires { at ≤ length s.now }
     ensures { place_told result ≡ scan_at count s.now at }
 {
     let end = bytes_end(s, at, count);
     let next = digits_end(s, at, end);
     if next < end {
-        return PlaceRead::Refused(Fault {
-            number: 2,
+        return Err(Fault {
+            refusal: Refusal::OutOfRange,
             place: next,
         });
     }
     if s.len() - at < count {
-        return PlaceRead::Refused(Fault {
-            number: 1,
+        return Err(Fault {
+            refusal: Refusal::Faulty,
             place: s.len(),
         });
     }
-    PlaceRead::Taken(end)
+    Ok(end)
 }
 
 // A length from low to 15 and as many digits. The bytes passed are the number's own: they are copied where they are wanted.
 #[tactic(auto, unfolding(crate::specs::Number::digits_at))]
-pub fn read_digits(s: &[u8], at: usize, low: u16) -> PlaceRead
+pub fn read_digits(s: &[u8], at: usize, low: u16) -> Result<usize, Fault>
     ensures { place_told result ≡ digits_at s.now at low }
 {
-    match read_field(s, at, low, 15) {
-        NumberRead::Refused(fault) => PlaceRead::Refused(fault),
-        NumberRead::Value(v, next) => {
-            let count = v as usize;
-            scan(s, next, count)
-        }
-    }
+    let (v, next) = read_field(s, at, low, 15)?;
+    scan(s, next, v as usize)
 }
 
 // Whether sixteen bytes hold a number of at least low digits: exactly if they read as one.
@@ -85,8 +74,8 @@ pub fn digits_in_range(number: [u8; 16], low: u16) -> bool
     ensures { result ≡ digits_in_range low number }
 {
     match read_field(&number, 0, low, 15) {
-        NumberRead::Refused(_) => false,
-        NumberRead::Value(v, next) => {
+        Err(_) => false,
+        Ok((v, next)) => {
             let end = next + v as usize;
             end <= digits_end(&number, next, end)
         }

@@ -6,9 +6,12 @@ pub mod copied;
 pub mod digits;
 pub mod number;
 pub mod range;
+pub mod refusal;
 
 ghost use Rattle.std.specs.Prelude.{◌≡◌};
 ghost use Rattle.message.specs.Format.{request_body, in_setup, has_elements};
+
+use crate::refusal::Refusal;
 
 #[derive(Clone, Copy)]
 pub enum Carrier {
@@ -43,13 +46,6 @@ pub enum Body {
     CallFailed,
 }
 
-// The service of types 5, 6, 9 and 10 in Setup. That of a request stands in its body.
-#[derive(Clone, Copy)]
-pub enum Service {
-    Absent,
-    Is(u64),
-}
-
 // An enum can't hold an array, so the identifier and the two numbers of digits stand beside the body. A number of digits is its length, then its digits; one of no
 // digits is absent. What doesn't count is 0, or Absent, in what the reader makes: the identifier's bytes where the message has none, the places behind a
 // number's last digit, the numbers and the service of a type that lacks them. Numbers stand in requests, and with the service in 5, 6, 9 and 10 in Setup.
@@ -60,15 +56,15 @@ pub struct Message {
     pub identifier: [u8; 16],
     pub numberA: [u8; 16],
     pub numberB: [u8; 16],
-    pub service: Service,
+    pub service: Option<u64>,
     pub body: Body,
 }
 
-// What is wrong with some bytes: document 01's number, and the place in the slice that was given. The first byte of a number that is faulty or out of range;
+// What is wrong with some bytes: document 01's refusal, and the place in the slice that was given. The first byte of a number that is faulty or out of range;
 // a digit that is over 9; the length of the slice where the bytes end too early.
 #[derive(Clone, Copy)]
 pub struct Fault {
-    pub number: u8,
+    pub refusal: Refusal,
     pub place: usize,
 }
 

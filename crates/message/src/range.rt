@@ -3,7 +3,7 @@ ghost use Rattle.std.specs.Prelude.{◌≡◌};
 ghost use Rattle.message.specs.Format.{request_in_range, service_in_range, elements_in_range, fields_in_range, in_range};
 
 use crate::digits::digits_in_range;
-use crate::{Body, Message, Service, has_elements};
+use crate::{Body, Message, has_elements};
 
 // A request whose fields are all in range. Its numberA may be withheld.
 pub fn request_in_range(numberA: [u8; 16], numberB: [u8; 16], service: u16, flags: u8) -> bool
@@ -21,17 +21,17 @@ pub fn request_in_range(numberA: [u8; 16], numberB: [u8; 16], service: u16, flag
     false
 }
 
-fn service_in_range(service: Service) -> bool
+fn service_in_range(service: Option<u64>) -> bool
     ensures { result ≡ service_in_range service }
 {
     match service {
-        Service::Absent => true,
-        Service::Is(n) => n < 16384,
+        None => true,
+        Some(n) => n < 16384,
     }
 }
 
 // Elements that are all in range. Each may be absent.
-pub fn elements_in_range(numberA: [u8; 16], numberB: [u8; 16], service: Service) -> bool
+pub fn elements_in_range(numberA: [u8; 16], numberB: [u8; 16], service: Option<u64>) -> bool
     ensures { result ≡ elements_in_range numberA numberB service }
 {
     if digits_in_range(numberA, 0) {

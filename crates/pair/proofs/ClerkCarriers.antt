@@ -1,4 +1,5 @@
 -- The clerk's end refuses no message of a run with 8: what is sent by a connection choice is sent by one that is taken for the terms of its record.
+use Rattle.std.specs.Prelude.{Option, Some, None, Result}
 use Prim.Native.Nat.{ℕ}
 use mathlib.Core.Path.{◌≡◌, refl, sym, ◌∙◌, ap, subst}
 use mathlib.Core.Bool.{Bool, true, false, false≢true}
@@ -6,11 +7,12 @@ use mathlib.Core.List.{List, ◌∷◌}
 use lib.Dec.{eqb}
 use lib.ListN.{get_or}
 use native.Mathlib.Omega.{arith}
-use borrow.Author.Tests.{eq-eqb}
-use Rattle.lists.specs.declared.Found.{Found}
 use Rattle.lists.proofs.Choice.{pick_elim}
 use Rattle.message.specs.declared.Kind.{Kind}
 use Rattle.message.specs.declared.Message.{Message}
+use Rattle.message.specs.declared.refusal.Refusal.TheVariants.{NotInCarrier}
+use Rattle.message.specs.declared.refusal.Refusal.{Refusal}
+use Rattle.message.specs.Refusals.{refusal_number}
 use Rattle.desk.specs.Carriers.{carrier_fits}
 use Rattle.desk.specs.declared.letter.Letter.{Letter}
 use Rattle.desk.specs.declared.sends.Elements.{Elements}
@@ -19,8 +21,6 @@ use Rattle.places.specs.Places as P
 use Rattle.clerk_table.specs.Inputs.{message_for, row_for}
 use Rattle.clerk_table.specs.Step.{row_taken}
 use Rattle.clerk_table.specs.declared.inputs.Input.{Input}
-use Rattle.clerk_table.specs.declared.inputs.Meant.{Meant as Sort}
-use Rattle.clerk_table.specs.declared.inputs.Meant.TheVariants as Meant
 use Rattle.clerk_table.specs.declared.inputs.RecordMessage.{RecordMessage}
 use Rattle.clerk_table.specs.declared.record.Decision.{Decision}
 use Rattle.clerk_table.specs.declared.record.Decision.TheVariants.{Refuse, Take, Store}
@@ -31,7 +31,6 @@ use Rattle.clerk_records.specs.Meaning.{meaning}
 use Rattle.clerk_plan.specs.Plan.{holds_for, row_decision, message_meant, decided, plan_of, plan_for}
 use Rattle.clerk.specs.Entry.{ask_flags}
 use Rattle.clerk.specs.Steps.{step, entered, received}
-use Rattle.clerk.specs.declared.entry.Entry.{Entry}
 use Rattle.pair_request.specs.Reading as R
 use Rattle.pair_request.proofs.Effects.{Carried}
 use Rattle.pair_request.proofs.Claims.{clerk-carried}
@@ -48,16 +47,20 @@ use Rattle.pair.proofs.Sim.{Asked, Good, Fine}
 use Rattle.pair.proofs.Runs.{Known}
 
 -- ---- a decision that refuses with 8
+abbrev is_eight : Option Refusal → Bool
+is_eight None = false
+is_eight (Some refusal) = eqb (refusal_number refusal) 8
+
 abbrev eight : Decision → Bool
-eight (Refuse number reply) = eqb number 8
+eight (Refuse refusal reply) = eqb (refusal_number refusal) 8
 eight (Take i row) = false
 eight (Store i q) = false
 
-plan-eight : (rs : List Record) (input : Input) (d : Decision) → (plan_of rs input d).outcome.refusal ≡ 8 → eight d ≡ true
+plan-eight : (rs : List Record) (input : Input) (d : Decision) → (plan_of rs input d).outcome.refusal ≡ Some NotInCarrier → eight d ≡ true
 unfolding plan_of row_taken
-plan-eight rs input (Refuse number reply) e = eq-eqb number 8 e
-plan-eight rs input (Take i row) e = absurd (omega (arith, e))
-plan-eight rs input (Store i q) e = absurd (omega (arith, e))
+plan-eight rs input (Refuse refusal reply) e = ap is_eight e
+plan-eight rs input (Take i row) e = ap is_eight e
+plan-eight rs input (Store i q) e = ap is_eight e
 
 -- a carrier that is allowed is not refused
 record-fits :
@@ -67,10 +70,10 @@ record-fits i r l message row fits =
     rw fits (pick_elim (λ (d : Decision). eight d ≡ false) (holds_for row r) (λ h. refl) (λ h. refl))
 
 take-fits :
-    (i : ℕ) (r : Record) (l : Letter) (busy : Bool) (x : Sort) → carrier_fits l.body r.terms.connection l.carrier ≡ true →
+    (i : ℕ) (r : Record) (l : Letter) (busy : Bool) (x : Option RecordMessage) → carrier_fits l.body r.terms.connection l.carrier ≡ true →
     eight (take_decision i r l busy x) ≡ false
-take-fits i r l busy Meant.NotHere fits = refl
-take-fits i r l busy (Meant.Record message) fits = record-fits i r l message (row_for message busy r.terms.keep r.terms.kind) fits
+take-fits i r l busy None fits = refl
+take-fits i r l busy (Some message) fits = record-fits i r l message (row_for message busy r.terms.keep r.terms.kind) fits
 
 -- ---- by the record
 waiting-fits :
@@ -127,17 +130,17 @@ live-fits j i t own s R.failed busy h = by j i t own s busy R.failed refl
 
 -- ---- on the desk
 module _ (j : Elements) (rs : List Record) (m : R.Msg) (busy : Bool) where
-  missed-fits : (x : Sort) → eight (message_meant rs (letter_read j m) busy Means.Nothing x) ≡ false
-  missed-fits Meant.NotHere = refl
-  missed-fits (Meant.Record message) = refl
+  missed-fits : (x : Option RecordMessage) → eight (message_meant rs (letter_read j m) busy Means.Nothing x) ≡ false
+  missed-fits None = refl
+  missed-fits (Some message) = refl
 
-  late-fits : (x : Sort) → eight (message_meant rs (letter_read j m) busy Means.NotNow x) ≡ false
-  late-fits Meant.NotHere = refl
-  late-fits (Meant.Record message) = refl
+  late-fits : (x : Option RecordMessage) → eight (message_meant rs (letter_read j m) busy Means.NotNow x) ≡ false
+  late-fits None = refl
+  late-fits (Some message) = refl
 
-  at-decision : (i : ℕ) (x : Sort) → message_meant rs (letter_read j m) busy (Means.At i) x ≡ take_decision i (get_or rs i blank) (letter_read j m) busy x
-  at-decision i Meant.NotHere = refl
-  at-decision i (Meant.Record message) = refl
+  at-decision : (i : ℕ) (x : Option RecordMessage) → message_meant rs (letter_read j m) busy (Means.At i) x ≡ take_decision i (get_or rs i blank) (letter_read j m) busy x
+  at-decision i None = refl
+  at-decision i (Some message) = refl
 
   taken-fits :
       (i : ℕ) (r : Record) → P.one (get_or rs i blank) ≡ P.one r → eight (take_decision i r (letter_read j m) busy (message_for (letter_read j m).body)) ≡ false →
@@ -147,7 +150,7 @@ module _ (j : Elements) (rs : List Record) (m : R.Msg) (busy : Bool) where
       ∙ at-record rs i r (λ (x : Record). eight (take_decision i x (letter_read j m) busy (message_for (letter_read j m).body)) ≡ false) h fits
 
   found-fits :
-      (c : R.Clerk) (f : Found) (means : Means) → Meant clerk_sight rs (set_of j m) (ready_for j m) f means → there clerk_sight rs f ≡ clerk_read j c →
+      (c : R.Clerk) (f : Option ℕ) (means : Means) → Meant clerk_sight rs (set_of j m) (ready_for j m) f means → there clerk_sight rs f ≡ clerk_read j c →
       ((t : R.Terms) (own : R.Own) (s : R.CState) → c ≡ R.live t own s → Carried t m) → eight (message_meant rs (letter_read j m) busy means (message_for (letter_read j m).body)) ≡ false
   found-fits c f means missed h carried = missed-fits (message_for (letter_read j m).body)
   found-fits c f means (no_longer set) h carried = late-fits (message_for (letter_read j m).body)
@@ -157,8 +160,8 @@ module _ (j : Elements) (rs : List Record) (m : R.Msg) (busy : Bool) where
   found-fits (R.live t own s) f means (found i) h carried = taken-fits i (live_record j t own s) h (live-fits j i t own s m busy (carried t own s refl))
 
   message-fits :
-      (place : ℕ) (c : R.Clerk) (f : Found) → Meant clerk_sight rs (set_of j m) (ready_for j m) f (meaning (letter_read j m) place rs) → there clerk_sight rs f ≡ clerk_read j c →
-      ((t : R.Terms) (own : R.Own) (s : R.CState) → c ≡ R.live t own s → Carried t m) → (plan_for rs (Input.Message (letter_read j m) busy place)).outcome.refusal ≡ 8 → ⊥
+      (place : ℕ) (c : R.Clerk) (f : Option ℕ) → Meant clerk_sight rs (set_of j m) (ready_for j m) f (meaning (letter_read j m) place rs) → there clerk_sight rs f ≡ clerk_read j c →
+      ((t : R.Terms) (own : R.Own) (s : R.CState) → c ≡ R.live t own s → Carried t m) → (plan_for rs (Input.Message (letter_read j m) busy place)).outcome.refusal ≡ Some NotInCarrier → ⊥
   unfolding plan_for decided
   message-fits place c f means h carried refused =
       let input = Input.Message (letter_read j m) busy place in
@@ -167,15 +170,15 @@ module _ (j : Elements) (rs : List Record) (m : R.Msg) (busy : Bool) where
 -- ---- in a world of a run
 pub clerk-fits :
     {K : Type 0} {n : Naming K} (tells : Tells n) {Inv : World → Type 0} {k : K} {p : R.Policy} {w : World} (g : Good p w) → Known n Inv k p w → (x : Of Message) (rest : List (Of Message)) (busy : Bool) (place : ℕ) →
-    n.key (label_of x) ≡ k → w.down ≡ x ∷ rest → Worded (Asked w.history) (x ∷ rest) → Fine n k w (clerk_hears busy place) → (received w.clerk w.count x.it busy place).outcome.refusal ≡ 8 → ⊥
+    n.key (label_of x) ≡ k → w.down ≡ x ∷ rest → Worded (Asked w.history) (x ∷ rest) → Fine n k w (clerk_hears busy place) → (received w.clerk w.count x.it busy place).outcome.refusal ≡ Some NotInCarrier → ⊥
 unfolding entered step
 clerk-fits {n = n} tells {k = k} {w = w} g known x rest busy place key e (word l m taken clear others) fine refused =
     let rs = records w.clerk.words in
     let own : n.key (label l) ≡ k = sym (ap n.key (worded-label l m (clear-name l.it m clear))) ∙ key in
     let head = hear_head tells g busy place l m rest e taken clear others k known.net known.sim fine own in
     let h = head.0 in
-    let heard : (plan_for rs (Input.Message (letter_read l.it m) busy place)).outcome.refusal ≡ 8 =
-    ap (λ (y : Entry). (entered w.clerk w.count y).outcome.refusal) (sym (entry-as tells g busy place l m rest e taken clear others)) ∙ refused in
+    let heard : (plan_for rs (Input.Message (letter_read l.it m) busy place)).outcome.refusal ≡ Some NotInCarrier =
+    ap (λ (y : Result Input Refusal). (entered w.clerk w.count y).outcome.refusal) (sym (entry-as tells g busy place l m rest e taken clear others)) ∙ refused in
     message-fits known.sim.name rs h.code busy place known.net.clerk known.sim.clerk_place head.1.1 known.sim.clerk
     (λ t own s q. clerk-carried t own s h.code h.left known.reach q h.whole)
-    (subst (λ (y : Letter). (plan_for rs (Input.Message y busy place)).outcome.refusal ≡ 8) head.1.0 heard)
+    (subst (λ (y : Letter). (plan_for rs (Input.Message y busy place)).outcome.refusal ≡ Some NotInCarrier) head.1.0 heard)

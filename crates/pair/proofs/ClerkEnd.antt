@@ -1,4 +1,6 @@
 -- The clerk's desk does what the reading says: its decisions on one record by cases, and then on the desk by the place of the record that is meant.
+use Rattle.lists.specs.declared.words.Words.{Words}
+use Rattle.std.specs.Prelude.{Option, Some, None}
 use Prim.Native.Nat.{ℕ}
 use mathlib.Core.Path.{◌≡◌, refl, sym, ap, ◌∙◌, subst}
 use mathlib.Core.Bool.{Bool, true, false}
@@ -7,8 +9,6 @@ use mathlib.Core.List.{List, [], ◌∷◌, map}
 use lib.ListN.{get_or}
 use native.Mathlib.Omega.{arith}
 use Rattle.lists.specs.Choice.{pick}
-use Rattle.lists.specs.declared.Found.{Found}
-use Rattle.lists.specs.declared.Found.TheVariants.{At, Nothing}
 use Rattle.lists.proofs.Choice.{pick_elim, no_true}
 use Rattle.lists.proofs.Lists.{both_true}
 use Rattle.message.specs.Format.{request_body, has_elements}
@@ -17,16 +17,14 @@ use Rattle.message.specs.declared.Body.TheVariants.{CcCancel}
 use Rattle.message.specs.declared.Carrier.{Carrier}
 use Rattle.message.specs.declared.Kind.{Kind}
 use Rattle.message.specs.declared.Kind.TheVariants.{Ccbs, Ccnr}
+use Rattle.message.specs.declared.refusal.Refusal.TheVariants.{NotHere, NoRecord, NoRow, NotInCarrier, NotRunning}
+use Rattle.message.specs.declared.refusal.Refusal.{Refusal}
 use Rattle.desk.specs.Carriers.{carrier_fits}
 use Rattle.desk.specs.Letter.{message_of}
 use Rattle.desk.specs.Sends.{plain_letter, answered}
 use Rattle.desk.specs.declared.Connection.{Connection}
-use Rattle.desk.specs.declared.letter.Identifier.{Identifier}
-use Rattle.desk.specs.declared.letter.Identifier.TheVariants.{Absent, Is}
 use Rattle.desk.specs.declared.letter.Letter.{Letter}
-use Rattle.desk.specs.declared.outcome.Sending.TheVariants as Sending
 use Rattle.desk.specs.declared.sends.Elements.{Elements}
-use Rattle.desk.specs.declared.sends.Sends.{Sends}
 use Rattle.terms.specs.Terms.{elements_of}
 use Rattle.terms.specs.Means.{fits, oldest}
 use Rattle.terms.specs.Request.{letter_names}
@@ -41,8 +39,8 @@ use Rattle.clerk_table.specs.Table.{effect_of, holds_in}
 use Rattle.clerk_table.specs.Inputs.{names_of, message_for, row_for, row_of_act, row_of_timer, reply_unmatched, reply_in_setup, reply_unfit, settled, settled_by}
 use Rattle.clerk_table.specs.declared.table.Row.{Row}
 use Rattle.clerk_table.specs.declared.table.Home.TheVariants.{Always}
-use Rattle.clerk_table.specs.declared.table.Next.{Next}
-use Rattle.clerk_table.specs.declared.table.Next.TheVariants.{Gone, Same, To}
+use Rattle.desk.specs.declared.plan.Next.{Next}
+use Rattle.desk.specs.declared.plan.Next.TheVariants.{Gone, Same, To}
 use Rattle.clerk_table.specs.declared.table.Timer.{Timer}
 use Rattle.clerk_table.specs.declared.table.Timer.TheVariants.{T1, T2, T3}
 use Rattle.clerk_table.specs.declared.record.Record.{Record}
@@ -50,13 +48,11 @@ use Rattle.clerk_table.specs.declared.record.Change.{Change}
 use Rattle.clerk_table.specs.declared.record.Change.TheVariants.{Stay, Put, Turn, Remove}
 use Rattle.clerk_table.specs.declared.record.Decision.{Decision}
 use Rattle.clerk_table.specs.declared.record.Decision.TheVariants.{Refuse, Take, Store}
-use Rattle.clerk_table.specs.declared.record.Plan.{Plan}
+use Rattle.desk.specs.declared.plan.Plan.{Plan}
 use Rattle.clerk_table.specs.declared.inputs.Act.{Act}
 use Rattle.clerk_table.specs.declared.inputs.Input.{Input}
-use Rattle.clerk_table.specs.declared.inputs.Meant.{Meant as Sort}
 use Rattle.clerk_table.specs.declared.inputs.RecordMessage.{RecordMessage}
 use Rattle.clerk_table.specs.declared.inputs.RecordMessage.TheVariants as Message
-use Rattle.clerk_table.specs.declared.inputs.Meant.TheVariants as Meant
 use Rattle.clerk_records.specs.Records.{blank, used, records, meant, place, turned, records_after}
 use Rattle.clerk_records.specs.Meaning as Meaning
 use Rattle.clerk_records.specs.Meaning.{identifier_means, fitting, is_for, elements_mean, meaning, named}
@@ -77,6 +73,7 @@ use Rattle.pair.proofs.Changes.{Own, stays, turns, stores, removes, own-did}
 use Rattle.pair.proofs.Grounds.{clerk-full}
 use Rattle.pair.proofs.Means.{or_else, place_means, meaning_in, own-fits, Meant, found, late, missed, no_longer}
 use Rattle.pair.proofs.Letters.{letter-name, letter-body, letter-carrier, set-names, ask-letter}
+use Rattle.clerk_table.specs.declared.table.State.{State}
 
 -- ---- what a plan says of the one request that it is about
 -- what a change leaves of the record that it is about
@@ -88,13 +85,13 @@ leaves (Turn i t) (one r) = one (turned t r)
 leaves (Remove i) before = none
 
 -- it leaves and sends what an answer of the reading says
-abbrev pub Says : Elements → Plan → Held Record → R.CAnswer → Type 0
+abbrev pub Says : Elements → Plan Change → Held Record → R.CAnswer → Type 0
 Says j plan before answer =
     (leaves plan.change before ≡ clerk_read j answer.0) × (sent_by plan.outcome.sending ≡ map (message_read j) answer.1)
 
 -- a plan by the record that it is about
-abbrev plan_at : Input → Record → Decision → Plan
-plan_at input r (Refuse number reply) = refused_plan number (answered (names_of input).identifier reply)
+abbrev plan_at : Input → Record → Decision → Plan Change
+plan_at input r (Refuse refusal reply) = refused_plan refusal (answered (names_of input).identifier reply)
 plan_at input r (Take i row) = row_taken i (settled_by input r) row
 plan_at input r (Store i q) = stored_plan i (names_of input) q
 
@@ -102,15 +99,15 @@ plan_at input r (Store i q) = stored_plan i (names_of input) q
 abbrev pub heard : Elements → R.Msg → Bool → ℕ → Input
 heard j m busy place = Input.Message (letter_read j m) busy place
 
-abbrev pub take_decision : ℕ → Record → Letter → Bool → Sort → Decision
-take_decision i r l busy Meant.NotHere = Refuse 3 Sends.Nothing
-take_decision i r l busy (Meant.Record message) = record_decision i r l busy message
+abbrev pub take_decision : ℕ → Record → Letter → Bool → Option RecordMessage → Decision
+take_decision i r l busy None = Refuse NotHere None
+take_decision i r l busy (Some message) = record_decision i r l busy message
 
-abbrev take_plan : ℕ → Record → Elements → R.Msg → Bool → Plan
+abbrev take_plan : ℕ → Record → Elements → R.Msg → Bool → Plan Change
 take_plan i r j m busy = plan_at (heard j m busy 0) r (take_decision i r (letter_read j m) busy (message_for (letter_read j m).body))
 
 -- a request is for the line
-pub request-away : (kind : Kind) (service flags : ℕ) → message_for (request_body kind service flags) ≡ Meant.NotHere
+pub request-away : (kind : Kind) (service flags : ℕ) → message_for (request_body kind service flags) ≡ None
 request-away Ccbs service flags = refl
 request-away Ccnr service flags = refl
 
@@ -141,7 +138,7 @@ ready_for j m r = is_for (letter_read j m).body r
 
 -- some fit, none in a state that the message is for: 7, with the reply of 7, which is that of 6
 module _ (j : Elements) (rs : List Record) (busy : Bool) where
-  abbrev LatePlan : R.Msg → Plan
+  abbrev LatePlan : R.Msg → Plan Change
   LatePlan m = plan_of rs (heard j m busy 0) (message_meant rs (letter_read j m) busy Means.NotNow (message_for (letter_read j m).body))
 
   gone-takes : (m : R.Msg) → set_of j m ≡ true → Says j (LatePlan m) none (R.clerk_takes R.absent m busy)
@@ -327,11 +324,11 @@ row_read (R.timer x) = row_of_timer x
 row_read (R.signal call_died) = Row.CallFails
 row_read (R.signal rejected) = Row.DeniedShort
 
-abbrev own_plan : ℕ → Record → Row → ℕ → Plan
-own_plan i r row refusal = pick (holds_for row r) (row_taken i r row) (refused_plan refusal Sending.Nothing)
+abbrev own_plan : ℕ → Record → Row → Refusal → Plan Change
+own_plan i r row refusal = pick (holds_for row r) (row_taken i r row) (refused_plan refusal None)
 
 waiting-acts :
-    (j : Elements) (i : ℕ) (d : R.Data) (kind : Kind) (x : R.CAct) (refusal : ℕ) →
+    (j : Elements) (i : ℕ) (d : R.Data) (kind : Kind) (x : R.CAct) (refusal : Refusal) →
     Says j (own_plan i (waiting_record j d kind) (row_read x) refusal) (one (waiting_record j d kind)) (R.clerk_acts (R.waiting d kind) x)
 unfolding row_taken R.clerk_acts R.waiting_acts R.clerk_takes R.in_ringing
 waiting-acts j i d kind (R.act Act.Accept) refusal = (refl, refl)
@@ -347,8 +344,8 @@ waiting-acts j i d kind (R.signal rejected) refusal = (refl, refl)
 
 -- a row that ends the record with a ccCancel, in a state where it is taken; and one that is always taken
 live-cancels :
-    (j : Elements) (i : ℕ) (t : R.Terms) (own : R.Own) (s : R.CState) (row : Row) (refusal : ℕ) →
-    holds_for row (live_record j t own s) ≡ true → (effect_of row).next ≡ Gone → (effect_of row).sends ≡ Sends.One CcCancel →
+    (j : Elements) (i : ℕ) (t : R.Terms) (own : R.Own) (s : R.CState) (row : Row) (refusal : Refusal) →
+    holds_for row (live_record j t own s) ≡ true → (effect_of row).next ≡ Gone → (effect_of row).sends ≡ Some CcCancel →
     Says j (own_plan i (live_record j t own s) row refusal) (one (live_record j t own s)) (R.absent, R.cancel (R.way t own) ∷ [])
 unfolding row_taken
 live-cancels j i (R.chosen d k R.ret) (R.has kind true) s row refusal held ends cancels = rw (held, ends, cancels) (refl, refl)
@@ -362,7 +359,7 @@ always R.ringing c = refl
 always R.suspended c = refl
 
 live-acts :
-    (j : Elements) (i : ℕ) (t : R.Terms) (own : R.Own) (s : R.CState) (x : R.CAct) (refusal : ℕ) →
+    (j : Elements) (i : ℕ) (t : R.Terms) (own : R.Own) (s : R.CState) (x : R.CAct) (refusal : Refusal) →
     Says j (own_plan i (live_record j t own s) (row_read x) refusal) (one (live_record j t own s)) (R.clerk_acts (R.live t own s) x)
 unfolding row_taken R.clerk_acts R.live_acts R.clerk_takes R.in_ringing
 live-acts j i t own R.invoked (R.act Act.Accept) refusal = (refl, refl)
@@ -446,14 +443,14 @@ pub at-record : (rs : List Record) (i : ℕ) (r : Record) (P : Record → Type 0
 at-record rs i r P h p = subst P (sym (the_one (get_or rs i blank) r h)) p
 
 module _ (rs : List Record) (input : Input) where
-  abbrev OwnChange : Found → Change → Type 0
+  abbrev OwnChange : Option ℕ → Change → Type 0
   OwnChange f change = Own clerk_sight rs f (clerk_change change) (records_after rs change) (leaves change (there clerk_sight rs f))
 
-  pub own-taken : (i : ℕ) (row : Row) → OwnChange (At i) (plan_of rs input (Take i row)).change
+  pub own-taken : (i : ℕ) (row : Row) → OwnChange (Some i) (plan_of rs input (Take i row)).change
   unfolding plan_of row_taken
   own-taken i row = by (effect_of row).next
     where
-      by : (next : Next) → OwnChange (At i) (changed next (effect_of row).kind (effect_of row).falls i (settled_by input (get_or rs i blank)))
+      by : (next : Next State) → OwnChange (Some i) (changed next (effect_of row).kind (effect_of row).falls i (settled_by input (get_or rs i blank)))
       by Gone = removes i
       by Same = turns i _
       by (To state) = turns i _
@@ -462,7 +459,7 @@ module _ (rs : List Record) (input : Input) where
   unfolding plan_of row_taken
   touches_taken i row = by (effect_of row).next
     where
-      by : (next : Next) → Touches i (clerk_change (changed next (effect_of row).kind (effect_of row).falls i (settled_by input (get_or rs i blank))))
+      by : (next : Next State) → Touches i (clerk_change (changed next (effect_of row).kind (effect_of row).falls i (settled_by input (get_or rs i blank))))
       by Gone = by_removal
       by Same = by_turn
       by (To state) = by_turn
@@ -471,17 +468,17 @@ module _ (rs : List Record) (input : Input) where
 -- the place that is named is no part of a plan, but for the record that it means
 plan-place : (rs : List Record) (j : Elements) (m : R.Msg) (busy : Bool) (place : ℕ) (d : Decision) → plan_of rs (heard j m busy place) d ≡ plan_of rs (heard j m busy 0) d
 unfolding plan_of
-plan-place rs j m busy place (Refuse number reply) = refl
+plan-place rs j m busy place (Refuse refusal reply) = refl
 plan-place rs j m busy place (Take i row) = refl
 plan-place rs j m busy place (Store i q) = refl
 
 module _ (rs : List Record) (j : Elements) (m : R.Msg) (busy : Bool) where
   take_at :
-      (i : ℕ) (input : Input) (l : Letter) (x : Sort) →
+      (i : ℕ) (input : Input) (l : Letter) (x : Option RecordMessage) →
       plan_of rs input (message_meant rs l busy (Means.At i) x) ≡ plan_at input (get_or rs i blank) (take_decision i (get_or rs i blank) l busy x)
   unfolding plan_of
-  take_at i input l Meant.NotHere = refl
-  take_at i input l (Meant.Record message) =
+  take_at i input l None = refl
+  take_at i input l (Some message) =
       let r = get_or rs i blank in
       pick_elim (λ (d : Decision). plan_of rs input d ≡ plan_at input r d) (holds_for (row_for message busy r.terms.keep r.terms.kind) r)
       (λ h.
@@ -490,14 +487,14 @@ module _ (rs : List Record) (j : Elements) (m : R.Msg) (busy : Bool) where
       (λ g. refl))
       (λ h. refl)
 
-  abbrev pub takes : Means → Plan
+  abbrev pub takes : Means → Plan Change
   takes means = plan_of rs (heard j m busy 0) (message_meant rs (letter_read j m) busy means (message_for (letter_read j m).body))
 
   taken-says :
       (c : R.Clerk) (i : ℕ) (r : Record) → one (get_or rs i blank) ≡ one r → Says j (take_plan i r j m busy) (one r) (R.clerk_takes c m busy) →
       Says j (takes (Means.At i)) (one (get_or rs i blank)) (R.clerk_takes c m busy)
   taken-says c i r h says =
-      subst (λ (plan : Plan). Says j plan (one (get_or rs i blank)) (R.clerk_takes c m busy))
+      subst (λ (plan : Plan Change). Says j plan (one (get_or rs i blank)) (R.clerk_takes c m busy))
       (sym (take_at i (heard j m busy 0) (letter_read j m) (message_for (letter_read j m).body)))
       (at-record rs i r (λ (x : Record). Says j (take_plan i x j m busy) (one x) (R.clerk_takes c m busy)) h says)
 
@@ -514,7 +511,7 @@ module _ (rs : List Record) (j : Elements) (m : R.Msg) (busy : Bool) where
   found-says (R.live t own s) i h = taken-says (R.live t own s) i (live_record j t own s) h (live-takes j i t own s m busy)
 
   found-takes :
-      (c : R.Clerk) (f : Found) (means : Means) → Meant clerk_sight rs (set_of j m) (ready_for j m) f means → there clerk_sight rs f ≡ clerk_read j c →
+      (c : R.Clerk) (f : Option ℕ) (means : Means) → Meant clerk_sight rs (set_of j m) (ready_for j m) f means → there clerk_sight rs f ≡ clerk_read j c →
       Says j (takes means) (there clerk_sight rs f) (R.clerk_takes c m busy)
   found-takes c f means (found i) h = found-says c i h
   found-takes R.absent f means missed h = absent-takes j rs m busy
@@ -529,44 +526,44 @@ module _ (rs : List Record) (j : Elements) (m : R.Msg) (busy : Bool) where
   found-takes (R.live t own s) f means (late i set ready) h =
       late-says (R.live t own s) i (live_record j t own s) h ready (live-late j rs busy t own s m set)
 
-  stays-takes : (f : Found) (means : Means) (x : Sort) → ((i : ℕ) → means ≡ Means.At i → f ≡ At i) → OwnChange rs (heard j m busy 0) f (plan_of rs (heard j m busy 0) (message_meant rs (letter_read j m) busy means x)).change
+  stays-takes : (f : Option ℕ) (means : Means) (x : Option RecordMessage) → ((i : ℕ) → means ≡ Means.At i → f ≡ Some i) → OwnChange rs (heard j m busy 0) f (plan_of rs (heard j m busy 0) (message_meant rs (letter_read j m) busy means x)).change
   unfolding plan_of
-  stays-takes f means Meant.NotHere same = stays
-  stays-takes f Means.Nothing (Meant.Record message) same = stays
-  stays-takes f Means.NotNow (Meant.Record message) same = stays
-  stays-takes f (Means.At i) (Meant.Record message) same =
+  stays-takes f means None same = stays
+  stays-takes f Means.Nothing (Some message) same = stays
+  stays-takes f Means.NotNow (Some message) same = stays
+  stays-takes f (Means.At i) (Some message) same =
       let r = get_or rs i blank in
       let input = heard j m busy 0 in
       let row = row_for message busy r.terms.keep r.terms.kind in
       let l = letter_read j m in
-      subst (λ (g : Found). OwnChange rs input g (plan_of rs input (message_meant rs l busy (Means.At i) (Meant.Record message))).change) (sym (same i refl))
-      (pick_elim (λ (d : Decision). OwnChange rs input (At i) (plan_of rs input d).change) (holds_for row r)
+      subst (λ (g : Option ℕ). OwnChange rs input g (plan_of rs input (message_meant rs l busy (Means.At i) (Some message))).change) (sym (same i refl))
+      (pick_elim (λ (d : Decision). OwnChange rs input (Some i) (plan_of rs input d).change) (holds_for row r)
       (λ h.
-      pick_elim (λ (d : Decision). OwnChange rs input (At i) (plan_of rs input d).change) (carrier_fits l.body r.terms.connection l.carrier)
+      pick_elim (λ (d : Decision). OwnChange rs input (Some i) (plan_of rs input d).change) (carrier_fits l.body r.terms.connection l.carrier)
       (λ g. own-taken rs input i row)
       (λ g. stays))
       (λ h. stays))
 
-  own-takes : (f : Found) (means : Means) → Meant clerk_sight rs (set_of j m) (ready_for j m) f means → OwnChange rs (heard j m busy 0) f (takes means).change
+  own-takes : (f : Option ℕ) (means : Means) → Meant clerk_sight rs (set_of j m) (ready_for j m) f means → OwnChange rs (heard j m busy 0) f (takes means).change
   own-takes f means x = stays-takes f means (message_for (letter_read j m).body) (by x)
     where
-      by : {g : Found} {y : Means} → Meant clerk_sight rs (set_of j m) (ready_for j m) g y → (i : ℕ) → y ≡ Means.At i → g ≡ At i
-      by (found k) i e = ap At (let z : k ≡ i = cc in z)
+      by : {g : Option ℕ} {y : Means} → Meant clerk_sight rs (set_of j m) (ready_for j m) g y → (i : ℕ) → y ≡ Means.At i → g ≡ Some i
+      by (found k) i e = ap Some (let z : k ≡ i = cc in z)
       by (late k set ready) i e = let z : ◌≡◌ {A = ℕ} 0 1 = cc in absurd (omega (arith, z))
       by missed i e = let z : ◌≡◌ {A = ℕ} 0 1 = cc in absurd (omega (arith, z))
       by (no_longer set) i e = let z : ◌≡◌ {A = ℕ} 0 1 = cc in absurd (omega (arith, z))
 
 -- ---- any message, whosever it is: refused, with a reply of its own or none; or taken for the record that it means, as if it were of that one
-pub data Heard (rs : List Record) (j : Elements) (m : R.Msg) (busy : Bool) (means : Means) (plan : Plan) : Type 0 where
+pub data Heard (rs : List Record) (j : Elements) (m : R.Msg) (busy : Bool) (means : Means) (plan : Plan Change) : Type 0 where
   replies : (ms : List R.Msg) → plan.change ≡ Stay → sent_by plan.outcome.sending ≡ map (message_read j) ms → NoReq ms → Heard rs j m busy means plan
   turns-row :
       (i : ℕ) → means ≡ Means.At i → Touches i (clerk_change plan.change) →
-      Own clerk_sight rs (At i) (clerk_change plan.change) (records_after rs plan.change) (leaves plan.change (one (get_or rs i blank))) →
+      Own clerk_sight rs (Some i) (clerk_change plan.change) (records_after rs plan.change) (leaves plan.change (one (get_or rs i blank))) →
       ((y : Elements) (c : R.Clerk) → one (get_or rs i blank) ≡ clerk_read y c → Says y plan (one (get_or rs i blank)) (R.clerk_takes c m busy)) → Heard rs j m busy means plan
 
 -- a reply is a ccCancel, or there is none
-abbrev Cancels : Sends → Type 0
-Cancels reply = (reply ≡ Sends.Nothing) ⊎ (reply ≡ Sends.One CcCancel)
+abbrev Cancels : Option Body → Type 0
+Cancels reply = (reply ≡ None) ⊎ (reply ≡ Some CcCancel)
 
 unmatched_cancels : (message : RecordMessage) → Cancels (reply_unmatched message)
 unmatched_cancels (Message.Result keep) = inr refl
@@ -597,12 +594,12 @@ module _ (rs : List Record) (j : Elements) (m : R.Msg) (busy : Bool) where
   abbrev input : Input
   input = heard j m busy 0
 
-  refuses-heard : (means : Means) (number : ℕ) (reply : Sends) → Cancels reply → Heard rs j m busy means (plan_of rs input (Refuse number reply))
+  refuses-heard : (means : Means) (refusal : Refusal) (reply : Option Body) → Cancels reply → Heard rs j m busy means (plan_of rs input (Refuse refusal reply))
   unfolding plan_of
-  refuses-heard means number reply (inl e) = replies [] refl (ap (λ (x : Sends). sent_by (answered (letter_read j m).identifier x)) e) tt
-  refuses-heard means number reply (inr e) =
+  refuses-heard means refusal reply (inl e) = replies [] refl (ap (λ (x : Option Body). sent_by (answered (letter_read j m).identifier x)) e) tt
+  refuses-heard means refusal reply (inr e) =
       replies (R.cancel R.ret ∷ []) refl
-      (ap (λ (x : Sends). sent_by (answered (letter_read j m).identifier x)) e ∙ ap (λ (x : Identifier). message_of (plain_letter x Carrier.ReleaseComplete CcCancel) ∷ []) (letter-name j m)) (tt, tt)
+      (ap (λ (x : Option Body). sent_by (answered (letter_read j m).identifier x)) e ∙ ap (λ (x : Option Words). message_of (plain_letter x Carrier.ReleaseComplete CcCancel) ∷ []) (letter-name j m)) (tt, tt)
 
 -- a row is taken by the body and the carrier, which a message of another request has too
 module _ (rs : List Record) (j : Elements) (m : R.Msg) (busy : Bool) (plain : NotReq m) where
@@ -612,15 +609,15 @@ module _ (rs : List Record) (j : Elements) (m : R.Msg) (busy : Bool) (plain : No
       ap (λ (b : Body). row_taken i (settled (message_for b) (letter_read y m).carrier (get_or rs i blank)) row) (letter-body y j m plain)
       ∙ ap (λ (c : Carrier). row_taken i (settled (message_for (letter_read j m).body) c (get_or rs i blank)) row) (letter-carrier y j m)
 
-  same-decision : (y : Elements) (i : ℕ) (x : Sort) → message_meant rs (letter_read y m) busy (Means.At i) x ≡ message_meant rs (letter_read j m) busy (Means.At i) x
-  same-decision y i Meant.NotHere = refl
-  same-decision y i (Meant.Record message) = rw (letter-body y j m plain, letter-carrier y j m)
+  same-decision : (y : Elements) (i : ℕ) (x : Option RecordMessage) → message_meant rs (letter_read y m) busy (Means.At i) x ≡ message_meant rs (letter_read j m) busy (Means.At i) x
+  same-decision y i None = refl
+  same-decision y i (Some message) = rw (letter-body y j m plain, letter-carrier y j m)
 
   row-heard :
       (means : Means) (i : ℕ) → means ≡ Means.At i → (message : RecordMessage) →
       ((y : Elements) (c : R.Clerk) → one (get_or rs i blank) ≡ clerk_read y c →
-      Says y (plan_of rs (heard y m busy 0) (message_meant rs (letter_read j m) busy (Means.At i) (Meant.Record message))) (one (get_or rs i blank)) (R.clerk_takes c m busy)) →
-      Heard rs j m busy means (plan_of rs (heard j m busy 0) (message_meant rs (letter_read j m) busy (Means.At i) (Meant.Record message)))
+      Says y (plan_of rs (heard y m busy 0) (message_meant rs (letter_read j m) busy (Means.At i) (Some message))) (one (get_or rs i blank)) (R.clerk_takes c m busy)) →
+      Heard rs j m busy means (plan_of rs (heard j m busy 0) (message_meant rs (letter_read j m) busy (Means.At i) (Some message)))
   row-heard means i at message =
       let r = get_or rs i blank in
       let l = letter_read j m in
@@ -636,27 +633,27 @@ module _ (rs : List Record) (j : Elements) (m : R.Msg) (busy : Bool) (plain : No
       (carrier_fits l.body r.terms.connection l.carrier)
       (λ g says.
       turns-row i at (touches_taken rs (heard j m busy 0) i row) (own-taken rs (heard j m busy 0) i row)
-      (λ y c read. subst (λ (plan : Plan). Says y plan (one r) (R.clerk_takes c m busy)) (same_row y i row) (says y c read)))
-      (λ g says. refuses-heard rs j m busy means 8 (reply_unfit message l.carrier) (unfit-cancels message l.carrier)))
-      (λ h says. refuses-heard rs j m busy means 7 (reply_unfit message l.carrier) (unfit-cancels message l.carrier))
+      (λ y c read. subst (λ (plan : Plan Change). Says y plan (one r) (R.clerk_takes c m busy)) (same_row y i row) (says y c read)))
+      (λ g says. refuses-heard rs j m busy means NotInCarrier (reply_unfit message l.carrier) (unfit-cancels message l.carrier)))
+      (λ h says. refuses-heard rs j m busy means NoRow (reply_unfit message l.carrier) (unfit-cancels message l.carrier))
 
-  any-heard : (means : Means) (x : Sort) → message_for (letter_read j m).body ≡ x → Heard rs j m busy means (plan_of rs (heard j m busy 0) (message_meant rs (letter_read j m) busy means x))
-  any-heard means Meant.NotHere e = refuses-heard rs j m busy means 3 Sends.Nothing (inl refl)
-  any-heard Means.Nothing (Meant.Record message) e = refuses-heard rs j m busy Means.Nothing 6 (reply_unmatched message) (unmatched_cancels message)
-  any-heard Means.NotNow (Meant.Record message) e = refuses-heard rs j m busy Means.NotNow 7 (reply_unfit message (letter_read j m).carrier) (unfit-cancels message (letter_read j m).carrier)
-  any-heard (Means.At i) (Meant.Record message) e =
+  any-heard : (means : Means) (x : Option RecordMessage) → message_for (letter_read j m).body ≡ x → Heard rs j m busy means (plan_of rs (heard j m busy 0) (message_meant rs (letter_read j m) busy means x))
+  any-heard means None e = refuses-heard rs j m busy means NotHere None (inl refl)
+  any-heard Means.Nothing (Some message) e = refuses-heard rs j m busy Means.Nothing NoRecord (reply_unmatched message) (unmatched_cancels message)
+  any-heard Means.NotNow (Some message) e = refuses-heard rs j m busy Means.NotNow NoRow (reply_unfit message (letter_read j m).carrier) (unfit-cancels message (letter_read j m).carrier)
+  any-heard (Means.At i) (Some message) e =
       row-heard (Means.At i) i refl message
       (λ y c read.
       subst (λ (d : Decision). Says y (plan_of rs (heard y m busy 0) d) (one (get_or rs i blank)) (R.clerk_takes c m busy))
       (ap (λ (b : Body). message_meant rs (letter_read y m) busy (Means.At i) (message_for b)) (letter-body y j m plain)
       ∙ ap (message_meant rs (letter_read y m) busy (Means.At i)) e
-      ∙ same-decision y i (Meant.Record message))
+      ∙ same-decision y i (Some message))
       (found-says rs y m busy c i read))
 
 -- a request is for the line
 pub data Sorted (j : Elements) (m : R.Msg) : Type 0 where
   ours : NotReq m → Sorted j m
-  away : message_for (letter_read j m).body ≡ Meant.NotHere → Sorted j m
+  away : message_for (letter_read j m).body ≡ None → Sorted j m
 
 sorted : (j : Elements) (m : R.Msg) → Sorted j m
 sorted j (R.request d kind q) = away (request-away kind j.service (ask_flags d.canKeep q))
@@ -677,15 +674,15 @@ all-heard :
     Heard rs j m busy means (plan_of rs (heard j m busy 0) (message_meant rs (letter_read j m) busy means (message_for (letter_read j m).body)))
 all-heard rs j m busy means (ours plain) = any-heard rs j m busy plain means (message_for (letter_read j m).body) refl
 all-heard rs j m busy means (away e) =
-    subst (λ (x : Sort). Heard rs j m busy means (plan_of rs (heard j m busy 0) (message_meant rs (letter_read j m) busy means x))) (sym e)
-    (refuses-heard rs j m busy means 3 Sends.Nothing (inl refl))
+    subst (λ (x : Option RecordMessage). Heard rs j m busy means (plan_of rs (heard j m busy 0) (message_meant rs (letter_read j m) busy means x))) (sym e)
+    (refuses-heard rs j m busy means NotHere None (inl refl))
 
 -- ---- an act, a timer's report, a signal: refused without a word, or taken for the record at a place
-pub data Acted (rs : List Record) (x : R.CAct) (plan : Plan) : Type 0 where
-  refuses : plan.change ≡ Stay → plan.outcome.at ≡ Nothing → plan.outcome.sending ≡ Sending.Nothing → Acted rs x plan
+pub data Acted (rs : List Record) (x : R.CAct) (plan : Plan Change) : Type 0 where
+  refuses : plan.change ≡ Stay → plan.outcome.at ≡ None → plan.outcome.sending ≡ None → Acted rs x plan
   takes-row :
       (i : ℕ) → used (get_or rs i blank) ≡ true → Touches i (clerk_change plan.change) →
-      Own clerk_sight rs (At i) (clerk_change plan.change) (records_after rs plan.change) (leaves plan.change (one (get_or rs i blank))) →
+      Own clerk_sight rs (Some i) (clerk_change plan.change) (records_after rs plan.change) (leaves plan.change (one (get_or rs i blank))) →
       ((j : Elements) (c : R.Clerk) → one (get_or rs i blank) ≡ clerk_read j c →
       Says j plan (one (get_or rs i blank)) (R.clerk_acts c x) × (R.runs_out c x ≡ R.is_t1_or_t2 x)) → Acted rs x plan
 
@@ -693,15 +690,15 @@ module _ (rs : List Record) (input : Input) (settles : (r : Record) → settled_
   -- the row of the record that is read
   row-says :
       (j : Elements) (c : R.Clerk) (i : ℕ) → one (get_or rs i blank) ≡ clerk_read j c →
-      Says j (own_plan i (get_or rs i blank) (row_read x) 7) (one (get_or rs i blank)) (R.clerk_acts c x)
+      Says j (own_plan i (get_or rs i blank) (row_read x) NoRow) (one (get_or rs i blank)) (R.clerk_acts c x)
   row-says j R.absent i h = not-one (sym h)
   row-says j (R.waiting d kind) i h =
-      at-record rs i (waiting_record j d kind) (λ (r : Record). Says j (own_plan i r (row_read x) 7) (one r) (R.clerk_acts (R.waiting d kind) x)) h (waiting-acts j i d kind x 7)
+      at-record rs i (waiting_record j d kind) (λ (r : Record). Says j (own_plan i r (row_read x) NoRow) (one r) (R.clerk_acts (R.waiting d kind) x)) h (waiting-acts j i d kind x NoRow)
   row-says j (R.live t own s) i h =
-      at-record rs i (live_record j t own s) (λ (r : Record). Says j (own_plan i r (row_read x) 7) (one r) (R.clerk_acts (R.live t own s) x)) h (live-acts j i t own s x 7)
+      at-record rs i (live_record j t own s) (λ (r : Record). Says j (own_plan i r (row_read x) NoRow) (one r) (R.clerk_acts (R.live t own s) x)) h (live-acts j i t own s x NoRow)
 
   acted-found :
-      (refusal : ℕ) (means : Means) → ((i : ℕ) → means ≡ Means.At i → used (get_or rs i blank) ≡ true) →
+      (refusal : Refusal) (means : Means) → ((i : ℕ) → means ≡ Means.At i → used (get_or rs i blank) ≡ true) →
       ((j : Elements) (c : R.Clerk) (i : ℕ) → holds_for (row_read x) (get_or rs i blank) ≡ true → one (get_or rs i blank) ≡ clerk_read j c → R.runs_out c x ≡ R.is_t1_or_t2 x) →
       Acted rs x (plan_of rs input (own_found rs (row_read x) refusal means))
   unfolding plan_of
@@ -714,7 +711,7 @@ module _ (rs : List Record) (input : Input) (settles : (r : Record) → settled_
       takes-row i (u i refl) (touches_taken rs input i (row_read x)) (own-taken rs input i (row_read x))
       (λ j c read. (
         subst (λ (q : Record). Says j (row_taken i q (row_read x)) (one r) (R.clerk_acts c x)) (sym (settles r))
-            (subst (λ (b : Bool). Says j (pick b (row_taken i r (row_read x)) (refused_plan 7 Sending.Nothing)) (one r) (R.clerk_acts c x)) h (row-says j c i read)),
+            (subst (λ (b : Bool). Says j (pick b (row_taken i r (row_read x)) (refused_plan NoRow None)) (one r) (R.clerk_acts c x)) h (row-says j c i read)),
         ends j c i h read,
       )))
       (λ h. refuses refl refl refl)
@@ -729,17 +726,17 @@ timer-ends rs timer j (R.live t own s) i h read =
     live-ran-out j t own s timer (subst (λ (r : Record). holds_for (row_of_timer timer) r ≡ true) (the_one (get_or rs i blank) (live_record j t own s) read) h)
 
 -- ---- which record is meant, as it is said for both desks
-meaning-or : (f : Found) (otherwise : Means) → Meaning.or_else f otherwise ≡ or_else f otherwise
-meaning-or (At i) otherwise = refl
-meaning-or Nothing otherwise = refl
+meaning-or : (f : Option ℕ) (otherwise : Means) → Meaning.or_else f otherwise ≡ or_else f otherwise
+meaning-or (Some i) otherwise = refl
+meaning-or None otherwise = refl
 
 meaning-by :
-    (identifier : Identifier) (set : Bool) (elements : Means) (place : ℕ) (rs : List Record) →
+    (identifier : Option Words) (set : Bool) (elements : Means) (place : ℕ) (rs : List Record) →
     Meaning.or_else (identifier_means identifier rs) (pick set elements (Meaning.place_means identifier place rs))
     ≡ or_else (known_in (view clerk_sight) identifier rs) (pick set elements (place_means clerk_sight identifier place rs))
 unfolding meant
-meaning-by Absent set elements place rs = refl
-meaning-by (Is identifier) set elements place rs = meaning-or (meant identifier rs) (pick set elements Means.Nothing)
+meaning-by None set elements place rs = refl
+meaning-by (Some identifier) set elements place rs = meaning-or (meant identifier rs) (pick set elements Means.Nothing)
 
 pub clerk-meaning :
     (l : Letter) (place : ℕ) (rs : List Record) →
@@ -749,18 +746,18 @@ clerk-meaning l place rs = meaning-by l.identifier (has_elements l.body l.carrie
 
 -- a record with its elements fits a message that has them
 pub clerk-fitting :
-    (j : Elements) (m : R.Msg) → set_of j m ≡ true → j.identifier ≡ Absent → (r : Record) → used r ≡ true → elements_of r.terms ≡ j →
+    (j : Elements) (m : R.Msg) → set_of j m ≡ true → j.identifier ≡ None → (r : Record) → used r ≡ true → elements_of r.terms ≡ j →
     fitting (letter_names (letter_read j m)) r ≡ true
 clerk-fitting j m set absent r u same = both_true u ∙ ap (λ (names : Names). fits names r.terms) (set-names j m set) ∙ own-fits j absent r.terms same
 
 -- ---- the desk
 -- an ask is refused, or stored and sent
-pub data AskStep (d : Desk) (count : ℕ) (names : Names) (q : Request) (plan : Plan) : Type 0 where
-  refused : plan.change ≡ Stay → plan.outcome.at ≡ Nothing → plan.outcome.sending ≡ Sending.Nothing → AskStep d count names q plan
+pub data AskStep (d : Desk) (count : ℕ) (names : Names) (q : Request) (plan : Plan Change) : Type 0 where
+  refused : plan.change ≡ Stay → plan.outcome.at ≡ None → plan.outcome.sending ≡ None → AskStep d count names q plan
   stored :
-      (i : ℕ) → clerk_change plan.change ≡ storing i → plan.outcome.refusal ≡ 0 →
+      (i : ℕ) → clerk_change plan.change ≡ storing i → plan.outcome.refusal ≡ None →
       ((given : Of Elements) → given.it ≡ ask_elements names q →
-      ClerkStep d count given Nothing plan (ask_elements names q) (R.waiting (data_of q) q.kind, ask_read q ∷ [])) → AskStep d count names q plan
+      ClerkStep d count given None plan (ask_elements names q) (R.waiting (data_of q) q.kind, ask_read q ∷ [])) → AskStep d count names q plan
 
 module _ (d : Desk) (reached : Reached d) (count : ℕ) where
   abbrev rs : List Record
@@ -768,7 +765,7 @@ module _ (d : Desk) (reached : Reached d) (count : ℕ) where
 
   -- a plan that is made is what it says of the place that it is about
   pub plan-step :
-      (given : Of Elements) (f : Found) (j : Elements) (plan : Plan) (answer : R.CAnswer) →
+      (given : Of Elements) (f : Option ℕ) (j : Elements) (plan : Plan Change) (answer : R.CAnswer) →
       Own clerk_sight rs f (clerk_change plan.change) (records_after rs plan.change) (leaves plan.change (there clerk_sight rs f)) →
       Its clerk_sight j (there clerk_sight rs f) → Says j plan (there clerk_sight rs f) answer → ((i : ℕ) → clerk_change plan.change ≡ storing i → given.it ≡ j) →
       ClerkStep d count given f plan j answer
@@ -781,13 +778,13 @@ module _ (d : Desk) (reached : Reached d) (count : ℕ) where
 
   -- a message of a request, by what it means
   pub clerk-hears :
-      (given : Of Elements) (j : Elements) (m : R.Msg) (busy : Bool) (place : ℕ) (c : R.Clerk) (f : Found) → given.it ≡ j →
+      (given : Of Elements) (j : Elements) (m : R.Msg) (busy : Bool) (place : ℕ) (c : R.Clerk) (f : Option ℕ) → given.it ≡ j →
       Meant clerk_sight rs (set_of j m) (ready_for j m) f (meaning (letter_read j m) place rs) → there clerk_sight rs f ≡ clerk_read j c →
       ClerkStep d count given f (plan_for rs (heard j m busy place)) j (R.clerk_takes c m busy)
   unfolding plan_for decided
   clerk-hears given j m busy place c f came means h =
       let decision = message_meant rs (letter_read j m) busy (meaning (letter_read j m) place rs) (message_for (letter_read j m).body) in
-      subst (λ (plan : Plan). ClerkStep d count given f plan j (R.clerk_takes c m busy)) (sym (plan-place rs j m busy place decision))
+      subst (λ (plan : Plan Change). ClerkStep d count given f plan j (R.clerk_takes c m busy)) (sym (plan-place rs j m busy place decision))
       (plan-step given f j (takes rs j m busy (meaning (letter_read j m) place rs)) (R.clerk_takes c m busy) (own-takes rs j m busy f (meaning (letter_read j m) place rs) means)
       (subst (Its clerk_sight j) (sym h) (clerk-its j c)) (found-takes rs j m busy c f (meaning (letter_read j m) place rs) means h) (λ i q. came))
 
@@ -801,26 +798,26 @@ module _ (d : Desk) (reached : Reached d) (count : ℕ) where
 
   pub clerk-acts : (name : Name) (act : Act) → Acted rs (R.act act) (plan_for rs (Input.Act name act))
   unfolding plan_for decided
-  clerk-acts name act = acted-found rs (Input.Act name act) (λ r. refl) (R.act act) 7 (named name rs) (named-used name rs) (λ y c i h read. refl)
+  clerk-acts name act = acted-found rs (Input.Act name act) (λ r. refl) (R.act act) NoRow (named name rs) (named-used name rs) (λ y c i h read. refl)
 
   pub clerk-reports : (name : Name) (timer : Timer) → Acted rs (R.timer timer) (plan_for rs (Input.Timer name timer))
   unfolding plan_for decided
-  clerk-reports name timer = acted-found rs (Input.Timer name timer) (λ r. refl) (R.timer timer) 9 (named name rs) (named-used name rs) (timer-ends rs timer)
+  clerk-reports name timer = acted-found rs (Input.Timer name timer) (λ r. refl) (R.timer timer) NotRunning (named name rs) (named-used name rs) (timer-ends rs timer)
 
   module _ (names : Names) (q : Request) where
-    ask-place : (f : Found) → place rs ≡ f → AskStep d count names q (plan_of rs (Input.Ask names q) (ask_place q f))
+    ask-place : (f : Option ℕ) → place rs ≡ f → AskStep d count names q (plan_of rs (Input.Ask names q) (ask_place q f))
     unfolding plan_of place
-    ask-place Nothing e = refused refl refl refl
-    ask-place (At i) e =
+    ask-place None e = refused refl refl refl
+    ask-place (Some i) e =
         stored i refl refl
         (λ given came.
-        plan-step given Nothing (ask_elements names q) (plan_of rs (Input.Ask names q) (Store i q)) (R.waiting (data_of q) q.kind, ask_read q ∷ [])
+        plan-step given None (ask_elements names q) (plan_of rs (Input.Ask names q) (Store i q)) (R.waiting (data_of q) q.kind, ask_read q ∷ [])
         (stores i (new_record names q) e) tt (refl, ap (λ (l : Letter). message_of l ∷ []) (sym (ask-letter names q))) (λ x y. came))
 
-    ask-found : (f : Found) → AskStep d count names q (plan_of rs (Input.Ask names q) (ask_found rs q f))
+    ask-found : (f : Option ℕ) → AskStep d count names q (plan_of rs (Input.Ask names q) (ask_found rs q f))
     unfolding plan_of
-    ask-found (At i) = refused refl refl refl
-    ask-found Nothing = ask-place (place rs) refl
+    ask-found (Some i) = refused refl refl refl
+    ask-found None = ask-place (place rs) refl
 
     pub clerk-asks : AskStep d count names q (plan_for rs (Input.Ask names q))
     unfolding plan_for decided

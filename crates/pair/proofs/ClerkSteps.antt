@@ -1,4 +1,6 @@
 -- Each step at the clerk's end is about the request whose record it touches, or whose message is delivered: it moves that request's net by the end's reading, and leaves every other.
+use Rattle.lists.specs.declared.words.Words.{Words}
+use Rattle.std.specs.Prelude.{Option, Some, None, Ok, Result}
 use Prim.Native.Nat.{ℕ, ◌/◌}
 use mathlib.Core.Path.{◌≡◌, refl, sym, ◌∙◌, ap, subst}
 use mathlib.Core.Bool.{Bool, true, false, true≢false}
@@ -8,14 +10,11 @@ use mathlib.Core.List.{List, [], ◌∷◌, ◌++◌, map}
 use lib.ListN.{length, get_or}
 use native.Mathlib.Omega.{arith}
 use Rattle.lists.specs.Choice.{pick}
-use Rattle.lists.specs.declared.Found.{Found}
-use Rattle.lists.specs.declared.Found.TheVariants.{At, Nothing}
 use Rattle.message.specs.declared.Message.{Message}
+use Rattle.message.specs.declared.refusal.Refusal.{Refusal}
 use Rattle.desk.specs.Letter.{letter_of}
 use Rattle.desk.specs.Sends.{no_number}
-use Rattle.desk.specs.declared.letter.Identifier.{Identifier}
 use Rattle.desk.specs.declared.letter.Letter.{Letter}
-use Rattle.desk.specs.declared.outcome.Sending.TheVariants as Sending
 use Rattle.desk.specs.declared.sends.Elements.{Elements}
 use Rattle.terms.specs.Terms.{elements_of}
 use Rattle.terms.specs.Request.{letter_names}
@@ -29,7 +28,7 @@ use Rattle.clerk_table.specs.declared.inputs.Act.{Act}
 use Rattle.clerk_table.specs.declared.inputs.Input.{Input}
 use Rattle.clerk_table.specs.declared.record.Change.{Change}
 use Rattle.clerk_table.specs.declared.record.Change.TheVariants.{Stay}
-use Rattle.clerk_table.specs.declared.record.Plan.{Plan}
+use Rattle.desk.specs.declared.plan.Plan.{Plan}
 use Rattle.clerk_table.specs.declared.record.Record.{Record}
 use Rattle.clerk_table.specs.declared.table.Timer.{Timer}
 use Rattle.clerk_table.specs.declared.table.Timer.TheVariants.{T1, T2, T3}
@@ -40,8 +39,6 @@ use Rattle.clerk_records.proofs.MeaningLaws.{meaning-used}
 use Rattle.clerk_plan.specs.Plan.{plan_for}
 use Rattle.clerk.specs.Entry.{message_entry}
 use Rattle.clerk.specs.Steps.{made, step, entered}
-use Rattle.clerk.specs.declared.entry.Entry.{Entry}
-use Rattle.clerk.specs.declared.entry.Entry.TheVariants.{Given}
 use Rattle.clerk_sound.specs.Sound as Clerk
 use Rattle.clerk_sound.specs.Sound.{clerk_view}
 use Rattle.clerk_sound.proofs.Start.{blank-unused}
@@ -72,21 +69,21 @@ unmoved {n = n} {p} {w} {e} g q =
     subst (Turned n p w e) (sym q) (g, λ k s r sim fine. leaves (record { clerk = refl; line = same; up = refl; down = refl }) sim)
 
 clerk-same :
-    (w : World) (given : Of Elements) (plan : Plan) (notes : List (Of Identifier) → List Note) → plan.change ≡ Stay → plan.outcome.at ≡ Nothing → plan.outcome.sending ≡ Sending.Nothing → notes [] ≡ [] →
+    (w : World) (given : Of Elements) (plan : Plan Change) (notes : List (Of (Option Words)) → List Note) → plan.change ≡ Stay → plan.outcome.at ≡ None → plan.outcome.sending ≡ None → notes [] ≡ [] →
     clerk_made w w.down given plan notes ≡ w
 unfolding applied timed
 clerk-same w given plan notes e a s none = rw (e, a, s, none, append_none w.up)
 
 -- ---- the history after a timer's report
-timer_grows : (b : Bool) (l : Of Identifier) (h : List Note) → Grows h (pick b (Note.run_out l ∷ []) [] ++ h)
+timer_grows : (b : Bool) (l : Of (Option Words)) (h : List Note) → Grows h (pick b (Note.run_out l ∷ []) [] ++ h)
 timer_grows true l h = grows_by (Note.run_out l) h (λ x e. let z : ◌≡◌ {A = ℕ} 0 1 = cc in omega (arith, z))
 timer_grows false l h = grows_not h
 
-timer-noted : {K : Type 0} (n : Naming K) (k : K) (b : Bool) (l : Of Identifier) (h : List Note) → n.key l ≡ k → Notes n k (pick b (Note.run_out l ∷ []) [] ++ h) h false b false false
+timer-noted : {K : Type 0} (n : Naming K) (k : K) (b : Bool) (l : Of (Option Words)) (h : List Note) → n.key l ≡ k → Notes n k (pick b (Note.run_out l ∷ []) [] ++ h) h false b false false
 timer-noted n k true l h e = noted-timer n k l h e
 timer-noted n k false l h e = unnoted n k h
 
-timer-unnoted : {K : Type 0} (n : Naming K) (k : K) (b : Bool) (l : Of Identifier) (h : List Note) → (n.key l ≡ k → ⊥) → Notes n k (pick b (Note.run_out l ∷ []) [] ++ h) h false false false false
+timer-unnoted : {K : Type 0} (n : Naming K) (k : K) (b : Bool) (l : Of (Option Words)) (h : List Note) → (n.key l ≡ k → ⊥) → Notes n k (pick b (Note.run_out l ∷ []) [] ++ h) h false false false false
 timer-unnoted n k true l h d = unnoted-other n k (Note.run_out l) h d
 timer-unnoted n k false l h d = unnoted n k h
 
@@ -110,16 +107,16 @@ module _ {K : Type 0} {n : Naming K} (tells : Tells n) {p : R.Policy} {w : World
 
   -- a row taken for the record at a place, as it is read there
   row_told :
-      (given : Of Elements) (plan : Plan) (ans : R.Clerk → R.CAnswer) → ((c : R.Clerk) → NoReq (ans c).1) → (i : ℕ) → used (get_or rs i blank) ≡ true → Touches i (clerk_change plan.change) →
-      Own clerk_sight rs (At i) (clerk_change plan.change) (records_after rs plan.change) (left plan.change (P.one (get_or rs i blank))) →
+      (given : Of Elements) (plan : Plan Change) (ans : R.Clerk → R.CAnswer) → ((c : R.Clerk) → NoReq (ans c).1) → (i : ℕ) → used (get_or rs i blank) ≡ true → Touches i (clerk_change plan.change) →
+      Own clerk_sight rs (Some i) (clerk_change plan.change) (records_after rs plan.change) (left plan.change (P.one (get_or rs i blank))) →
       ((y : Elements) (c : R.Clerk) → P.one (get_or rs i blank) ≡ clerk_read y c → Says y plan (P.one (get_or rs i blank)) (ans c)) →
-      (j : Elements) (c : R.Clerk) (f : Found) → f ≡ At i → P.one (get_or rs i blank) ≡ clerk_read j c →
+      (j : Elements) (c : R.Clerk) (f : Option ℕ) → f ≡ Some i → P.one (get_or rs i blank) ≡ clerk_read j c →
       ClerkTold w given f plan (clerk_read j (ans c).0) (elements_at clerk_sight os rs i) (ans c).1
   row_told given plan ans plain i u touches own says j c f at h =
       let whose = elements_at clerk_sight os rs i in
       let its = subst (Its clerk_sight j) (sym h) (clerk-its j c) in
-      let s = plan-step w.clerk g.clerk w.count given (At i) j plan (ans c) own its (says j c h) (λ m q. touches_never touches q) in
-      subst (λ (y : Found). ClerkTold w given y plan (clerk_read j (ans c).0) whose (ans c).1) (sym at)
+      let s = plan-step w.clerk g.clerk w.count given (Some i) j plan (ans c) own its (says j c h) (λ m q. touches_never touches q) in
+      subst (λ (y : Option ℕ). ClerkTold w given y plan (clerk_read j (ans c).0) whose (ans c).1) (sym at)
       (record {
         did = s.did;
         whom = touches_speaks clerk_sight os rs given touches;
@@ -128,10 +125,10 @@ module _ {K : Type 0} {n : Naming K} (tells : Tells n) {p : R.Policy} {w : World
       })
 
   -- ---- an act, a timer's report, a signal
-  module _ (e : Event) (given : Of Elements) (x : R.CAct) (input : Input) (notes : List (Of Identifier) → List Note) (fair : Clerk.Fair input)
-      (none : notes [] ≡ []) (one : (l : Of Identifier) → notes (l ∷ []) ≡ pick (R.is_t1_or_t2 x) (Note.run_out l ∷ []) [])
-      (named : (l : Of Identifier) → touched clerk_view os rs (label given) (clerk_change (plan_for rs input).change) ≡ l ∷ [] → About n w e (n.key l)) where
-    abbrev plan : Plan
+  module _ (e : Event) (given : Of Elements) (x : R.CAct) (input : Input) (notes : List (Of (Option Words)) → List Note) (fair : Clerk.Fair input)
+      (none : notes [] ≡ []) (one : (l : Of (Option Words)) → notes (l ∷ []) ≡ pick (R.is_t1_or_t2 x) (Note.run_out l ∷ []) [])
+      (named : (l : Of (Option Words)) → touched clerk_view os rs (label given) (clerk_change (plan_for rs input).change) ≡ l ∷ [] → About n w e (n.key l)) where
+    abbrev plan : Plan Change
     plan = plan_for rs input
 
     abbrev acted : World
@@ -143,7 +140,7 @@ module _ {K : Type 0} {n : Naming K} (tells : Tells n) {p : R.Policy} {w : World
 
     -- taken for the record at a place
     module _ (i : ℕ) (u : used (get_or rs i blank) ≡ true) (touches : Touches i (clerk_change plan.change))
-        (own : Own clerk_sight rs (At i) (clerk_change plan.change) (records_after rs plan.change) (left plan.change (P.one (get_or rs i blank))))
+        (own : Own clerk_sight rs (Some i) (clerk_change plan.change) (records_after rs plan.change) (left plan.change (P.one (get_or rs i blank))))
         (says : (j : Elements) (c : R.Clerk) → P.one (get_or rs i blank) ≡ clerk_read j c → Says j plan (P.one (get_or rs i blank)) (R.clerk_acts c x) × (R.runs_out c x ≡ R.is_t1_or_t2 x)) where
       abbrev whose : Of Elements
       whose = elements_at clerk_sight os rs i
@@ -155,7 +152,7 @@ module _ {K : Type 0} {n : Naming K} (tells : Tells n) {p : R.Policy} {w : World
       act-history = ap (λ (h : List Note). h ++ w.history) (ap notes (touches_whom clerk_sight os rs given touches) ∙ one (label whose))
 
       act-told :
-          (j : Elements) (c : R.Clerk) (f : Found) → f ≡ At i → P.one (get_or rs i blank) ≡ clerk_read j c →
+          (j : Elements) (c : R.Clerk) (f : Option ℕ) → f ≡ Some i → P.one (get_or rs i blank) ≡ clerk_read j c →
           ClerkTold w given f plan (clerk_read j (R.clerk_acts c x).0) whose (R.clerk_acts c x).1
       act-told = row_told given plan (λ c. R.clerk_acts c x) (λ c. act-plain (clerk-act-effect c x)) i u touches own (λ y c h. (says y c h).0)
 
@@ -163,7 +160,7 @@ module _ {K : Type 0} {n : Naming K} (tells : Tells n) {p : R.Policy} {w : World
       act-good =
           let read = read_at i u in
           let grows = subst (Grows w.history) (sym act-history) (timer_grows (R.is_t1_or_t2 x) (label whose) w.history) in
-          clerk-good g w.down given plan notes (act-told whose.it read.0 (At i) refl read.1) act-reached g.down grows (asked-still grows whose taken-up)
+          clerk-good g w.down given plan notes (act-told whose.it read.0 (Some i) refl read.1) act-reached g.down grows (asked-still grows whose taken-up)
           (λ m q. touches_never touches q)
 
       act-turn : (k : K) (s : R.Net) → Sim n k w s → (n.key (label whose) ≡ k) ⊎ (n.key (label whose) ≡ k → ⊥) → Turn n p k w e acted s
@@ -180,7 +177,7 @@ module _ {K : Type 0} {n : Naming K} (tells : Tells n) {p : R.Policy} {w : World
           (subst (Its clerk_sight sim.name) (sym read) (clerk-its sim.name s.clerk)).1 (λ m q. touches_never touches q) sim.down sim.down_clear noted sim.kept)
       act-turn k s sim (inr d) =
           let read = read_at i u in
-          clerk-other g w.down given plan notes tells sim (act-told whose.it read.0 (At i) refl read.1) act-good
+          clerk-other g w.down given plan notes tells sim (act-told whose.it read.0 (Some i) refl read.1) act-good
           (touched-other clerk_sight os rs given n k (clerk_change plan.change) (λ q. d (sym (ap (key_of n) (touches_speaks clerk_sight os rs given touches)) ∙ q))) d refl
           (subst (λ (h : List Note). Notes n k h w.history false false false false) (sym act-history) (timer-unnoted n k (R.is_t1_or_t2 x) (label whose) w.history d))
 
@@ -190,12 +187,12 @@ module _ {K : Type 0} {n : Naming K} (tells : Tells n) {p : R.Policy} {w : World
         (act-good i u touches own says, λ k s r sim fine. act-turn i u touches own says k s sim (key? tells (n.key (label (elements_at clerk_sight os rs i))) k))
 
   -- the steps of a host, as the world makes them
-  host_made : (given : Of Elements) (input : Input) (notes : List (Of Identifier) → List Note) → clerk_stepped w w.down (label given) (Given input) notes ≡ clerk_made w w.down given (plan_for rs input) notes
+  host_made : (given : Of Elements) (input : Input) (notes : List (Of (Option Words)) → List Note) → clerk_stepped w w.down (label given) (Ok input) notes ≡ clerk_made w w.down given (plan_for rs input) notes
   unfolding entered step
   host_made given input notes = refl
 
   -- what is put in for a request that is there has no elements of its own
-  abbrev bare : Identifier → Of Elements
+  abbrev bare : Option Words → Of Elements
   bare identifier = from (length w.history) (record { identifier = identifier; numberA = no_number; numberB = no_number; service = 0 })
 
   clerk-act : (name : Name) (act : Act) → Turned n p w (clerk_does (Input.Act name act)) (clerk_made w w.down (bare name.identifier) (plan_for rs (Input.Act name act)) (clerk_notes (Input.Act name act)))
@@ -203,7 +200,7 @@ module _ {K : Type 0} {n : Naming K} (tells : Tells n) {p : R.Policy} {w : World
       acting (clerk_does (Input.Act name act)) (bare name.identifier) (R.act act) (Input.Act name act) (clerk_notes (Input.Act name act)) (Clerk.acts name act) refl (λ l. refl) (λ l q. about-touched n q)
       (clerk-acts w.clerk g.clerk w.count name act)
 
-  timer-notes : (name : Name) (timer : Timer) → (clerk_notes (Input.Timer name timer) [] ≡ []) × ((l : Of Identifier) → clerk_notes (Input.Timer name timer) (l ∷ []) ≡ pick (R.is_t1_or_t2 (R.timer timer)) (Note.run_out l ∷ []) [])
+  timer-notes : (name : Name) (timer : Timer) → (clerk_notes (Input.Timer name timer) [] ≡ []) × ((l : Of (Option Words)) → clerk_notes (Input.Timer name timer) (l ∷ []) ≡ pick (R.is_t1_or_t2 (R.timer timer)) (Note.run_out l ∷ []) [])
   timer-notes name T1 = (refl, λ l. refl)
   timer-notes name T2 = (refl, λ l. refl)
   timer-notes name T3 = (refl, λ l. refl)
@@ -249,15 +246,15 @@ module _ {K : Type 0} {n : Naming K} (tells : Tells n) {p : R.Policy} {w : World
     unfolding step
     ask-reached = Clerk.steps w.count fair g.clerk
 
-    module _ (i : ℕ) (touch : clerk_change (plan_for rs ask).change ≡ storing i) (zero : (plan_for rs ask).outcome.refusal ≡ 0)
-        (steps : (given : Of Elements) → given.it ≡ ask_elements names q → ClerkStep w.clerk w.count given Nothing (plan_for rs ask) (ask_elements names q) answer) where
+    module _ (i : ℕ) (touch : clerk_change (plan_for rs ask).change ≡ storing i) (zero : (plan_for rs ask).outcome.refusal ≡ None)
+        (steps : (given : Of Elements) → given.it ≡ ask_elements names q → ClerkStep w.clerk w.count given None (plan_for rs ask) (ask_elements names q) answer) where
       whom : touched clerk_view os rs (label its) (clerk_change (plan_for rs ask).change) ≡ label its ∷ []
       whom = ap (touched clerk_view os rs (label its)) touch
 
       ask-history : asked.history ≡ Note.taken_up (label its) ∷ w.history
-      ask-history = ap (λ (ls : List (Of Identifier)). map Note.taken_up ls ++ w.history) whom
+      ask-history = ap (λ (ls : List (Of (Option Words))). map Note.taken_up ls ++ w.history) whom
 
-      ask-told : ClerkTold w its Nothing (plan_for rs ask) (clerk_read (ask_elements names q) answer.0) its answer.1
+      ask-told : ClerkTold w its None (plan_for rs ask) (clerk_read (ask_elements names q) answer.0) its answer.1
       ask-told =
           let s = steps its refl in
           record { did = s.did; whom = ap (speaks clerk_sight os rs its) touch; sends = s.sends; clear = one_more clear no-message }
@@ -271,11 +268,11 @@ module _ {K : Type 0} {n : Naming K} (tells : Tells n) {p : R.Policy} {w : World
           (subst (Grows w.history) (sym ask-history) (grows_ask names.identifier w.history)) its-taken (λ m e. its-taken)
 
       -- a new request: its net is empty
-      new-place : {A : Type 0} (v : Sight A) (xs : List A) (f : Found) → there v xs f ≡ P.none → f ≡ Nothing
-      new-place v xs Nothing e = refl
-      new-place v xs (At m) e = not-one (sym e)
+      new-place : {A : Type 0} (v : Sight A) (xs : List A) (f : Option ℕ) → there v xs f ≡ P.none → f ≡ None
+      new-place v xs None e = refl
+      new-place v xs (Some m) e = not-one (sym e)
 
-      unnamed : {k : K} {s : R.Net} → R.Reach p s → (sim : Sim n k w s) → s.used ≡ false → (y : Sim n k w s) × ((y.name ≡ ask_elements names q) × (y.clerk_place ≡ Nothing))
+      unnamed : {k : K} {s : R.Net} → R.Reach p s → (sim : Sim n k w s) → s.used ≡ false → (y : Sim n k w s) × ((y.name ≡ ask_elements names q) × (y.clerk_place ≡ None))
       unnamed {k} {s} r sim e =
           let none = emptied (agreed r) e in
           let place = new-place clerk_sight rs sim.clerk_place (sim.clerk ∙ ap (clerk_read sim.name) none.0) in (
@@ -301,10 +298,10 @@ module _ {K : Type 0} {n : Naming K} (tells : Tells n) {p : R.Policy} {w : World
             (refl, place),
           )
 
-      ask-own : (k : K) (s : R.Net) → s.used ≡ false → (sim : Sim n k w s) → sim.name ≡ ask_elements names q → sim.clerk_place ≡ Nothing → n.key (label its) ≡ k → Turn n p k w (clerk_does ask) asked s
+      ask-own : (k : K) (s : R.Net) → s.used ≡ false → (sim : Sim n k w s) → sim.name ≡ ask_elements names q → sim.clerk_place ≡ None → n.key (label its) ≡ k → Turn n p k w (clerk_does ask) asked s
       unfolding R.next R.ask_step
       ask-own k s fresh sim name place key =
-          let told = subst (λ (f : Found). ClerkTold w its f (plan_for rs ask) (clerk_read (ask_elements names q) answer.0) its answer.1) (sym place) ask-told in
+          let told = subst (λ (f : Option ℕ). ClerkTold w its f (plan_for rs ask) (clerk_read (ask_elements names q) answer.0) its answer.1) (sym place) ask-told in
           let mine = subst (λ (j : Elements). ClerkTold w its sim.clerk_place (plan_for rs ask) (clerk_read j answer.0) its answer.1) (sym name) told in
           let noted = subst (λ (h : List Note). Notes n k h w.history true false false false) (sym ask-history) (noted-ask n k (label its) w.history key) in
           moves (about (subst (About n w (clerk_does ask)) key (about-touched n whom))) (R.asks (data_of q) q.kind (q.flags / 2)) tt
@@ -320,7 +317,7 @@ module _ {K : Type 0} {n : Naming K} (tells : Tells n) {p : R.Policy} {w : World
           ask-own k s fresh y.0 y.1.0 y.1.1 key
       ask-turn k s r sim fine (inr d) =
           clerk-other g w.down its (plan_for rs ask) (clerk_notes ask) tells sim ask-told ask-good
-          (λ l e h. d (ap (λ (ls : List (Of Identifier)). n.key (get_or ls 0 (label its))) (sym whom ∙ e) ∙ h)) d refl
+          (λ l e h. d (ap (λ (ls : List (Of (Option Words))). n.key (get_or ls 0 (label its))) (sym whom ∙ e) ∙ h)) d refl
           (subst (λ (h : List Note). Notes n k h w.history false false false false) (sym ask-history) (unnoted-other n k (Note.taken_up (label its)) w.history d))
 
     clerk-ask : AskStep w.clerk w.count names q (plan_for rs ask) → Turned n p w (clerk_does ask) asked
@@ -331,7 +328,7 @@ module _ {K : Type 0} {n : Naming K} (tells : Tells n) {p : R.Policy} {w : World
   -- ---- every input that a host gives
   pub clerk_does_lem :
       (input : Input) → Allowed w (clerk_does input) →
-      Turned n p w (clerk_does input) (clerk_stepped w w.down (new_label w (names_of input).identifier) (Given input) (clerk_notes input))
+      Turned n p w (clerk_does input) (clerk_stepped w w.down (new_label w (names_of input).identifier) (Ok input) (clerk_notes input))
   clerk_does_lem (Input.Ask names q) allowed =
       subst (Turned n p w (clerk_does (Input.Ask names q))) (sym (host_made (from (length w.history) (ask_elements names q)) (Input.Ask names q) (clerk_notes (Input.Ask names q))))
       (clerk-ask names q allowed (clerk-asks w.clerk g.clerk w.count names q))
@@ -346,7 +343,7 @@ module _ {K : Type 0} {n : Naming K} (tells : Tells n) {p : R.Policy} {w : World
     abbrev hears : Input
     hears = Input.Message (letter_read l.it m) busy place
 
-    abbrev hear_plan : Plan
+    abbrev hear_plan : Plan Change
     hear_plan = plan_for rs hears
 
     abbrev heard : World
@@ -355,15 +352,15 @@ module _ {K : Type 0} {n : Naming K} (tells : Tells n) {p : R.Policy} {w : World
     l-kept : KeptName l.it.identifier
     l-kept = clear-name l.it m clear
 
-    pub entry-as : message_entry (message_read l.it m) busy place ≡ Given hears
+    pub entry-as : message_entry (message_read l.it m) busy place ≡ Ok hears
     unfolding message_entry
     entry-as = rw (clear.ranged, clear.back)
 
     heard-as : clerkHeard w busy place (worded l m ∷ rest) ≡ heard
     unfolding clerkHeard entered step
     heard-as =
-        ap (λ (x : Of Identifier). clerk_stepped w rest x (message_entry (message_read l.it m) busy place) (λ whom. [])) (worded-label l m l-kept)
-        ∙ ap (λ (x : Entry). clerk_stepped w rest (label l) x (λ whom. [])) entry-as
+        ap (λ (x : Of (Option Words)). clerk_stepped w rest x (message_entry (message_read l.it m) busy place) (λ whom. [])) (worded-label l m l-kept)
+        ∙ ap (λ (x : Result Input Refusal). clerk_stepped w rest (label l) x (λ whom. [])) entry-as
 
     -- the record that the message means, as the premise speaks of it
     abbrev means : Means
@@ -382,15 +379,15 @@ module _ {K : Type 0} {n : Naming K} (tells : Tells n) {p : R.Policy} {w : World
     -- what the step did, and for whom: it replied for the message, or took a row for the record that is meant
     abbrev Told : Type 0
     Told =
-        (f : Found) × ((left : P.Held Record) × ((whose : Of Elements) × ((ms : List R.Msg) ×
+        (f : Option ℕ) × ((left : P.Held Record) × ((whose : Of Elements) × ((ms : List R.Msg) ×
         (ClerkTold w l f hear_plan left whose ms × (Asked w.history whose × ((whose ≡ l) ⊎ ((i : ℕ) × ((means ≡ Means.At i) × (whose ≡ elements_at clerk_sight os rs i)))))))))
 
     hear_told : Heard rs l.it m busy means hear_plan → Told
     hear_told (replies ms stay sends plain) =
-        let own = subst (λ (c : Change). Own clerk_sight rs Nothing (clerk_change c) (records_after rs c) (left c P.none)) (sym stay) stays in
+        let own = subst (λ (c : Change). Own clerk_sight rs None (clerk_change c) (records_after rs c) (left c P.none)) (sym stay) stays in
         let says : Says l.it hear_plan P.none (R.absent, ms) = (ap (λ (c : Change). left c P.none) stay, sends) in
-        let s = plan-step w.clerk g.clerk w.count l Nothing l.it hear_plan (R.absent, ms) own tt says (λ i q. refl) in (
-          Nothing,
+        let s = plan-step w.clerk g.clerk w.count l None l.it hear_plan (R.absent, ms) own tt says (λ i q. refl) in (
+          None,
           (
             P.none,
             (
@@ -410,7 +407,7 @@ module _ {K : Type 0} {n : Naming K} (tells : Tells n) {p : R.Policy} {w : World
         let read = read_at i u in
         let whose = elements_at clerk_sight os rs i in
         let ans : R.Clerk → R.CAnswer = λ c. R.clerk_takes c m busy in (
-          At i,
+          Some i,
           (
             clerk_read whose.it (ans read.0).0,
             (
@@ -418,7 +415,7 @@ module _ {K : Type 0} {n : Naming K} (tells : Tells n) {p : R.Policy} {w : World
               (
                 (ans read.0).1,
                 (
-                  row_told l hear_plan ans (λ c. take-plain (clerk-take-effect c m busy)) i u touches own says whose.it read.0 (At i) refl read.1,
+                  row_told l hear_plan ans (λ c. take-plain (clerk-take-effect c m busy)) i u touches own says whose.it read.0 (Some i) refl read.1,
                   (g.clerk_labels i u, inr (i, (at, refl))),
                 ),
               ),
@@ -444,7 +441,7 @@ module _ {K : Type 0} {n : Naming K} (tells : Tells n) {p : R.Policy} {w : World
         let letter : letter_read l.it m ≡ letter_read j h.code = sym clear.back ∙ ap letter_of h.same ∙ h.clear.back in
         let apart = fine.apart.atClerk busy place (worded l m) rest refl e in
         let its = subst (Its clerk_sight j) (sym sim.clerk) (clerk-its j s.clerk) in
-        let as_said = clerk-meaning (letter_read j h.code) place rs ∙ ap (λ (x : Identifier). meaning_in clerk_sight x (set_of j h.code) (fitting (letter_names (letter_read j h.code))) (ready_for j h.code) place rs) (letter-name j h.code) in
+        let as_said = clerk-meaning (letter_read j h.code) place rs ∙ ap (λ (x : Option Words). meaning_in clerk_sight x (set_of j h.code) (fitting (letter_names (letter_read j h.code))) (ready_for j h.code) place rs) (letter-name j h.code) in
         let meant =
         own-means clerk_sight blank-unused rs (fitting (letter_names (letter_read j h.code))) (ready_for j h.code) place n k os j (set_of j h.code)
         (clerk-fitting j h.code)
@@ -465,7 +462,7 @@ module _ {K : Type 0} {n : Naming K} (tells : Tells n) {p : R.Policy} {w : World
 
     heard-same : (given : Of Elements) → label l ≡ label given → heard ≡ clerk_made w rest given hear_plan (λ whom. [])
     unfolding entered step
-    heard-same given q = ap (λ (x : Of Identifier). clerk_stepped w rest x (Given hears) (λ whom. [])) q
+    heard-same given q = ap (λ (x : Of (Option Words)). clerk_stepped w rest x (Ok hears) (λ whom. [])) q
 
     own-moves :
         (k : K) (s : R.Net) (sim : Sim n k w s) → n.key (label l) ≡ k → (h : Headed n k sim.name (worded l m) rest s.down) →

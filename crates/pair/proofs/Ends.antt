@@ -1,9 +1,10 @@
 -- One request's records and messages, read in the words of crate pair_request; and what it is for a step of a desk to do what the reading says.
+use Rattle.lists.specs.declared.words.Words.{Words}
+use Rattle.std.specs.Prelude.{Option, None, is_none}
 use Prim.Native.Nat.{ℕ, ◌/◌, ◌<◌}
 use mathlib.Core.Path.{◌≡◌}
 use mathlib.Core.Bool.{Bool, true, false}
 use mathlib.Core.List.{List, map}
-use lib.Dec.{eqb}
 use Rattle.lists.specs.Choice.{pick}
 use Rattle.lists.specs.Words.{bytes_of}
 use Rattle.message.specs.Number.{digits_in_range}
@@ -12,16 +13,14 @@ use Rattle.message.specs.declared.Carrier.TheVariants as Carrier
 use Rattle.message.specs.declared.Body.TheVariants as Body
 use Rattle.message.specs.declared.Kind.{Kind}
 use Rattle.message.specs.declared.Message.{Message}
-use Rattle.message.specs.declared.Service.TheVariants.{Absent}
 use Rattle.desk.specs.Letter.{identifier_of, is_identified, identifier_words, number_words, letter_of, message_of}
 use Rattle.desk.specs.Sends.{plain_letter, record_letter}
 use Rattle.desk.specs.declared.Connection.{Connection}
 use Rattle.desk.specs.declared.Keep.{Keep}
-use Rattle.desk.specs.declared.letter.Identifier.{Identifier}
 use Rattle.desk.specs.declared.letter.Letter.{Letter}
 use Rattle.desk.specs.declared.outcome.Outcome.{Outcome}
+use Rattle.desk.specs.declared.plan.Plan.{Plan}
 use Rattle.desk.specs.declared.sends.Elements.{Elements}
-use Rattle.lists.specs.declared.Found.{Found}
 use Rattle.terms.specs.Request.{can_keep_sent, request_letter}
 use Rattle.terms.specs.Terms.{elements_of}
 use Rattle.terms.specs.declared.Terms.{Terms}
@@ -33,7 +32,7 @@ use Rattle.clerk_table.specs.declared.table.State.TheVariants as ClerkState
 use Rattle.clerk_table.specs.declared.record.Record as ClerkRecord
 use Rattle.clerk_records.specs.Records as ClerkRecords
 use Rattle.clerk.specs.Entry.{ask_flags}
-use Rattle.clerk_table.specs.declared.record.Plan as ClerkPlans
+use Rattle.clerk_table.specs.declared.record.Change as ClerkChanges
 use Rattle.clerk.specs.Steps as ClerkSteps
 use Rattle.clerk.specs.declared.Desk as ClerkDesk
 use Rattle.line_table.specs.declared.table.State as LineStates
@@ -43,7 +42,7 @@ use Rattle.line_table.specs.declared.inputs.Act as LineActs
 use Rattle.line_table.specs.declared.inputs.Act.TheVariants as LineAct
 use Rattle.line_records.specs.Records as LineRecords
 use Rattle.line_records.specs.Lines.{keeps, retains}
-use Rattle.line_table.specs.declared.record.Plan as LinePlans
+use Rattle.line_table.specs.declared.record.Change as LineChanges
 use Rattle.line.specs.Steps as LineSteps
 use Rattle.line.specs.declared.Desk as LineDesk
 use Rattle.line_table.specs.Search as LineSearch
@@ -53,7 +52,7 @@ use Rattle.pair.proofs.Sits.{Sight, Did}
 
 -- a step that is not refused
 abbrev pub done : Outcome → Bool
-done outcome = eqb outcome.refusal 0
+done outcome = is_none outcome.refusal
 
 -- ---- choices and states
 abbrev pub keep_read : Bool → Keep
@@ -132,7 +131,7 @@ by_conn R.rls retained released = released
 
 -- whom a request names, and what it asks for
 abbrev pub names_read : Elements → Names
-names_read e = record { identifier = e.identifier; numberA = e.numberA; numberB = e.numberB; service = Absent }
+names_read e = record { identifier = e.identifier; numberA = e.numberA; numberB = e.numberB; service = None }
 
 abbrev pub request_read : Elements → R.Data → Kind → ℕ → Request
 request_read e d kind q = record { kind = kind; service = e.service; flags = ask_flags d.canKeep q }
@@ -167,7 +166,7 @@ abbrev pub Clear : Elements → R.Msg → Type 0
 Clear e m = ClearLetter (letter_read e m)
 
 -- an identifier, or none, that its bytes give back
-abbrev pub KeptName : Identifier → Type 0
+abbrev pub KeptName : Option Words → Type 0
 KeptName identifier = identifier_of (is_identified identifier) (bytes_of (identifier_words identifier)) ≡ identifier
 
 -- elements that their bytes give back, in range
@@ -200,13 +199,13 @@ abbrev pub policy_of : List ℕ → R.Policy
 policy_of words = record { keeps = keeps words; default = pick (retains words) R.ret R.rls }
 
 -- ---- what a step of a desk does to the place that it is about, by what is read there, and what it sends
-pub record ClerkStep (d : ClerkDesk.Desk) (count : ℕ) (given : Of Elements) (f : Found) (plan : ClerkPlans.Plan) (e : Elements) (answer : R.CAnswer) : Type 0 where
+pub record ClerkStep (d : ClerkDesk.Desk) (count : ℕ) (given : Of Elements) (f : Option ℕ) (plan : Plan ClerkChanges.Change) (e : Elements) (answer : R.CAnswer) : Type 0 where
   pub did :
       Did clerk_sight (ClerkRecords.records d.words) given f (clerk_change plan.change) (ClerkRecords.records (ClerkSteps.made d count plan).desk.words)
       (clerk_read e answer.0)
   pub sends : sent_by plan.outcome.sending ≡ map (message_read e) answer.1
 
-pub record LineStep (d : LineDesk.Desk) (count : ℕ) (given : Of Elements) (f : Found) (plan : LinePlans.Plan) (e : Elements) (answer : R.LAnswer) : Type 0 where
+pub record LineStep (d : LineDesk.Desk) (count : ℕ) (given : Of Elements) (f : Option ℕ) (plan : Plan LineChanges.Change) (e : Elements) (answer : R.LAnswer) : Type 0 where
   pub active : Bool
   pub did :
       Did line_sight (LineRecords.records d.words) given f (line_change plan.change) (LineRecords.records (LineSteps.made d count plan).desk.words)

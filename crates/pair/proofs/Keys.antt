@@ -1,4 +1,6 @@
 -- The two ways to name a request tell keys apart: by origin as numbers are, by identifier as words are, or by having none.
+use Rattle.lists.specs.declared.words.Words.{Words}
+use Rattle.std.specs.Prelude.{Option, Some, None}
 use Prim.Native.Nat.{ℕ}
 use mathlib.Core.Path.{◌≡◌, refl, ap}
 use mathlib.Core.Bool.{Bool, true, false, false≢true, true≢false}
@@ -7,8 +9,6 @@ use native.Mathlib.Omega.{arith}
 use borrow.Author.Tests.{eqb-true, eqb-false}
 use Rattle.lists.proofs.WordsLaws.{same-words-true, same-words-false}
 use Rattle.desk.specs.Letter.{identifier_words}
-use Rattle.desk.specs.declared.letter.Identifier.{Identifier}
-use Rattle.desk.specs.declared.letter.Identifier.TheVariants.{Absent, Is}
 use Rattle.pair.specs.World.{Naming, origins, alike, identifiers}
 
 pub record Tells {K : Type 0} (n : Naming K) : Type 0 where
@@ -18,17 +18,17 @@ pub record Tells {K : Type 0} (n : Naming K) : Type 0 where
 pub origins-tell : Tells origins
 origins-tell = record { yes = eqb-true; no = eqb-false }
 
-alike-true : (a b : Identifier) → alike a b ≡ true → a ≡ b
-alike-true Absent Absent e = refl
-alike-true Absent (Is other) e = absurd (false≢true e)
-alike-true (Is own) Absent e = absurd (false≢true e)
-alike-true (Is own) (Is other) e = ap Is (same-words-true own other e)
+alike-true : (a b : Option Words) → alike a b ≡ true → a ≡ b
+alike-true None None e = refl
+alike-true None (Some other) e = absurd (false≢true e)
+alike-true (Some own) None e = absurd (false≢true e)
+alike-true (Some own) (Some other) e = ap Some (same-words-true own other e)
 
-alike-false : (a b : Identifier) → alike a b ≡ false → a ≡ b → ⊥
-alike-false Absent Absent e q = true≢false e
-alike-false Absent (Is other) e q = let z : ◌≡◌ {A = ℕ} 0 1 = cc in omega (arith, z)
-alike-false (Is own) Absent e q = let z : ◌≡◌ {A = ℕ} 0 1 = cc in omega (arith, z)
-alike-false (Is own) (Is other) e q = same-words-false own other e (ap identifier_words q)
+alike-false : (a b : Option Words) → alike a b ≡ false → a ≡ b → ⊥
+alike-false None None e q = true≢false e
+alike-false None (Some other) e q = let z : ◌≡◌ {A = ℕ} 0 1 = cc in omega (arith, z)
+alike-false (Some own) None e q = let z : ◌≡◌ {A = ℕ} 0 1 = cc in omega (arith, z)
+alike-false (Some own) (Some other) e q = same-words-false own other e (ap identifier_words q)
 
 pub identifiers-tell : Tells identifiers
 identifiers-tell = record { yes = alike-true; no = alike-false }

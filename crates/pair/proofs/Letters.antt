@@ -1,4 +1,6 @@
 -- Messages as they are sent and read again: identifiers give their words back, every message of a request that is kept is clear, and an ask's message is the request that the reading says.
+use Rattle.lists.specs.declared.words.Words.{Words}
+use Rattle.std.specs.Prelude.{Option, Some, None, Ok, Err, Result}
 use Prim.Native.Nat.{ℕ, ◌/◌, ◌%◌, ◌<◌}
 use mathlib.Core.Path.{◌≡◌, refl, sym, ap, ◌∙◌, subst}
 use mathlib.Core.Bool.{Bool, true, false}
@@ -15,25 +17,22 @@ use Rattle.message.specs.Number.{digits_in_range}
 use Rattle.message.specs.Format.{has_elements, request_body, request_in_range, fields_in_range, elements_in_range, in_range}
 use Rattle.message.specs.declared.Carrier.{Carrier}
 use Rattle.message.specs.declared.Carrier.TheVariants.{Setup}
-use Rattle.message.specs.declared.Service.TheVariants.{Absent, Is}
 use Rattle.message.specs.declared.Body.{Body}
 use Rattle.message.specs.declared.Kind.{Kind}
 use Rattle.message.specs.declared.Kind.TheVariants.{Ccbs, Ccnr}
 use Rattle.message.proofs.RangeLaws.{request-ranged, RequestRanged, digits-other}
+use Rattle.message.specs.declared.refusal.Refusal.{Refusal}
 use Rattle.desk.specs.Letter.{identifier_of, is_identified, identifier_words, number_words, letter_of, message_of}
 use Rattle.desk.specs.Sends.{no_number, plain_letter, full_letter}
-use Rattle.desk.specs.declared.letter.Identifier.{Identifier}
 use Rattle.desk.specs.declared.sends.Elements.{Elements}
 use Rattle.desk.specs.declared.letter.Letter.{Letter}
 use Rattle.desk.proofs.LetterLaws.{number-kept, number_same}
 use Rattle.terms.specs.Request.{can_keep_sent, letter_names, request_letter}
 use Rattle.terms.specs.declared.request.Names.{Names}
 use Rattle.terms.specs.declared.request.Request.{Request}
-use Rattle.clerk_table.specs.declared.inputs.Input.TheVariants as Input
+use Rattle.clerk_table.specs.declared.inputs.Input.{Input}
 use Rattle.clerk.specs.Entry.{ask_flags, ask_request, ask_message, ask_names, ask_entry}
 use Rattle.clerk.specs.declared.entry.Asking.{Asking}
-use Rattle.clerk.specs.declared.entry.Entry.{Entry}
-use Rattle.clerk.specs.declared.entry.Entry.TheVariants.{Refused, Given}
 use Rattle.clerk_sound.specs.Sound.{Typed, Fair, asks}
 use Rattle.pair_request.specs.Reading as R
 use Rattle.pair_request.specs.Listed.{NotReq}
@@ -96,7 +95,7 @@ letter-carrier e y R.failed = refl
 
 -- with elements it names all that its request has
 abbrev pub full_names : Elements → Names
-full_names e = record { identifier = e.identifier; numberA = e.numberA; numberB = e.numberB; service = Is e.service }
+full_names e = record { identifier = e.identifier; numberA = e.numberA; numberB = e.numberB; service = Some e.service }
 
 pub set-names : (e : Elements) (m : R.Msg) → set_of e m ≡ true → letter_names (letter_read e m) ≡ full_names e
 set-names e (R.request d Ccbs q) set = absurd (no_true set)
@@ -117,7 +116,7 @@ set-names e R.alerts set = absurd (no_true set)
 set-names e R.failed set = absurd (no_true set)
 
 -- without an identifier and without elements it goes by the place
-pub by_place_lem : (e : Elements) (m : R.Msg) → e.identifier ≡ Identifier.Absent → set_of e m ≡ false → by_place (message_read e m) ≡ true
+pub by_place_lem : (e : Elements) (m : R.Msg) → e.identifier ≡ None → set_of e m ≡ false → by_place (message_read e m) ≡ true
 unfolding message_of
 by_place_lem e m absent set =
     let a : is_identified (letter_read e m).identifier ≡ false = ap is_identified (letter-name e m ∙ absent) in
@@ -131,17 +130,17 @@ clear-name e m clear =
 
 pub sent-name : (e : Elements) (m : R.Msg) → KeptName e.identifier → name_of (message_read e m) ≡ e.identifier
 unfolding message_of
-sent-name e m kept = ap (λ (x : Identifier). identifier_of (is_identified x) (bytes_of (identifier_words x))) (letter-name e m) ∙ kept
+sent-name e m kept = ap (λ (x : Option Words). identifier_of (is_identified x) (bytes_of (identifier_words x))) (letter-name e m) ∙ kept
 
 -- ---- messages without elements, and with them
 no_number_lem : number_words (bytes_of no_number) ≡ no_number
 unfolding number_words bytes_of words_of octets word
 no_number_lem = refl
 
-plain_back : (i : Identifier) (carrier : Carrier) (body : Body) → KeptName i → letter_of (message_of (plain_letter i carrier body)) ≡ plain_letter i carrier body
+plain_back : (i : Option Words) (carrier : Carrier) (body : Body) → KeptName i → letter_of (message_of (plain_letter i carrier body)) ≡ plain_letter i carrier body
 unfolding letter_of message_of
 plain_back i carrier body kept =
-    λ x. record { carrier = carrier; identifier = kept x; numberA = no_number_lem x; numberB = no_number_lem x; service = Absent; body = body }
+    λ x. record { carrier = carrier; identifier = kept x; numberA = no_number_lem x; numberB = no_number_lem x; service = None; body = body }
 
 full_back : (e : Elements) (carrier : Carrier) (body : Body) → Kept e → letter_of (message_of (full_letter e carrier body)) ≡ full_letter e carrier body
 unfolding letter_of message_of
@@ -149,9 +148,9 @@ full_back e carrier body kept =
     let name = kept.identifier in
     let a = kept.numberA in
     let b = kept.numberB in
-    λ x. record { carrier = carrier; identifier = name x; numberA = a x; numberB = b x; service = Is e.service; body = body }
+    λ x. record { carrier = carrier; identifier = name x; numberA = a x; numberB = b x; service = Some e.service; body = body }
 
-full-ranged : (e : Elements) → Kept e → elements_in_range (bytes_of e.numberA) (bytes_of e.numberB) (Is e.service) ≡ true
+full-ranged : (e : Elements) → Kept e → elements_in_range (bytes_of e.numberA) (bytes_of e.numberB) (Some e.service) ≡ true
 full-ranged e kept =
     rw (kept.range_a, digits-other (bytes_of e.numberB) 1 0 kept.range_b (omega arith)) (lt-ltb e.service 16384 kept.service)
 
@@ -184,7 +183,7 @@ request-fields Ccnr a b service flags = refl
 -- and it has no elements of its own: numbers and service are fields
 request-plain :
     (kind : Kind) (service flags : ℕ) (a b : List ℕ) →
-    pick (has_elements (request_body kind service flags) Setup) (elements_in_range a b Absent) (fields_in_range a b (request_body kind service flags)) ≡ fields_in_range a b (request_body kind service flags)
+    pick (has_elements (request_body kind service flags) Setup) (elements_in_range a b None) (fields_in_range a b (request_body kind service flags)) ≡ fields_in_range a b (request_body kind service flags)
 request-plain Ccbs service flags a b = refl
 request-plain Ccnr service flags a b = refl
 
@@ -195,7 +194,7 @@ request-in-range a b service flags ra rb s f = rw (ra, rb, lt-ltb service 16384 
 
 kept-name : (identified : Bool) (bytes : List ℕ) → length bytes ≡ 16 → Bytes bytes → KeptName (identifier_of identified bytes)
 unfolding identifier_of
-kept-name true bytes long all = ap (λ (xs : List ℕ). Identifier.Is (words_of xs)) (bytes-words bytes long all)
+kept-name true bytes long all = ap (λ (xs : List ℕ). Some (words_of xs)) (bytes-words bytes long all)
 kept-name false bytes long all = refl
 
 -- what an ask in range names, and its message
@@ -228,7 +227,7 @@ request-clear e kind flags kept few =
     let a = kept.numberA in
     let b = kept.numberB in
     record {
-      back = λ x. record { carrier = Setup; identifier = name x; numberA = a x; numberB = b x; service = Absent; body = request_body kind e.service flags };
+      back = λ x. record { carrier = Setup; identifier = name x; numberA = a x; numberB = b x; service = None; body = request_body kind e.service flags };
       ranged =
           request-plain kind e.service flags (bytes_of e.numberA) (bytes_of e.numberB)
           ∙ request-fields kind (bytes_of e.numberA) (bytes_of e.numberB) e.service flags
@@ -237,12 +236,12 @@ request-clear e kind flags kept few =
 
 -- ---- an ask that the entry makes
 -- the request that an entry's input sends, if it is an ask
-abbrev Sends : Entry → Type 0
-Sends (Refused number) = Unit
-Sends (Given (Input.Ask names q)) = Kept (ask_elements names q) × (q.flags < 6)
-Sends (Given (Input.Message l busy place)) = Unit
-Sends (Given (Input.Act name act)) = Unit
-Sends (Given (Input.Timer name timer)) = Unit
+abbrev Sends : Result Input Refusal → Type 0
+Sends (Err refusal) = Unit
+Sends (Ok (Input.Ask names q)) = Kept (ask_elements names q) × (q.flags < 6)
+Sends (Ok (Input.Message l busy place)) = Unit
+Sends (Ok (Input.Act name act)) = Unit
+Sends (Ok (Input.Timer name timer)) = Unit
 
 ask-sends : (a : Asking) → Typed a → Sends (ask_entry a)
 unfolding ask_entry

@@ -1,4 +1,5 @@
 -- The line's end refuses no message of a run with 8: a request goes in Setup, and what is sent by a connection choice is sent by one that is taken for the terms of its record.
+use Rattle.std.specs.Prelude.{Option, Some, None, Result}
 use Prim.Native.Nat.{ℕ}
 use mathlib.Core.Path.{◌≡◌, refl, sym, ◌∙◌, ap, subst}
 use mathlib.Core.Bool.{Bool, true, false, false≢true}
@@ -6,13 +7,13 @@ use mathlib.Core.List.{List, ◌∷◌}
 use lib.Dec.{eqb, ltb}
 use lib.ListN.{get_or}
 use native.Mathlib.Omega.{arith}
-use borrow.Author.Tests.{eq-eqb}
 use Rattle.lists.specs.Lists.{first, count}
-use Rattle.lists.specs.declared.Found.{Found}
-use Rattle.lists.specs.declared.Found.TheVariants.{At, Nothing}
 use Rattle.lists.proofs.Choice.{pick_elim}
 use Rattle.message.specs.declared.Kind.{Kind}
 use Rattle.message.specs.declared.Message.{Message}
+use Rattle.message.specs.declared.refusal.Refusal.TheVariants.{NotInCarrier}
+use Rattle.message.specs.declared.refusal.Refusal.{Refusal}
+use Rattle.message.specs.Refusals.{refusal_number}
 use Rattle.desk.specs.Carriers.{carrier_fits}
 use Rattle.desk.specs.declared.letter.Letter.{Letter}
 use Rattle.desk.specs.declared.sends.Elements.{Elements}
@@ -38,7 +39,6 @@ use Rattle.line_plan.specs.Decide.{line_most, holds_for, takes_call, row_decisio
 use Rattle.line_plan.specs.Plan.{plan_of, plan_for}
 use Rattle.clerk.specs.Entry.{ask_flags}
 use Rattle.line.specs.Steps.{step, entered, received}
-use Rattle.line.specs.declared.entry.Entry.{Entry}
 use Rattle.pair_request.specs.Reading as R
 use Rattle.pair_request.proofs.Effects.{Carried}
 use Rattle.pair_request.proofs.Claims.{line-carried}
@@ -57,20 +57,24 @@ use Rattle.pair.proofs.Sim.{Asked, Good, Fine}
 use Rattle.pair.proofs.Runs.{Known}
 
 -- ---- a decision that refuses with 8
+abbrev is_eight : Option Refusal → Bool
+is_eight None = false
+is_eight (Some refusal) = eqb (refusal_number refusal) 8
+
 abbrev eight : Decision → Bool
-eight (Refuse number reply) = eqb number 8
+eight (Refuse refusal reply) = eqb (refusal_number refusal) 8
 eight (Deny error) = false
 eight (Take i row) = false
 eight (Store i q busy) = false
 eight (Report k busy) = false
 
-plan-eight : (ws : List ℕ) (input : Input) (d : Decision) → (plan_of ws input d).outcome.refusal ≡ 8 → eight d ≡ true
+plan-eight : (ws : List ℕ) (input : Input) (d : Decision) → (plan_of ws input d).outcome.refusal ≡ Some NotInCarrier → eight d ≡ true
 unfolding plan_of row_taken
-plan-eight ws input (Refuse number reply) e = eq-eqb number 8 e
-plan-eight ws input (Deny error) e = absurd (omega (arith, e))
-plan-eight ws input (Take i row) e = absurd (omega (arith, e))
-plan-eight ws input (Store i q busy) e = absurd (omega (arith, e))
-plan-eight ws input (Report k busy) e = absurd (omega (arith, e))
+plan-eight ws input (Refuse refusal reply) e = ap is_eight e
+plan-eight ws input (Deny error) e = ap is_eight e
+plan-eight ws input (Take i row) e = ap is_eight e
+plan-eight ws input (Store i q busy) e = ap is_eight e
+plan-eight ws input (Report k busy) e = ap is_eight e
 
 -- a carrier that is allowed is not refused
 record-fits :
@@ -98,7 +102,7 @@ message-fits j b t own s Message.Cancel R.rls h = refl
 
 -- ---- on the desk
 record-eight :
-    (ws : List ℕ) (j : Elements) (l : R.Line) (b : Bool) (message : RecordMessage) (n : R.Conn) (f : Found) (means : Means) →
+    (ws : List ℕ) (j : Elements) (l : R.Line) (b : Bool) (message : RecordMessage) (n : R.Conn) (f : Option ℕ) (means : Means) →
     Meant line_sight (records ws) (set_of j (record_message message n)) (ready_for j (record_message message n)) f means → there line_sight (records ws) f ≡ line_read j b l →
     ((t : R.Terms) (own : R.Own) (s : R.LState) → l ≡ R.holds t own s → Carried t (record_message message n)) →
     eight (record_meant ws (letter_read j (record_message message n)) message means) ≡ false
@@ -116,22 +120,22 @@ record-eight ws j (R.holds t own s) b message n f means (found i) h carried =
 
 -- ---- a request is stored or denied
 module _ (ws : List ℕ) (names : Names) (q : Request) where
-  store-eight : (busy : Bool) (f : Found) → eight (store_found q busy f) ≡ false
-  store-eight busy Nothing = refl
-  store-eight busy (At i) = refl
+  store-eight : (busy : Bool) (f : Option ℕ) → eight (store_found q busy f) ≡ false
+  store-eight busy None = refl
+  store-eight busy (Some i) = refl
 
-  duplicate_eight : (busy : Bool) (f : Found) → eight (duplicate_found ws names q busy f) ≡ false
+  duplicate_eight : (busy : Bool) (f : Option ℕ) → eight (duplicate_found ws names q busy f) ≡ false
   unfolding counted_decision
-  duplicate_eight busy (At i) = refl
-  duplicate_eight busy Nothing =
+  duplicate_eight busy (Some i) = refl
+  duplicate_eight busy None =
       pick_elim (λ (d : Decision). eight d ≡ false) (ltb (count (of_line names.numberB) (records ws)) line_most)
       (λ t. store-eight busy (place (records ws)))
       (λ t. refl)
 
-  line-eight : (f : Found) → eight (line_found ws names q f) ≡ false
+  line-eight : (f : Option ℕ) → eight (line_found ws names q f) ≡ false
   unfolding admitted_decision
-  line-eight Nothing = refl
-  line-eight (At k) =
+  line-eight None = refl
+  line-eight (Some k) =
       let line = get_or (lines ws) k no_line in
       pick_elim (λ (d : Decision). eight d ≡ false) (allows line q.kind)
       (λ t. duplicate_eight line.busy (first (passes (Duplicate names)) (records ws)))
@@ -145,7 +149,7 @@ module _ (ws : List ℕ) (j : Elements) (place : ℕ) where
       rw (request-meant kind j.service (ask_flags d.canKeep q), request-carried kind j.service (ask_flags d.canKeep q))
       (line-eight ws (names_read j) (request_read j d kind q) (line_at j.numberB (lines ws)))
 
-  module _ (l : R.Line) (b : Bool) (f : Found) (h : there line_sight (records ws) f ≡ line_read j b l) where
+  module _ (l : R.Line) (b : Bool) (f : Option ℕ) (h : there line_sight (records ws) f ≡ line_read j b l) where
     message-eight :
         (m : R.Msg) → (NotReq m → Meant line_sight (records ws) (set_of j m) (ready_for j m) f (meaning (letter_read j m) place (records ws))) →
         ((t : R.Terms) (own : R.Own) (s : R.LState) → l ≡ R.holds t own s → Carried t m) → eight (message_decision ws (letter_read j m) place) ≡ false
@@ -169,16 +173,16 @@ module _ (ws : List ℕ) (j : Elements) (place : ℕ) where
 -- ---- in a world of a run
 pub line-fits :
     {K : Type 0} {n : Naming K} (tells : Tells n) {Inv : World → Type 0} {k : K} {p : R.Policy} {w : World} (g : Good p w) → Known n Inv k p w → (x : Of Message) (rest : List (Of Message)) (place : ℕ) →
-    n.key (label_of x) ≡ k → w.up ≡ x ∷ rest → Worded (Asked w.history) (x ∷ rest) → Fine n k w (line_hears place) → (received w.line w.count x.it place).outcome.refusal ≡ 8 → ⊥
+    n.key (label_of x) ≡ k → w.up ≡ x ∷ rest → Worded (Asked w.history) (x ∷ rest) → Fine n k w (line_hears place) → (received w.line w.count x.it place).outcome.refusal ≡ Some NotInCarrier → ⊥
 unfolding entered step plan_for decided
 line-fits {n = n} tells {k = k} {w = w} g known x rest place key e (word l m taken clear others) fine refused =
     let ws = w.line.words in
     let own : n.key (label l) ≡ k = sym (ap n.key (worded-label l m (clear-name l.it m clear))) ∙ key in
     let head = hear_head tells g place l m rest e taken clear others k known.net known.sim own in
     let h = head.0 in
-    let heard : (plan_for ws (Input.Message (letter_read l.it m) place)).outcome.refusal ≡ 8 =
-    ap (λ (y : Entry). (entered w.line w.count y).outcome.refusal) (sym (entry-as tells g place l m rest e taken clear others)) ∙ refused in
-    let said = subst (λ (y : Letter). (plan_for ws (Input.Message y place)).outcome.refusal ≡ 8) head.1 heard in
+    let heard : (plan_for ws (Input.Message (letter_read l.it m) place)).outcome.refusal ≡ Some NotInCarrier =
+    ap (λ (y : Result Input Refusal). (entered w.line w.count y).outcome.refusal) (sym (entry-as tells g place l m rest e taken clear others)) ∙ refused in
+    let said = subst (λ (y : Letter). (plan_for ws (Input.Message y place)).outcome.refusal ≡ Some NotInCarrier) head.1 heard in
     let so = plan-eight ws (Input.Message (letter_read known.sim.name h.code) place) (message_decision ws (letter_read known.sim.name h.code) place) said in
     let fits =
     message-eight ws known.sim.name place known.net.line known.sim.active known.sim.line_place known.sim.line h.code

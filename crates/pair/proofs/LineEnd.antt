@@ -1,4 +1,6 @@
 -- A message, an act and the guard's report at the line desk do what the reading says at the place of the about that they mean, and a request that is stored at a free place.
+use Rattle.lists.specs.declared.words.Words.{Words}
+use Rattle.std.specs.Prelude.{Option, Some, None}
 use Prim.Native.Nat.{ℕ}
 use mathlib.Core.Path.{◌≡◌, refl, sym, ap, ◌∙◌, subst}
 use mathlib.Core.Bool.{Bool, true, false}
@@ -7,7 +9,6 @@ use lib.ListN.{get_or}
 use lib.Dec.{ltb}
 use Rattle.lists.specs.Choice.{pick}
 use Rattle.lists.specs.Lists.{first, count}
-use Rattle.lists.specs.declared.Found.{Found}
 use Rattle.lists.proofs.Choice.{pick_elim}
 use Rattle.lists.proofs.Lists.{both_true}
 use Rattle.message.specs.Format.{request_body, has_elements}
@@ -15,16 +16,14 @@ use Rattle.message.specs.declared.Body.TheVariants.{CcCancel, RingoutError}
 use Rattle.message.specs.declared.Kind.{Kind}
 use Rattle.message.specs.declared.Kind.TheVariants.{Ccbs, Ccnr}
 use Rattle.message.specs.declared.Carrier.TheVariants as Carrier
+use Rattle.message.specs.declared.refusal.Refusal.TheVariants.{NotHere, NoRecord, NoRow, NotInCarrier}
+use Rattle.message.specs.declared.refusal.Refusal.{Refusal}
 use Rattle.desk.specs.Carriers.{carrier_fits}
 use Rattle.desk.specs.declared.Connection.TheVariants as Connection
 use Rattle.desk.specs.Letter.{message_of}
 use Rattle.desk.specs.Sends.{plain_letter}
-use Rattle.desk.specs.declared.letter.Identifier.{Identifier}
-use Rattle.desk.specs.declared.letter.Identifier.TheVariants.{Absent, Is}
 use Rattle.desk.specs.declared.letter.Letter.{Letter}
-use Rattle.desk.specs.declared.outcome.Sending.TheVariants as Sending
 use Rattle.desk.specs.declared.sends.Elements.{Elements}
-use Rattle.desk.specs.declared.sends.Sends.TheVariants as Sends
 use Rattle.terms.specs.Terms.{elements_of}
 use Rattle.terms.specs.Means.{fits, oldest}
 use Rattle.terms.specs.Request.{letter_names}
@@ -44,7 +43,7 @@ use Rattle.line_table.specs.declared.record.Record.{Record}
 use Rattle.line_table.specs.declared.record.Decision.{Decision}
 use Rattle.line_table.specs.declared.record.Decision.TheVariants.{Refuse, Deny, Take, Store, Report}
 use Rattle.line_table.specs.declared.record.Change.TheVariants.{Stay}
-use Rattle.line_table.specs.declared.record.Plan.{Plan}
+use Rattle.desk.specs.declared.plan.Plan.{Plan}
 use Rattle.line_table.specs.declared.inputs.Act.{Act}
 use Rattle.line_table.specs.declared.inputs.Input.{Input}
 use Rattle.line_table.specs.declared.inputs.RecordMessage.{RecordMessage}
@@ -70,6 +69,7 @@ use Rattle.pair.proofs.Sits.{view, there, Touches, not-one, the_one}
 use Rattle.pair.proofs.Changes.{stays, stores, pick-ap}
 use Rattle.pair.proofs.LineRows.{Answers, word_of, nothing-done, record_message, row_plan, record-found, record-missed, record-late, own_row, act-found, guard-found, request-stored, request-denied}
 use Rattle.pair.proofs.LineChanges.{OwnChange, plan-step, own-row, touches_row, Acted, refuses, takes-row}
+use Rattle.line_table.specs.declared.record.Change.{Change}
 
 pub request-meant :
     (kind : Kind) (service flags : ℕ) →
@@ -98,7 +98,7 @@ heard e m place = Input.Message (letter_read e m) place
 -- the place that is named is no part of a plan, but for the about that it means
 plan-place : (ws : List ℕ) (e : Elements) (m : R.Msg) (place : ℕ) (d : Decision) → plan_of ws (heard e m place) d ≡ plan_of ws (heard e m 0) d
 unfolding plan_of
-plan-place ws e m place (Refuse number reply) = refl
+plan-place ws e m place (Refuse refusal reply) = refl
 plan-place ws e m place (Deny error) = refl
 plan-place ws e m place (Take i row) = refl
 plan-place ws e m place (Store i q busy) = refl
@@ -109,7 +109,7 @@ module _ (ws : List ℕ) (e : Elements) (b : Bool) where
   rs = records ws
 
   -- what a decision on a message does at a place, with the desk's word on it
-  abbrev Does : R.Msg → Found → R.Line → Decision → Type 0
+  abbrev Does : R.Msg → Option ℕ → R.Line → Decision → Type 0
   Does m f l decision =
       (w : R.Word) × (OwnChange rs f (plan_of ws (heard e m 0) decision).change × Answers (plan_of ws (heard e m 0) decision) e b l (R.line_takes (policy_of ws) l m w))
 
@@ -132,26 +132,26 @@ module _ (ws : List ℕ) (e : Elements) (b : Bool) where
     row-at i =
         let r = get_or rs i blank in
         pick-ap (plan_of ws (heard e code 0)) (holds_for (row_at r) r) _ _
-        ∙ ap (λ (plan : Plan). pick (holds_for (row_at r) r) plan (plan_of ws (heard e code 0) (Refuse 7 (reply_missed message))))
+        ∙ ap (λ (plan : Plan Change). pick (holds_for (row_at r) r) plan (plan_of ws (heard e code 0) (Refuse NoRow (reply_missed message))))
         (pick-ap (plan_of ws (heard e code 0)) (carrier_fits letter.body r.terms.connection letter.carrier) _ _)
 
-    own_at : (i : ℕ) → OwnChange rs (Found.At i) (row_plan i (get_or rs i blank) letter message (row_at (get_or rs i blank))).change
+    own_at : (i : ℕ) → OwnChange rs (Some i) (row_plan i (get_or rs i blank) letter message (row_at (get_or rs i blank))).change
     own_at i =
         let r = get_or rs i blank in
-        pick_elim (λ (plan : Plan). OwnChange rs (Found.At i) plan.change) (holds_for (row_at r) r)
+        pick_elim (λ (plan : Plan Change). OwnChange rs (Some i) plan.change) (holds_for (row_at r) r)
         (λ h.
-        pick_elim (λ (plan : Plan). OwnChange rs (Found.At i) plan.change) (carrier_fits letter.body r.terms.connection letter.carrier)
+        pick_elim (λ (plan : Plan Change). OwnChange rs (Some i) plan.change) (carrier_fits letter.body r.terms.connection letter.carrier)
         (λ g. own-row rs i r (row_at r))
         (λ g. stays))
         (λ h. stays)
 
-    found-heard : (i : ℕ) (l : R.Line) → P.one (get_or rs i blank) ≡ line_read e b l → Does code (Found.At i) l (record_meant ws letter message (Means.At i))
+    found-heard : (i : ℕ) (l : R.Line) → P.one (get_or rs i blank) ≡ line_read e b l → Does code (Some i) l (record_meant ws letter message (Means.At i))
     found-heard i R.none h = not-one (sym h)
     found-heard i (R.holds t own s) h =
         let free = takes_call ws e.numberB in
         let answer = R.line_takes (policy_of ws) (R.holds t own s) code (word_of R.takes free) in (
           word_of R.takes free,
-          subst (λ (plan : Plan). OwnChange rs (Found.At i) plan.change × Answers plan e b (R.holds t own s) answer) (sym (row-at i)) (
+          subst (λ (plan : Plan Change). OwnChange rs (Some i) plan.change × Answers plan e b (R.holds t own s) answer) (sym (row-at i)) (
             own_at i,
             subst (λ (r : Record). Answers (row_plan i r letter message (row_at r)) e b (R.holds t own s) answer) (sym (found-read ws e b t own s i h))
                 (record-found e b (policy_of ws) i message n' free t own s),
@@ -159,13 +159,13 @@ module _ (ws : List ℕ) (e : Elements) (b : Bool) where
         )
 
     record-heard :
-        (f : Found) (means : Means) (l : R.Line) → Meant line_sight rs (set_of e code) (ready_for e code) f means → there line_sight rs f ≡ line_read e b l →
+        (f : Option ℕ) (means : Means) (l : R.Line) → Meant line_sight rs (set_of e code) (ready_for e code) f means → there line_sight rs f ≡ line_read e b l →
         Does code f l (record_meant ws letter message means)
     unfolding plan_of
     record-heard f means l (found i) h = found-heard i l h
-    record-heard f means R.none missed h = (word_of R.takes true, (stays, record-missed e b (policy_of ws) 6 message n' (word_of R.takes true)))
+    record-heard f means R.none missed h = (word_of R.takes true, (stays, record-missed e b (policy_of ws) NoRecord message n' (word_of R.takes true)))
     record-heard f means (R.holds t own s) missed h = not-one h
-    record-heard f means R.none (no_longer set) h = (word_of R.takes true, (stays, record-missed e b (policy_of ws) 7 message n' (word_of R.takes true)))
+    record-heard f means R.none (no_longer set) h = (word_of R.takes true, (stays, record-missed e b (policy_of ws) NoRow message n' (word_of R.takes true)))
     record-heard f means (R.holds t own s) (no_longer set) h = not-one h
     record-heard f means R.none (late i set ready) h = not-one (sym h)
     record-heard f means (R.holds t own s) (late i set ready) h =
@@ -177,42 +177,42 @@ module _ (ws : List ℕ) (e : Elements) (b : Bool) where
     abbrev asked : R.Msg
     asked = R.request d kind q
 
-    denied : (short : Bool) → Does asked Found.Nothing R.none (Deny (pick short 1 2))
+    denied : (short : Bool) → Does asked None R.none (Deny (pick short 1 2))
     unfolding plan_of
     denied short = (word_of (R.denies short) true, (stays, request-denied ws e b short true d kind q R.none))
 
-    store-heard : (busy : Bool) (free : Found) → place rs ≡ free → Does asked Found.Nothing R.none (store_found (request_read e d kind q) busy free)
+    store-heard : (busy : Bool) (free : Option ℕ) → place rs ≡ free → Does asked None R.none (store_found (request_read e d kind q) busy free)
     unfolding plan_of place
-    store-heard busy Found.Nothing e' = denied true
-    store-heard busy (Found.At i) e' =
+    store-heard busy None e' = denied true
+    store-heard busy (Some i) e' =
         (word_of R.takes true, (stores i (new_record ws (names_read e) (request_read e d kind q) busy) e', request-stored ws i e b busy true d kind q))
 
-    duplicate_heard : (busy : Bool) (x : Found) → Does asked Found.Nothing R.none (duplicate_found ws (names_read e) (request_read e d kind q) busy x)
+    duplicate_heard : (busy : Bool) (x : Option ℕ) → Does asked None R.none (duplicate_found ws (names_read e) (request_read e d kind q) busy x)
     unfolding counted_decision
-    duplicate_heard busy (Found.At i) = denied true
-    duplicate_heard busy Found.Nothing =
-        pick_elim (Does asked Found.Nothing R.none) (ltb (count (of_line e.numberB) rs) line_most) (λ t. store-heard busy (place rs) refl) (λ t. denied true)
+    duplicate_heard busy (Some i) = denied true
+    duplicate_heard busy None =
+        pick_elim (Does asked None R.none) (ltb (count (of_line e.numberB) rs) line_most) (λ t. store-heard busy (place rs) refl) (λ t. denied true)
 
-    line-heard : (x : Found) → Does asked Found.Nothing R.none (line_found ws (names_read e) (request_read e d kind q) x)
+    line-heard : (x : Option ℕ) → Does asked None R.none (line_found ws (names_read e) (request_read e d kind q) x)
     unfolding admitted_decision
-    line-heard Found.Nothing = denied false
-    line-heard (Found.At k) =
+    line-heard None = denied false
+    line-heard (Some k) =
         let line = get_or (lines ws) k no_line in
-        pick_elim (Does asked Found.Nothing R.none) (allows line kind)
+        pick_elim (Does asked None R.none) (allows line kind)
         (λ t. duplicate_heard line.busy (first (passes (Duplicate (names_read e))) rs))
         (λ t. denied false)
 
-    request-heard : (at : ℕ) → Does asked Found.Nothing R.none (message_decision ws (letter_read e asked) at)
+    request-heard : (at : ℕ) → Does asked None R.none (message_decision ws (letter_read e asked) at)
     unfolding message_decision request_decision
     request-heard at =
         rw (request-meant kind e.service (ask_flags d.canKeep q), request-carried kind e.service (ask_flags d.canKeep q))
         (line-heard (line_at e.numberB (lines ws)))
 
   -- ---- every other message, at the place of the request's record, by what it means
-  module _ (at : ℕ) (f : Found) (l : R.Line) (h : there line_sight rs f ≡ line_read e b l) where
+  module _ (at : ℕ) (f : Option ℕ) (l : R.Line) (h : there line_sight rs f ≡ line_read e b l) where
     -- a message that goes to the clerk
-    not-here : (w : R.Word) × (OwnChange rs f (refused_plan 3 Sending.Nothing).change × Answers (refused_plan 3 Sending.Nothing) e b l (l, []))
-    not-here = (word_of R.takes true, (stays, nothing-done 3 e b l))
+    not-here : (w : R.Word) × (OwnChange rs f (refused_plan NotHere None).change × Answers (refused_plan NotHere None) e b l (l, []))
+    not-here = (word_of R.takes true, (stays, nothing-done NotHere e b l))
 
     abbrev Its-means : R.Msg → Type 0
     Its-means m = Meant line_sight rs (set_of e m) (ready_for e m) f (meaning (letter_read e m) at rs)
@@ -236,10 +236,10 @@ module _ (ws : List ℕ) (e : Elements) (b : Bool) where
     message-heard R.failed plain means = not-here
 
 -- ---- any message but a request, whosever it is: refused, with a reply of its own or none; or taken for the about that it means, as if it were of that one
-pub data Heard (ws : List ℕ) (e : Elements) (m : R.Msg) (means : Means) (plan : Plan) : Type 0 where
+pub data Heard (ws : List ℕ) (e : Elements) (m : R.Msg) (means : Means) (plan : Plan Change) : Type 0 where
   replies : (ms : List R.Msg) → plan.change ≡ Stay → sent_by plan.outcome.sending ≡ map (message_read e) ms → NoReq ms → Heard ws e m means plan
   turns-row :
-      (i : ℕ) → means ≡ Means.At i → Touches i (line_change plan.change) → OwnChange (records ws) (Found.At i) plan.change →
+      (i : ℕ) → means ≡ Means.At i → Touches i (line_change plan.change) → OwnChange (records ws) (Some i) plan.change →
       ((y : Elements) (l : R.Line) (b : Bool) → P.one (get_or (records ws) i blank) ≡ line_read y b l → (w : R.Word) × Answers plan y b l (R.line_takes (policy_of ws) l m w)) → Heard ws e m means plan
 
 module _ (ws : List ℕ) (e : Elements) (message : RecordMessage) (n : R.Conn) where
@@ -255,23 +255,23 @@ module _ (ws : List ℕ) (e : Elements) (message : RecordMessage) (n : R.Conn) w
       by Message.Ringout = tt
       by Message.Cancel = tt
 
-  missed-replies : (means : Means) (number : ℕ) (x : RecordMessage) → Heard ws e about means (plan_of ws (heard e about 0) (Refuse number (reply_missed x)))
+  missed-replies : (means : Means) (refusal : Refusal) (x : RecordMessage) → Heard ws e about means (plan_of ws (heard e about 0) (Refuse refusal (reply_missed x)))
   unfolding plan_of
-  missed-replies means number Message.Suspend = replies [] refl refl tt
-  missed-replies means number Message.Resume =
-      replies (R.cancel R.ret ∷ []) refl (ap (λ (x : Identifier). message_of (plain_letter x Carrier.ReleaseComplete CcCancel) ∷ []) (letter-name e about)) (tt, tt)
-  missed-replies means number Message.Ringout =
-      replies (R.no_match ∷ []) refl (ap (λ (x : Identifier). message_of (plain_letter x Carrier.ReleaseComplete (RingoutError 2)) ∷ []) (letter-name e about)) (tt, tt)
-  missed-replies means number Message.Cancel = replies [] refl refl tt
+  missed-replies means refusal Message.Suspend = replies [] refl refl tt
+  missed-replies means refusal Message.Resume =
+      replies (R.cancel R.ret ∷ []) refl (ap (λ (x : Option Words). message_of (plain_letter x Carrier.ReleaseComplete CcCancel) ∷ []) (letter-name e about)) (tt, tt)
+  missed-replies means refusal Message.Ringout =
+      replies (R.no_match ∷ []) refl (ap (λ (x : Option Words). message_of (plain_letter x Carrier.ReleaseComplete (RingoutError 2)) ∷ []) (letter-name e about)) (tt, tt)
+  missed-replies means refusal Message.Cancel = replies [] refl refl tt
 
-  silent-replies : (means : Means) (number : ℕ) → Heard ws e about means (plan_of ws (heard e about 0) (Refuse number Sends.Nothing))
+  silent-replies : (means : Means) (refusal : Refusal) → Heard ws e about means (plan_of ws (heard e about 0) (Refuse refusal None))
   unfolding plan_of
-  silent-replies means number = replies [] refl refl tt
+  silent-replies means refusal = replies [] refl refl tt
 
   record-any : (means : Means) → Heard ws e about means (plan_of ws (heard e about 0) (record_meant ws (letter_read e about) message means))
   unfolding plan_of
-  record-any Means.Nothing = missed-replies Means.Nothing 6 message
-  record-any Means.NotNow = missed-replies Means.NotNow 7 message
+  record-any Means.Nothing = missed-replies Means.Nothing NoRecord message
+  record-any Means.NotNow = missed-replies Means.NotNow NoRow message
   record-any (Means.At i) = by
       (λ y l b read.
       let so = found-heard ws y b message n i l read in
@@ -298,14 +298,14 @@ module _ (ws : List ℕ) (e : Elements) (message : RecordMessage) (n : R.Conn) w
           (w : R.Word) × Answers (plan_of ws (heard y about 0) d) y b l (R.line_takes (policy_of ws) l about w)) → Heard ws e about (Means.At i) (plan_of ws (heard e about 0) d))
           (carrier_fits (letter_read e about).body (get_or (records ws) i blank).terms.connection (letter_read e about).carrier)
           (λ g says. turns-row i refl (touches_row i (get_or (records ws) i blank) row) (own-row (records ws) i (get_or (records ws) i blank) row) says)
-          (λ g says. silent-replies (Means.At i) 8))
-          (λ h says. missed-replies (Means.At i) 7 message)
+          (λ g says. silent-replies (Means.At i) NotInCarrier))
+          (λ h says. missed-replies (Means.At i) NoRow message)
 
 module _ (ws : List ℕ) (e : Elements) (at : ℕ) where
   abbrev AnyHeard : R.Msg → Type 0
   AnyHeard m = Heard ws e m (meaning (letter_read e m) at (records ws)) (plan_of ws (heard e m 0) (message_decision ws (letter_read e m) at))
 
-  away : (m : R.Msg) → Heard ws e m (meaning (letter_read e m) at (records ws)) (refused_plan 3 Sending.Nothing)
+  away : (m : R.Msg) → Heard ws e m (meaning (letter_read e m) at (records ws)) (refused_plan NotHere None)
   away m = replies [] refl refl tt
 
   any-heard : (m : R.Msg) → NotReq m → AnyHeard m
@@ -347,21 +347,21 @@ module _ (ws : List ℕ) (input : Input) (row : Row) (x : R.LAct) where
       by h j R.none b read = not-one (sym read)
       by h j (R.holds t own s) b read =
           let r = get_or (records ws) i blank in
-          subst (λ (so : Bool). Answers (pick so (row_taken i r row) (refused_plan 7 Sending.Nothing)) j b (R.holds t own s) (R.line_acts (R.holds t own s) x)) h
+          subst (λ (so : Bool). Answers (pick so (row_taken i r row) (refused_plan NoRow None)) j b (R.holds t own s) (R.line_acts (R.holds t own s) x)) h
           (subst (λ (y : Record). Answers (own_row i row y) j b (R.holds t own s) (R.line_acts (R.holds t own s) x)) (sym (found-read ws j b t own s i read)) (ways i j b t own s))
 
 -- ---- which record is meant, as it is said for both desks
-meaning-or : (f : Found) (otherwise : Means) → Meaning.or_else f otherwise ≡ or_else f otherwise
-meaning-or (Found.At i) otherwise = refl
-meaning-or Found.Nothing otherwise = refl
+meaning-or : (f : Option ℕ) (otherwise : Means) → Meaning.or_else f otherwise ≡ or_else f otherwise
+meaning-or (Some i) otherwise = refl
+meaning-or None otherwise = refl
 
 meaning-by :
-    (identifier : Identifier) (set : Bool) (elements : Means) (place : ℕ) (rs : List Record) →
+    (identifier : Option Words) (set : Bool) (elements : Means) (place : ℕ) (rs : List Record) →
     Meaning.or_else (Meaning.identifier_means identifier rs) (pick set elements (Meaning.place_means identifier place rs))
     ≡ or_else (P.known_in (view line_sight) identifier rs) (pick set elements (place_means line_sight identifier place rs))
 unfolding meant
-meaning-by Absent set elements place rs = refl
-meaning-by (Is identifier) set elements place rs = meaning-or (meant identifier rs) (pick set elements Means.Nothing)
+meaning-by None set elements place rs = refl
+meaning-by (Some identifier) set elements place rs = meaning-or (meant identifier rs) (pick set elements Means.Nothing)
 
 pub line-meaning :
     (l : Letter) (place : ℕ) (rs : List Record) →
@@ -371,7 +371,7 @@ line-meaning l place rs = meaning-by l.identifier (has_elements l.body l.carrier
 
 -- a record with its elements fits a message that has them
 pub line-fitting :
-    (e : Elements) (m : R.Msg) → set_of e m ≡ true → e.identifier ≡ Absent → (r : Record) → used r ≡ true → elements_of r.terms ≡ e →
+    (e : Elements) (m : R.Msg) → set_of e m ≡ true → e.identifier ≡ None → (r : Record) → used r ≡ true → elements_of r.terms ≡ e →
     Meaning.fitting (letter_names (letter_read e m)) r ≡ true
 line-fitting e m set absent r u same = both_true u ∙ ap (λ (names : Names). fits names r.terms) (set-names e m set) ∙ own-fits e absent r.terms same
 
@@ -379,20 +379,20 @@ line-fitting e m set absent r u same = both_true u ∙ ap (λ (names : Names). f
 module _ (d : Desk) (reached : Reached d) (count : ℕ) where
   -- what a decision on a message does is a step
   does_step :
-      (given : Of Elements) (j : Elements) (m : R.Msg) (at : ℕ) (f : Found) (l : R.Line) (b : Bool) → given.it ≡ j → there line_sight (records d.words) f ≡ line_read j b l →
+      (given : Of Elements) (j : Elements) (m : R.Msg) (at : ℕ) (f : Option ℕ) (l : R.Line) (b : Bool) → given.it ≡ j → there line_sight (records d.words) f ≡ line_read j b l →
       Does d.words j b m f l (message_decision d.words (letter_read j m) at) →
       (w : R.Word) × LineStep d count given f (plan_for d.words (heard j m at)) j (R.line_takes (policy_of d.words) l m w)
   unfolding plan_for decided
   does_step given j m at f l b came h does = (
     does.0,
-    subst (λ (plan : Plan). LineStep d count given f plan j (R.line_takes (policy_of d.words) l m does.0)) (sym (plan-place d.words j m at (message_decision d.words (letter_read j m) at)))
+    subst (λ (plan : Plan Change). LineStep d count given f plan j (R.line_takes (policy_of d.words) l m does.0)) (sym (plan-place d.words j m at (message_decision d.words (letter_read j m) at)))
         (plan-step d reached count given f j (plan_of d.words (heard j m 0) (message_decision d.words (letter_read j m) at)) (R.line_takes (policy_of d.words) l m does.0) l b does.1.0 h does.1.1
         (λ i q. came)),
   )
 
   -- a message of a request, by what it means
   pub line-hears :
-      (given : Of Elements) (j : Elements) (m : R.Msg) (at : ℕ) (f : Found) (l : R.Line) (b : Bool) → given.it ≡ j → NotReq m →
+      (given : Of Elements) (j : Elements) (m : R.Msg) (at : ℕ) (f : Option ℕ) (l : R.Line) (b : Bool) → given.it ≡ j → NotReq m →
       Meant line_sight (records d.words) (set_of j m) (ready_for j m) f (meaning (letter_read j m) at (records d.words)) → there line_sight (records d.words) f ≡ line_read j b l →
       (w : R.Word) × LineStep d count given f (plan_for d.words (heard j m at)) j (R.line_takes (policy_of d.words) l m w)
   line-hears given j m at f l b came plain means h = does_step given j m at f l b came h (message-heard d.words j b at f l h m plain means)
@@ -400,8 +400,8 @@ module _ (d : Desk) (reached : Reached d) (count : ℕ) where
   -- its request, of which nothing is held
   pub line-asked :
       (given : Of Elements) (j : Elements) (x : R.Data) (kind : Kind) (q at : ℕ) → given.it ≡ j →
-      (w : R.Word) × LineStep d count given Found.Nothing (plan_for d.words (heard j (R.request x kind q) at)) j (R.line_takes (policy_of d.words) R.none (R.request x kind q) w)
-  line-asked given j x kind q at came = does_step given j (R.request x kind q) at Found.Nothing R.none true came refl (request-heard d.words j true x kind q at)
+      (w : R.Word) × LineStep d count given None (plan_for d.words (heard j (R.request x kind q) at)) j (R.line_takes (policy_of d.words) R.none (R.request x kind q) w)
+  line-asked given j x kind q at came = does_step given j (R.request x kind q) at None R.none true came refl (request-heard d.words j true x kind q at)
 
   -- any message but a request
   pub line-heard-any : (j : Elements) (m : R.Msg) (at : ℕ) → NotReq m → Heard d.words j m (meaning (letter_read j m) at (records d.words)) (plan_for d.words (heard j m at))

@@ -1,4 +1,5 @@
 -- A Look and a line report at the line desk: a Look does nothing or offers one request as the reading says; a report marks activity, which is no part of the reading.
+use Rattle.std.specs.Prelude.{Option, Some, None}
 use Prim.Native.Nat.{ℕ}
 use mathlib.Core.Path.{◌≡◌, refl, sym, ap, ◌∙◌, subst}
 use mathlib.Core.Logic.{◌⊎◌, inl, inr}
@@ -8,14 +9,12 @@ use lib.ListN.{get_or}
 use native.Mathlib.Omega.{arith}
 use Rattle.lists.specs.Lists.{first}
 use Rattle.lists.specs.Words.{same_words}
-use Rattle.lists.specs.declared.Found.{Found}
-use Rattle.lists.specs.declared.Found.TheVariants.{At, Nothing}
 use Rattle.lists.specs.declared.words.Words.{Words}
 use Rattle.lists.proofs.Choice.{pick_elim}
 use Rattle.lists.proofs.Lists.{both_parts, first_holds}
-use Rattle.desk.specs.declared.outcome.Sending.TheVariants as Sending
+use Rattle.message.specs.declared.refusal.Refusal.{Refusal}
+use Rattle.message.specs.declared.refusal.Refusal.TheVariants.{NoLine, NothingToOffer}
 use Rattle.desk.specs.declared.sends.Elements.{Elements}
-use Rattle.desk.specs.declared.sends.Sends.TheVariants as Sends
 use Rattle.places.specs.Places as P
 use Rattle.line_table.specs.Line.{can_take}
 use Rattle.line_table.specs.Table.{in_use}
@@ -27,7 +26,7 @@ use Rattle.line_table.specs.declared.table.Row.TheVariants.{Offers}
 use Rattle.line_table.specs.declared.line.Line.{Line}
 use Rattle.line_table.specs.declared.record.Record.{Record}
 use Rattle.line_table.specs.declared.record.Decision.{Decision}
-use Rattle.line_table.specs.declared.record.Plan.{Plan}
+use Rattle.desk.specs.declared.plan.Plan.{Plan}
 use Rattle.line_table.specs.declared.inputs.Input.TheVariants as Input
 use Rattle.line_table.specs.declared.search.Sought.TheVariants.{Blocking, Fitting}
 use Rattle.line_records.specs.Records.{blank, records}
@@ -44,35 +43,36 @@ use Rattle.pair.proofs.LineRows.{Answers, offer_found_lem}
 use Rattle.pair.proofs.LineChanges as Changed
 use Rattle.pair.proofs.LineChanges.{own-row, touches_row, Acted, takes-row}
 use Rattle.pair.proofs.LineEnd.{found-read}
+use Rattle.line_table.specs.declared.record.Change.{Change}
 
 -- ---- a Look
 -- it is refused, or offers a record that fits
 data Look (rs : List Record) (number : Words) : Decision → Type 0 where
-  refuses : (refusal : ℕ) → Look rs number (Decision.Refuse refusal Sends.Nothing)
+  refuses : (refusal : Refusal) → Look rs number (Decision.Refuse refusal None)
   gives : (i : ℕ) → fits number (get_or rs i blank) ≡ true → Look rs number (Decision.Take i Offers)
 
 module _ (ws : List ℕ) (number : Words) where
-  no_place : {i : ℕ} → Nothing ≡ At i → ⊥
+  no_place : {i : ℕ} → None ≡ Some i → ⊥
   no_place e = let z : ◌≡◌ {A = ℕ} 0 1 = cc in omega arith
 
-  offered-fits : (blocking : Found) (i : ℕ) → offer_found ws number blocking ≡ At i → fits number (get_or (records ws) i blank) ≡ true
-  offered-fits (At j) i e = absurd (no_place e)
-  offered-fits Nothing i e = first_holds (passes (Fitting number)) (records ws) i blank e
+  offered-fits : (blocking : Option ℕ) (i : ℕ) → offer_found ws number blocking ≡ Some i → fits number (get_or (records ws) i blank) ≡ true
+  offered-fits (Some j) i e = absurd (no_place e)
+  offered-fits None i e = first_holds (passes (Fitting number)) (records ws) i blank e
 
-  offer_fits : (line : Line) (i : ℕ) → offer_at ws line number ≡ At i → fits number (get_or (records ws) i blank) ≡ true
+  offer_fits : (line : Line) (i : ℕ) → offer_at ws line number ≡ Some i → fits number (get_or (records ws) i blank) ≡ true
   unfolding offer_at
   offer_fits line i =
-      pick_elim (λ (f : Found). f ≡ At i → fits number (get_or (records ws) i blank) ≡ true) (can_take line)
+      pick_elim (λ (f : Option ℕ). f ≡ Some i → fits number (get_or (records ws) i blank) ≡ true) (can_take line)
       (λ t. offered-fits (first (passes (Blocking number)) (records ws)) i)
       (λ t e. absurd (no_place e))
 
-  offer_look : (line : Line) (f : Found) → offer_at ws line number ≡ f → Look (records ws) number (offer_decision f)
-  offer_look line Nothing e = refuses 11
-  offer_look line (At i) e = gives i (offer_fits line i e)
+  offer_look : (line : Line) (f : Option ℕ) → offer_at ws line number ≡ f → Look (records ws) number (offer_decision f)
+  offer_look line None e = refuses NothingToOffer
+  offer_look line (Some i) e = gives i (offer_fits line i e)
 
-  found-look : (f : Found) → Look (records ws) number (look_found ws number f)
-  found-look Nothing = refuses 10
-  found-look (At k) = offer_look (get_or (lines ws) k no_line) (offer_at ws (get_or (lines ws) k no_line) number) refl
+  found-look : (f : Option ℕ) → Look (records ws) number (look_found ws number f)
+  found-look None = refuses NoLine
+  found-look (Some k) = offer_look (get_or (lines ws) k no_line) (offer_at ws (get_or (lines ws) k no_line) number) refl
 
 invoked-used : (s : State) → invoked s ≡ true → in_use s ≡ true
 invoked-used Free e = e
@@ -110,16 +110,16 @@ module _ (d : Desk) (number : Words) where
   line-looks = look-acted _ (found-look d.words number (line_at number (lines d.words)))
 
 -- ---- a line report: it sends nothing, touches no place, and at most it marks activity
-pub record Reported (rs : List Record) (number : Words) (busy : Bool) (plan : Plan) : Type 0 where
-  pub silent : plan.outcome.sending ≡ Sending.Nothing
+pub record Reported (rs : List Record) (number : Words) (busy : Bool) (plan : Plan Change) : Type 0 where
+  pub silent : plan.outcome.sending ≡ None
   pub untouched : line_change plan.change ≡ Touch.nothing
   pub marks : (records_after rs plan.change ≡ rs) ⊎ ((busy ≡ true) × (records_after rs plan.change ≡ map (marking number) rs))
 
-found-reported : (ws : List ℕ) (number : Words) (busy : Bool) (f : Found) → Reported (records ws) number busy (plan_of ws (Input.Report number busy) (report_found busy f))
+found-reported : (ws : List ℕ) (number : Words) (busy : Bool) (f : Option ℕ) → Reported (records ws) number busy (plan_of ws (Input.Report number busy) (report_found busy f))
 unfolding plan_of
-found-reported ws number busy Nothing = record { silent = refl; untouched = refl; marks = inl refl }
-found-reported ws number true (At k) = record { silent = refl; untouched = refl; marks = inr (refl, refl) }
-found-reported ws number false (At k) = record { silent = refl; untouched = refl; marks = inl refl }
+found-reported ws number busy None = record { silent = refl; untouched = refl; marks = inl refl }
+found-reported ws number true (Some k) = record { silent = refl; untouched = refl; marks = inr (refl, refl) }
+found-reported ws number false (Some k) = record { silent = refl; untouched = refl; marks = inl refl }
 
 pub line-reports : (d : Desk) (number : Words) (busy : Bool) → Reported (records d.words) number busy (plan_for d.words (Input.Report number busy))
 unfolding plan_for decided report_decision

@@ -1,4 +1,5 @@
 -- What each decision about a record of the line desk plans, against the reading of that record: one clause for each state and choice that the table looks at.
+use Rattle.std.specs.Prelude.{None}
 use Prim.Native.Nat.{ℕ, ◌+◌, ◌*◌, ◌/◌, ◌%◌}
 use mathlib.Core.Path.{◌≡◌, refl, sym, ap, ◌∙◌, subst}
 use mathlib.Core.Bool.{Bool, true, false}
@@ -9,12 +10,13 @@ use Rattle.lists.specs.Choice.{pick}
 use Rattle.lists.proofs.Choice.{no_true}
 use Rattle.message.specs.declared.Kind.{Kind}
 use Rattle.message.specs.Format.{has_elements}
+use Rattle.message.specs.declared.refusal.Refusal.TheVariants.{NoRecord, NoRow, NotInCarrier}
+use Rattle.message.specs.declared.refusal.Refusal.{Refusal}
 use Rattle.desk.specs.Carriers.{carrier_fits}
 use Rattle.desk.specs.Sends.{answered}
 use Rattle.desk.specs.declared.Connection.TheVariants as Connection
 use Rattle.desk.specs.declared.Keep.TheVariants as Keep
 use Rattle.desk.specs.declared.letter.Letter.{Letter}
-use Rattle.desk.specs.declared.outcome.Sending.TheVariants as Sending
 use Rattle.desk.specs.declared.sends.Elements.{Elements}
 use Rattle.terms.specs.Request.{can_keep_sent}
 use Rattle.places.specs.Places as P
@@ -28,7 +30,7 @@ use Rattle.line_table.specs.declared.table.Row.TheVariants.{Offers, GuardRunsOut
 use Rattle.line_table.specs.declared.record.Record.{Record}
 use Rattle.line_table.specs.declared.record.Change.{Change}
 use Rattle.line_table.specs.declared.record.Change.TheVariants.{Stay, Put, Turn, Remove, Report}
-use Rattle.line_table.specs.declared.record.Plan.{Plan}
+use Rattle.desk.specs.declared.plan.Plan.{Plan}
 use Rattle.line_table.specs.declared.inputs.Act.{Act}
 use Rattle.line_table.specs.declared.inputs.RecordMessage.{RecordMessage}
 use Rattle.line_table.specs.declared.inputs.RecordMessage.TheVariants as Message
@@ -51,7 +53,7 @@ leaves (Remove i) before = P.none
 leaves (Report k number busy) before = before
 
 -- a plan does to what is read as l what the answer says, and sends what it says
-pub data Answers (plan : Plan) (identifier : Elements) (active : Bool) (l : R.Line) (answer : R.LAnswer) : Type 0 where
+pub data Answers (plan : Plan Change) (identifier : Elements) (active : Bool) (l : R.Line) (answer : R.LAnswer) : Type 0 where
   answers :
       (after : Bool) → leaves plan.change (line_read identifier active l) ≡ line_read identifier after answer.0 →
       sent_by plan.outcome.sending ≡ map (message_read identifier) answer.1 → Answers plan identifier active l answer
@@ -61,8 +63,8 @@ abbrev pub word_of : R.Verdict → Bool → R.Word
 word_of verdict free = record { verdict = verdict; free = free }
 
 -- ---- a message without a row at the line's end
-pub nothing-done : (number : ℕ) (identifier : Elements) (b : Bool) (l : R.Line) → Answers (refused_plan number Sending.Nothing) identifier b l (l, [])
-nothing-done number identifier b l = answers b refl refl
+pub nothing-done : (refusal : Refusal) (identifier : Elements) (b : Bool) (l : R.Line) → Answers (refused_plan refusal None) identifier b l (l, [])
+nothing-done refusal identifier b l = answers b refl refl
 
 -- ---- messages about a record
 -- as they are read, with the connection choice of the clerk that sent them
@@ -73,11 +75,11 @@ record_message Message.Ringout n = R.ringout
 record_message Message.Cancel n = R.cancel n
 
 -- a plan by the record that it is about
-abbrev pub row_plan : ℕ → Record → Letter → RecordMessage → Row → Plan
+abbrev pub row_plan : ℕ → Record → Letter → RecordMessage → Row → Plan Change
 row_plan i r l message row =
     pick (holds_for row r)
-    (pick (carrier_fits l.body r.terms.connection l.carrier) (row_taken i r row) (refused_plan 8 Sending.Nothing))
-    (refused_plan 7 (answered l.identifier (reply_missed message)))
+    (pick (carrier_fits l.body r.terms.connection l.carrier) (row_taken i r row) (refused_plan NotInCarrier None))
+    (refused_plan NoRow (answered l.identifier (reply_missed message)))
 
 module _ (identifier : Elements) (b : Bool) (p : R.Policy) where
   pub record-found :
@@ -117,22 +119,22 @@ module _ (identifier : Elements) (b : Bool) (p : R.Policy) where
 
   -- no record
   pub record-missed :
-      (number : ℕ) (message : RecordMessage) (n' : R.Conn) (w : R.Word) →
-      Answers (refused_plan number (answered (letter_read identifier (record_message message n')).identifier (reply_missed message))) identifier b R.none
+      (refusal : Refusal) (message : RecordMessage) (n' : R.Conn) (w : R.Word) →
+      Answers (refused_plan refusal (answered (letter_read identifier (record_message message n')).identifier (reply_missed message))) identifier b R.none
       (R.line_takes p R.none (record_message message n') w)
   unfolding R.line_takes
-  record-missed number Message.Suspend n' w = answers b refl refl
-  record-missed number Message.Resume R.ret w = answers b refl refl
-  record-missed number Message.Resume R.rls w = answers b refl refl
-  record-missed number Message.Ringout n' w = answers b refl refl
-  record-missed number Message.Cancel n' w = answers b refl refl
+  record-missed refusal Message.Suspend n' w = answers b refl refl
+  record-missed refusal Message.Resume R.ret w = answers b refl refl
+  record-missed refusal Message.Resume R.rls w = answers b refl refl
+  record-missed refusal Message.Ringout n' w = answers b refl refl
+  record-missed refusal Message.Cancel n' w = answers b refl refl
 
   -- a record that fits, in no state that the message is for
   pub record-late :
       (message : RecordMessage) (n' : R.Conn) (free : Bool) (t : R.Terms) (own : R.Own) (s : R.LState) →
       has_elements (letter_read identifier (record_message message n')).body (letter_read identifier (record_message message n')).carrier ≡ true →
       is_for (letter_read identifier (record_message message n')).body (line_record identifier b t own s) ≡ false →
-      Answers (refused_plan 7 (answered (letter_read identifier (record_message message n')).identifier (reply_missed message))) identifier b (R.holds t own s)
+      Answers (refused_plan NoRow (answered (letter_read identifier (record_message message n')).identifier (reply_missed message))) identifier b (R.holds t own s)
       (R.line_takes p (R.holds t own s) (record_message message n') (word_of R.takes free))
   unfolding R.line_takes R.on_ringout R.on_resume
   record-late Message.Suspend n' free t own s set ready = absurd (no_true set)
@@ -148,10 +150,10 @@ module _ (identifier : Elements) (b : Bool) (p : R.Policy) where
 
 -- ---- acts, the guard, an offer
 -- a row of the desk's own
-abbrev pub own_row : ℕ → Row → Record → Plan
-own_row i row r = pick (holds_for row r) (row_taken i r row) (refused_plan 7 Sending.Nothing)
+abbrev pub own_row : ℕ → Row → Record → Plan Change
+own_row i row r = pick (holds_for row r) (row_taken i r row) (refused_plan NoRow None)
 
-pub own-missed : (identifier : Elements) (b : Bool) (x : R.LAct) → Answers (refused_plan 6 Sending.Nothing) identifier b R.none (R.line_acts R.none x)
+pub own-missed : (identifier : Elements) (b : Bool) (x : R.LAct) → Answers (refused_plan NoRecord None) identifier b R.none (R.line_acts R.none x)
 unfolding R.line_acts
 own-missed identifier b x = answers b refl refl
 

@@ -1,4 +1,5 @@
 -- Each step at the line's end is about the request whose record it touches, or whose message is delivered, or about none: it moves that request's net by the end's reading, and leaves every other.
+use Rattle.std.specs.Prelude.{Option, Some, None, Ok, Result}
 use Prim.Native.Nat.{ℕ}
 use mathlib.Core.Path.{◌≡◌, refl, sym, ◌∙◌, ap, subst}
 use mathlib.Core.Bool.{Bool, true, false, true≢false}
@@ -7,8 +8,6 @@ use mathlib.Core.List.{List, [], ◌∷◌, ◌++◌, map}
 use lib.ListN.{length, get_or}
 use native.Mathlib.Omega.{arith}
 use Rattle.lists.specs.Choice.{pick}
-use Rattle.lists.specs.declared.Found.{Found}
-use Rattle.lists.specs.declared.Found.TheVariants.{At, Nothing}
 use Rattle.lists.specs.declared.words.Words.{Words}
 use Rattle.lists.proofs.Choice.{pick_elim}
 use Rattle.lists.proofs.WordsLaws.{length-bytes_of, bytes-bytes_of}
@@ -16,11 +15,10 @@ use Rattle.message.specs.Format.{request_body}
 use Rattle.message.specs.declared.Kind.{Kind}
 use Rattle.message.specs.declared.Kind.TheVariants.{Ccbs, Ccnr}
 use Rattle.message.specs.declared.Message.{Message}
+use Rattle.message.specs.declared.refusal.Refusal.{Refusal}
 use Rattle.desk.specs.Letter.{letter_of, message_of}
 use Rattle.desk.specs.Sends.{no_number}
-use Rattle.desk.specs.declared.letter.Identifier.{Identifier}
 use Rattle.desk.specs.declared.letter.Letter.{Letter}
-use Rattle.desk.specs.declared.outcome.Sending.TheVariants as Sending
 use Rattle.desk.specs.declared.sends.Elements.{Elements}
 use Rattle.terms.specs.Terms.{elements_of}
 use Rattle.terms.specs.Request.{letter_names}
@@ -35,7 +33,7 @@ use Rattle.line_table.specs.declared.inputs.Act.{Act}
 use Rattle.line_table.specs.declared.inputs.Input.{Input}
 use Rattle.line_table.specs.declared.record.Change.{Change}
 use Rattle.line_table.specs.declared.record.Change.TheVariants.{Stay}
-use Rattle.line_table.specs.declared.record.Plan.{Plan}
+use Rattle.desk.specs.declared.plan.Plan.{Plan}
 use Rattle.line_table.specs.declared.record.Record.{Record}
 use Rattle.line_records.specs.Records.{blank, records}
 use Rattle.line_records.specs.Meaning.{fitting, meaning}
@@ -47,8 +45,6 @@ use Rattle.line.proofs.StepsLaws.{records-made}
 use Rattle.line_plan.specs.Plan.{plan_for}
 use Rattle.line.specs.Entry.{message_entry}
 use Rattle.line.specs.Steps.{made, step, entered}
-use Rattle.line.specs.declared.entry.Entry.{Entry}
-use Rattle.line.specs.declared.entry.Entry.TheVariants.{Given}
 use Rattle.line_sound.specs.Sound as Line
 use Rattle.line_sound.specs.Sound.{line_view}
 use Rattle.line_sound.proofs.Changes.{marking-used, marking-blank}
@@ -78,7 +74,7 @@ use Rattle.pair.proofs.Sim.{about-touched, about-head, Asked, asked-still, Good,
 use Rattle.pair.proofs.ClerkSteps.{unmoved}
 
 line_same_lem :
-    (w : World) (given : Of Elements) (plan : Plan) (notes : List (Of Identifier) → List Note) → plan.change ≡ Stay → plan.outcome.at ≡ Nothing → plan.outcome.sending ≡ Sending.Nothing → notes [] ≡ [] →
+    (w : World) (given : Of Elements) (plan : Plan Change) (notes : List (Of (Option Words)) → List Note) → plan.change ≡ Stay → plan.outcome.at ≡ None → plan.outcome.sending ≡ None → notes [] ≡ [] →
     line_made w w.up given plan notes ≡ w
 unfolding applied timed
 line_same_lem w given plan notes e a s none = rw (e, a, s, none, append_none w.down)
@@ -101,15 +97,15 @@ guard-ends j b r (R.holds t own s) R.cancels e = refl
 guard-ends j b r (R.holds t own s) R.falls e = refl
 guard-ends j b r (R.holds t own s) R.guard e = refl
 
-guard_grows : (b : Bool) (l : Of Identifier) (h : List Note) → Grows h (pick b (Note.guarded l ∷ []) [] ++ h)
+guard_grows : (b : Bool) (l : Of (Option Words)) (h : List Note) → Grows h (pick b (Note.guarded l ∷ []) [] ++ h)
 guard_grows true l h = grows_by (Note.guarded l) h (λ x e. let z : ◌≡◌ {A = ℕ} 0 1 = cc in omega (arith, z))
 guard_grows false l h = grows_not h
 
-guard-noted : {K : Type 0} (n : Naming K) (k : K) (b : Bool) (l : Of Identifier) (h : List Note) → n.key l ≡ k → Notes n k (pick b (Note.guarded l ∷ []) [] ++ h) h false false b false
+guard-noted : {K : Type 0} (n : Naming K) (k : K) (b : Bool) (l : Of (Option Words)) (h : List Note) → n.key l ≡ k → Notes n k (pick b (Note.guarded l ∷ []) [] ++ h) h false false b false
 guard-noted n k true l h e = noted-guard n k l h e
 guard-noted n k false l h e = unnoted n k h
 
-guard-unnoted : {K : Type 0} (n : Naming K) (k : K) (b : Bool) (l : Of Identifier) (h : List Note) → (n.key l ≡ k → ⊥) → Notes n k (pick b (Note.guarded l ∷ []) [] ++ h) h false false false false
+guard-unnoted : {K : Type 0} (n : Naming K) (k : K) (b : Bool) (l : Of (Option Words)) (h : List Note) → (n.key l ≡ k → ⊥) → Notes n k (pick b (Note.guarded l ∷ []) [] ++ h) h false false false false
 guard-unnoted n k true l h d = unnoted-other n k (Note.guarded l) h d
 guard-unnoted n k false l h d = unnoted n k h
 
@@ -196,15 +192,15 @@ request-first (early-waiting h w) e = refl
 request-first (early-absent h w) e = refl
 request-first {u = u} {d = d} {kind} {q} {rest} (after f h w k l v) e = not-request u d kind q rest e h
 
-no_record : {A : Type 0} (v : Sight A) (xs : List A) (f : Found) → there v xs f ≡ P.none → f ≡ Nothing
-no_record v xs Nothing e = refl
-no_record v xs (At i) e = not-one (sym e)
+no_record : {A : Type 0} (v : Sight A) (xs : List A) (f : Option ℕ) → there v xs f ≡ P.none → f ≡ None
+no_record v xs None e = refl
+no_record v xs (Some i) e = not-one (sym e)
 
 -- ---- what a line report does to the places: each is used as before, with its identifier, and at most marked
 record Places (e : Event) (rs qs : List Record) : Type 0 where
   uses : (i : ℕ) → used (get_or qs i blank) ≡ used (get_or rs i blank)
   names : (i : ℕ) → elements_of (get_or qs i blank).terms ≡ elements_of (get_or rs i blank).terms
-  unaltered : (f : Found) → Unaltered e (there line_sight rs f) (there line_sight qs f)
+  unaltered : (f : Option ℕ) → Unaltered e (there line_sight rs f) (there line_sight qs f)
   long : length qs ≡ length rs
 
 length-map : {A B : Type 0} (f : A → B) (xs : List A) → length (map f xs) ≡ length xs
@@ -224,9 +220,9 @@ report-places number busy rs qs (inr (b, e)) =
     at : (i : ℕ) → get_or (map (marking number) rs) i blank ≡ marking number (get_or rs i blank)
     at i = at_map (view line_sight) rs (marking number) (marking-blank number) i
 
-    each : (f : Found) → Unaltered (line_does (Input.Report number true)) (there line_sight rs f) (there line_sight (map (marking number) rs) f)
-    each Nothing = same
-    each (At i) =
+    each : (f : Option ℕ) → Unaltered (line_does (Input.Report number true)) (there line_sight rs f) (there line_sight (map (marking number) rs) f)
+    each None = same
+    each (Some i) =
         subst (λ (r : Record). Unaltered (line_does (Input.Report number true)) (P.one (get_or rs i blank)) (P.one r)) (sym (at i))
         (pick_elim (λ (r : Record). Unaltered (line_does (Input.Report number true)) (P.one (get_or rs i blank)) (P.one r)) (marks number (get_or rs i blank)) (λ t. marked (get_or rs i blank) t) (λ t. same))
 
@@ -256,7 +252,7 @@ module _ {K : Type 0} {n : Naming K} (tells : Tells n) {p : R.Policy} {w : World
   os = w.line_origins
 
   -- the settings are the start's
-  settings : (plan : Plan) → policy_of (made w.line w.count plan).desk.words ≡ p
+  settings : (plan : Plan Change) → policy_of (made w.line w.count plan).desk.words ≡ p
   settings plan = policy-kept w.line w.count plan (line-full g.line) ∙ g.policy
 
   -- the record at a used place, as it is read
@@ -267,15 +263,15 @@ module _ {K : Type 0} {n : Naming K} (tells : Tells n) {p : R.Policy} {w : World
 
   -- a row taken for the record at a place, as it is read there
   row_told :
-      (given : Of Elements) (plan : Plan) (ans : R.Line → R.LAnswer) → ((l : R.Line) → NoReq (ans l).1) → (i : ℕ) → used (get_or rs i blank) ≡ true → Touches i (line_change plan.change) →
-      OwnChange rs (At i) plan.change → (j : Elements) (l : R.Line) (b : Bool) (f : Found) → f ≡ At i → P.one (get_or rs i blank) ≡ line_read j b l → Answers plan j b l (ans l) →
+      (given : Of Elements) (plan : Plan Change) (ans : R.Line → R.LAnswer) → ((l : R.Line) → NoReq (ans l).1) → (i : ℕ) → used (get_or rs i blank) ≡ true → Touches i (line_change plan.change) →
+      OwnChange rs (Some i) plan.change → (j : Elements) (l : R.Line) (b : Bool) (f : Option ℕ) → f ≡ Some i → P.one (get_or rs i blank) ≡ line_read j b l → Answers plan j b l (ans l) →
       (a : Bool) × LineTold w given f plan (line_read j a (ans l).0) (elements_at line_sight os rs i) (ans l).1
   row_told given plan ans plain i u touches own j l b f at h says =
       let whose = elements_at line_sight os rs i in
       let its = subst (Its line_sight j) (sym h) (line-its j b l) in
-      let s = plan-step w.line g.line w.count given (At i) j plan (ans l) l b own h says (λ m q. touches_never touches q) in (
+      let s = plan-step w.line g.line w.count given (Some i) j plan (ans l) l b own h says (λ m q. touches_never touches q) in (
         s.active,
-        subst (λ (y : Found). LineTold w given y plan (line_read j s.active (ans l).0) whose (ans l).1) (sym at)
+        subst (λ (y : Option ℕ). LineTold w given y plan (line_read j s.active (ans l).0) whose (ans l).1) (sym at)
             (record {
               did = s.did;
               whom = touches_speaks line_sight os rs given touches;
@@ -285,10 +281,10 @@ module _ {K : Type 0} {n : Naming K} (tells : Tells n) {p : R.Policy} {w : World
       )
 
   -- ---- an act, the guard's report, a Look
-  module _ (e : Event) (given : Of Elements) (x : R.LAct) (input : Input) (notes : List (Of Identifier) → List Note) (fair : Line.Fair input)
-      (none : notes [] ≡ []) (one : (l : Of Identifier) → notes (l ∷ []) ≡ pick (is_guard x) (Note.guarded l ∷ []) [])
-      (named : (l : Of Identifier) → touched line_view os rs (label given) (line_change (plan_for w.line.words input).change) ≡ l ∷ [] → About n w e (n.key l)) where
-    abbrev plan : Plan
+  module _ (e : Event) (given : Of Elements) (x : R.LAct) (input : Input) (notes : List (Of (Option Words)) → List Note) (fair : Line.Fair input)
+      (none : notes [] ≡ []) (one : (l : Of (Option Words)) → notes (l ∷ []) ≡ pick (is_guard x) (Note.guarded l ∷ []) [])
+      (named : (l : Of (Option Words)) → touched line_view os rs (label given) (line_change (plan_for w.line.words input).change) ≡ l ∷ [] → About n w e (n.key l)) where
+    abbrev plan : Plan Change
     plan = plan_for w.line.words input
 
     abbrev acted : World
@@ -299,7 +295,7 @@ module _ {K : Type 0} {n : Naming K} (tells : Tells n) {p : R.Policy} {w : World
     act-reached = Line.steps w.count fair g.line
 
     -- taken for the record at a place
-    module _ (i : ℕ) (u : used (get_or rs i blank) ≡ true) (touches : Touches i (line_change plan.change)) (own : OwnChange rs (At i) plan.change)
+    module _ (i : ℕ) (u : used (get_or rs i blank) ≡ true) (touches : Touches i (line_change plan.change)) (own : OwnChange rs (Some i) plan.change)
         (says : (j : Elements) (l : R.Line) (b : Bool) → P.one (get_or rs i blank) ≡ line_read j b l → Answers plan j b l (R.line_acts l x)) where
       abbrev whose : Of Elements
       whose = elements_at line_sight os rs i
@@ -311,7 +307,7 @@ module _ {K : Type 0} {n : Naming K} (tells : Tells n) {p : R.Policy} {w : World
       act-history = ap (λ (h : List Note). h ++ w.history) (ap notes (touches_whom line_sight os rs given touches) ∙ one (label whose))
 
       act-told :
-          (j : Elements) (l : R.Line) (b : Bool) (f : Found) → f ≡ At i → P.one (get_or rs i blank) ≡ line_read j b l →
+          (j : Elements) (l : R.Line) (b : Bool) (f : Option ℕ) → f ≡ Some i → P.one (get_or rs i blank) ≡ line_read j b l →
           (a : Bool) × LineTold w given f plan (line_read j a (R.line_acts l x).0) whose (R.line_acts l x).1
       act-told j l b f at h = row_told given plan (λ y. R.line_acts y x) (λ y. line-act-plain (line-act-effect y x)) i u touches own j l b f at h (says j l b h)
 
@@ -319,7 +315,7 @@ module _ {K : Type 0} {n : Naming K} (tells : Tells n) {p : R.Policy} {w : World
       act-good =
           let read = read_at i u in
           let grows = subst (Grows w.history) (sym act-history) (guard_grows (is_guard x) (label whose) w.history) in
-          line-good g w.up given plan notes (act-told whose.it read.0 (get_or rs i blank).active (At i) refl read.1).1 act-reached (settings plan) g.up grows
+          line-good g w.up given plan notes (act-told whose.it read.0 (get_or rs i blank).active (Some i) refl read.1).1 act-reached (settings plan) g.up grows
           (asked-still grows whose taken-up) (λ m q. touches_never touches q)
 
       act-turn : (k : K) (s : R.Net) → Sim n k w s → (n.key (label whose) ≡ k) ⊎ (n.key (label whose) ≡ k → ⊥) → Turn n p k w e acted s
@@ -338,7 +334,7 @@ module _ {K : Type 0} {n : Naming K} (tells : Tells n) {p : R.Policy} {w : World
           (subst (Its line_sight sim.name) (sym read) (line-its sim.name sim.active s.line)).1 (λ m q. touches_never touches q) sim.up sim.up_clear noted)
       act-turn k s sim (inr d) =
           let read = read_at i u in
-          line_other g w.up given plan notes tells sim (act-told whose.it read.0 (get_or rs i blank).active (At i) refl read.1).1 act-good
+          line_other g w.up given plan notes tells sim (act-told whose.it read.0 (get_or rs i blank).active (Some i) refl read.1).1 act-good
           (touched-other line_sight os rs given n k (line_change plan.change) (λ q. d (sym (ap (key_of n) (touches_speaks line_sight os rs given touches)) ∙ q))) d refl
           (subst (λ (h : List Note). Notes n k h w.history false false false false) (sym act-history) (guard-unnoted n k (is_guard x) (label whose) w.history d))
 
@@ -352,7 +348,7 @@ module _ {K : Type 0} {n : Naming K} (tells : Tells n) {p : R.Policy} {w : World
     abbrev report : Input
     report = Input.Report number busy
 
-    abbrev report_plan : Plan
+    abbrev report_plan : Plan Change
     report_plan = plan_for w.line.words report
 
     abbrev reported : World
@@ -441,8 +437,8 @@ module _ {K : Type 0} {n : Naming K} (tells : Tells n) {p : R.Policy} {w : World
 
   -- ---- every input that a host gives
   host_made :
-      (given : Of Elements) (input : Input) (notes : List (Of Identifier) → List Note) →
-      line_stepped w w.up (label given) (Given input) notes ≡ line_made w w.up given (plan_for w.line.words input) notes
+      (given : Of Elements) (input : Input) (notes : List (Of (Option Words)) → List Note) →
+      line_stepped w w.up (label given) (Ok input) notes ≡ line_made w w.up given (plan_for w.line.words input) notes
   unfolding entered step
   host_made given input notes = refl
 
@@ -453,7 +449,7 @@ module _ {K : Type 0} {n : Naming K} (tells : Tells n) {p : R.Policy} {w : World
   act-none Act.Fell = refl
 
   -- what is put in for a request that is there has no elements of its own
-  abbrev bare : Identifier → Of Elements
+  abbrev bare : Option Words → Of Elements
   bare identifier = from (length w.history) (record { identifier = identifier; numberA = no_number; numberB = no_number; service = 0 })
 
   made-turned : (input : Input) → Allowed w (line_does input) → Turned n p w (line_does input) (line_made w w.up (bare (names_of input).identifier) (plan_for w.line.words input) (line_notes input))
@@ -470,7 +466,7 @@ module _ {K : Type 0} {n : Naming K} (tells : Tells n) {p : R.Policy} {w : World
 
   pub line_does_lem :
       (input : Input) → Allowed w (line_does input) →
-      Turned n p w (line_does input) (line_stepped w w.up (new_label w (names_of input).identifier) (Given input) (line_notes input))
+      Turned n p w (line_does input) (line_stepped w w.up (new_label w (names_of input).identifier) (Ok input) (line_notes input))
   line_does_lem input allowed =
       subst (Turned n p w (line_does input)) (sym (host_made (bare (names_of input).identifier) input (line_notes input))) (made-turned input allowed)
 
@@ -479,7 +475,7 @@ module _ {K : Type 0} {n : Naming K} (tells : Tells n) {p : R.Policy} {w : World
     abbrev hears : Input
     hears = Input.Message (letter_read l.it m) place
 
-    abbrev hear_plan : Plan
+    abbrev hear_plan : Plan Change
     hear_plan = plan_for w.line.words hears
 
     abbrev heard : World
@@ -488,15 +484,15 @@ module _ {K : Type 0} {n : Naming K} (tells : Tells n) {p : R.Policy} {w : World
     l-kept : KeptName l.it.identifier
     l-kept = clear-name l.it m clear
 
-    pub entry-as : message_entry (message_read l.it m) place ≡ Given hears
+    pub entry-as : message_entry (message_read l.it m) place ≡ Ok hears
     unfolding message_entry
     entry-as = rw (clear.ranged, clear.back)
 
     heard-as : lineHeard w place (worded l m ∷ rest) ≡ heard
     unfolding lineHeard entered step
     heard-as =
-        ap (λ (x : Of Identifier). line_stepped w rest x (message_entry (message_read l.it m) place) (λ whom. [])) (worded-label l m l-kept)
-        ∙ ap (λ (x : Entry). line_stepped w rest (label l) x (λ whom. [])) entry-as
+        ap (λ (x : Of (Option Words)). line_stepped w rest x (message_entry (message_read l.it m) place) (λ whom. [])) (worded-label l m l-kept)
+        ∙ ap (λ (x : Result Input Refusal). line_stepped w rest (label l) x (λ whom. [])) entry-as
 
     -- the record that the message means, as the premise speaks of it; a request means none
     abbrev means : Means
@@ -517,20 +513,20 @@ module _ {K : Type 0} {n : Naming K} (tells : Tells n) {p : R.Policy} {w : World
     -- what the step did, and for whom: it replied for the message, or stored its request; or took a row for the record that is meant
     abbrev Told : Type 0
     Told =
-        (f : Found) × ((left : P.Held Record) × ((whose : Of Elements) × ((ms : List R.Msg) ×
+        (f : Option ℕ) × ((left : P.Held Record) × ((whose : Of Elements) × ((ms : List R.Msg) ×
         (LineTold w l f hear_plan left whose ms × (Asked w.history whose × ((whose ≡ l) ⊎ ((i : ℕ) × (NotReq m × ((means ≡ Means.At i) × (whose ≡ elements_at line_sight os rs i))))))))))
 
     speaks-given :
-        {f : Found} {left : P.Held Record} → Did line_sight rs l f (line_change hear_plan.change) (records (made w.line w.count hear_plan).desk.words) left → f ≡ Nothing →
+        {f : Option ℕ} {left : P.Held Record} → Did line_sight rs l f (line_change hear_plan.change) (records (made w.line w.count hear_plan).desk.words) left → f ≡ None →
         speaks line_sight os rs l (line_change hear_plan.change) ≡ l
     speaks-given did q = nowhere-speaks line_sight os rs l did q
 
     hear_told : NotReq m → Heard w.line.words l.it m means hear_plan → Told
     hear_told plain (replies ms stay sends silent) =
-        let own = subst (λ (c : Change). OwnChange rs Nothing c) (sym stay) stays in
+        let own = subst (λ (c : Change). OwnChange rs None c) (sym stay) stays in
         let says : Answers hear_plan l.it true R.none (R.none, ms) = answers true (ap (λ (c : Change). left c P.none) stay) sends in
-        let s = plan-step w.line g.line w.count l Nothing l.it hear_plan (R.none, ms) R.none true own refl says (λ i q. refl) in (
-          Nothing,
+        let s = plan-step w.line g.line w.count l None l.it hear_plan (R.none, ms) R.none true own refl says (λ i q. refl) in (
+          None,
           (
             P.none,
             (
@@ -551,8 +547,8 @@ module _ {K : Type 0} {n : Naming K} (tells : Tells n) {p : R.Policy} {w : World
         let whose = elements_at line_sight os rs i in
         let said = says whose.it read.0 (get_or rs i blank).active read.1 in
         let ans : R.Line → R.LAnswer = λ y. R.line_takes (policy_of w.line.words) y m said.0 in
-        let told = row_told l hear_plan ans (λ y. line-take-plain (line-take-effect (policy_of w.line.words) y m said.0)) i u touches own whose.it read.0 (get_or rs i blank).active (At i) refl read.1 said.1 in (
-          At i,
+        let told = row_told l hear_plan ans (λ y. line-take-plain (line-take-effect (policy_of w.line.words) y m said.0)) i u touches own whose.it read.0 (get_or rs i blank).active (Some i) refl read.1 said.1 in (
+          Some i,
           (
             line_read whose.it told.0 (ans read.0).0,
             (
@@ -571,12 +567,12 @@ module _ {K : Type 0} {n : Naming K} (tells : Tells n) {p : R.Policy} {w : World
     -- a request, whosever it is: nothing of it is held
     ask-told : (d : R.Data) (kind : Kind) (q : ℕ) → m ≡ R.request d kind q → Told
     ask-told d kind q eq =
-        let s = subst (λ (x : R.Msg). (word : R.Word) × LineStep w.line w.count l Nothing (plan_for w.line.words (Input.Message (letter_read l.it x) place)) l.it (R.line_takes (policy_of w.line.words) R.none x word)) (sym eq)
+        let s = subst (λ (x : R.Msg). (word : R.Word) × LineStep w.line w.count l None (plan_for w.line.words (Input.Message (letter_read l.it x) place)) l.it (R.line_takes (policy_of w.line.words) R.none x word)) (sym eq)
         (line-asked w.line g.line w.count l l.it d kind q place refl) in
         let step = s.1 in
         let ans = R.line_takes (policy_of w.line.words) R.none m s.0 in
         let whose = speaks-given step.did refl in (
-          Nothing,
+          None,
           (
             line_read l.it step.active ans.0,
             (
@@ -624,7 +620,7 @@ module _ {K : Type 0} {n : Naming K} (tells : Tells n) {p : R.Policy} {w : World
         let same-plain = same_sort l.it j m h.code (ap (λ (y : Message). y.body) h.same) plain in
         let apart = fine.apart.atLine place (worded l m) rest refl e in
         let its = subst (Its line_sight j) (sym sim.line) (line-its j sim.active s.line) in
-        let as_said = line-meaning (letter_read j h.code) place rs ∙ ap (λ (y : Identifier). meaning_in line_sight y (set_of j h.code) (fitting (letter_names (letter_read j h.code))) (ready_for j h.code) place rs) (letter-name j h.code) in
+        let as_said = line-meaning (letter_read j h.code) place rs ∙ ap (λ (y : Option Words). meaning_in line_sight y (set_of j h.code) (fitting (letter_names (letter_read j h.code))) (ready_for j h.code) place rs) (letter-name j h.code) in
         let meant =
         own-means line_sight blank-unused rs (fitting (letter_names (letter_read j h.code))) (ready_for j h.code) place n k os j (set_of j h.code)
         (line-fitting j h.code)
@@ -645,7 +641,7 @@ module _ {K : Type 0} {n : Naming K} (tells : Tells n) {p : R.Policy} {w : World
 
     heard-same : (given : Of Elements) → label l ≡ label given → heard ≡ line_made w rest given hear_plan (λ whom. [])
     unfolding entered step
-    heard-same given q = ap (λ (x : Of Identifier). line_stepped w rest x (Given hears) (λ whom. [])) q
+    heard-same given q = ap (λ (x : Of (Option Words)). line_stepped w rest x (Ok hears) (λ whom. [])) q
 
     own-moves :
         (k : K) (s : R.Net) (sim : Sim n k w s) → n.key (label l) ≡ k → (h : Headed n k sim.name (worded l m) rest s.up) →
@@ -675,7 +671,7 @@ module _ {K : Type 0} {n : Naming K} (tells : Tells n) {p : R.Policy} {w : World
 
     -- with the start's settings
     hear_step :
-        (j : Elements) (code : R.Msg) (x : R.Line) (f : Found) → letter_read l.it m ≡ letter_read j code →
+        (j : Elements) (code : R.Msg) (x : R.Line) (f : Option ℕ) → letter_read l.it m ≡ letter_read j code →
         (word : R.Word) × LineStep w.line w.count (from l.origin j) f (plan_for w.line.words (Input.Message (letter_read j code) place)) j (R.line_takes (policy_of w.line.words) x code word) →
         (word : R.Word) × LineStep w.line w.count (from l.origin j) f hear_plan j (R.line_takes p x code word)
     hear_step j code x f letter s = (
@@ -690,13 +686,13 @@ module _ {K : Type 0} {n : Naming K} (tells : Tells n) {p : R.Policy} {w : World
         letter_read l.it m ≡ letter_read sim.name h.code → (d : R.Data) (kind : Kind) (q : ℕ) → h.code ≡ R.request d kind q → Turn n p k w (line_hears place) heard s
     own-asked k s sim reach key h letter d kind q eq =
         let none : s.line ≡ R.none = request-first (agreed reach) (h.whole ∙ ap (λ (c : R.Msg). c ∷ h.left) eq) in
-        let nowhere : sim.line_place ≡ Nothing = no_record line_sight rs sim.line_place (sim.line ∙ ap (line_read sim.name sim.active) none) in
+        let nowhere : sim.line_place ≡ None = no_record line_sight rs sim.line_place (sim.line ∙ ap (line_read sim.name sim.active) none) in
         let asked = line-asked w.line g.line w.count (from l.origin sim.name) sim.name d kind q place refl in
         let step =
         hear_step sim.name h.code s.line sim.line_place letter
         (subst (λ (x : R.Line). (word : R.Word) × LineStep w.line w.count (from l.origin sim.name) sim.line_place (plan_for w.line.words (Input.Message (letter_read sim.name h.code) place)) sim.name (R.line_takes (policy_of w.line.words) x h.code word)) (sym none)
-        (subst (λ (f : Found). (word : R.Word) × LineStep w.line w.count (from l.origin sim.name) f (plan_for w.line.words (Input.Message (letter_read sim.name h.code) place)) sim.name (R.line_takes (policy_of w.line.words) R.none h.code word)) (sym nowhere)
-        (subst (λ (c : R.Msg). (word : R.Word) × LineStep w.line w.count (from l.origin sim.name) Nothing (plan_for w.line.words (Input.Message (letter_read sim.name c) place)) sim.name (R.line_takes (policy_of w.line.words) R.none c word)) (sym eq) asked))) in
+        (subst (λ (f : Option ℕ). (word : R.Word) × LineStep w.line w.count (from l.origin sim.name) f (plan_for w.line.words (Input.Message (letter_read sim.name h.code) place)) sim.name (R.line_takes (policy_of w.line.words) R.none h.code word)) (sym nowhere)
+        (subst (λ (c : R.Msg). (word : R.Word) × LineStep w.line w.count (from l.origin sim.name) None (plan_for w.line.words (Input.Message (letter_read sim.name c) place)) sim.name (R.line_takes (policy_of w.line.words) R.none c word)) (sym eq) asked))) in
         own-moves k s sim key h step.0 step.1
 
     hear_own : (k : K) (s : R.Net) → R.Reach p s → Sim n k w s → Fine n k w (line_hears place) → n.key (label l) ≡ k → Turn n p k w (line_hears place) heard s

@@ -1,13 +1,12 @@
 -- In every world of a run a request for which the premise holds at each step has its net, and every step of the world is a step of it or leaves it.
+use Rattle.std.specs.Prelude.{None}
 use Prim.Native.Nat.{ℕ}
 use mathlib.Core.Path.{◌≡◌, refl, sym, ◌∙◌, ap}
 use mathlib.Core.Bool.{Bool, false, false≢true}
 use mathlib.Core.List.{List, [], Memᴰ as Noted}
 use lib.ListN.{length-replicate}
 use Rattle.lists.specs.Words.{Bytes}
-use Rattle.lists.specs.declared.Found.TheVariants.{Nothing}
 use Rattle.desk.specs.Sends.{no_number}
-use Rattle.desk.specs.declared.letter.Identifier.TheVariants.{Absent}
 use Rattle.lists.proofs.Choice.{no_true}
 use Rattle.clerk_records.specs.Layout as ClerkLayout
 use Rattle.clerk_records.proofs.RecordsLaws as ClerkLaws
@@ -74,11 +73,11 @@ pub start-sim : {K : Type 0} (n : Naming K) (k : K) (lengths : Lengths) (given :
 unfolding messages_of
 start-sim n k lengths given keep retain =
     record {
-      name = record { identifier = Absent; numberA = no_number; numberB = no_number; service = 0 };
-      clerk_place = Nothing;
+      name = record { identifier = None; numberA = no_number; numberB = no_number; service = 0 };
+      clerk_place = None;
       clerk_sits = nowhere (λ i m. no_true (sym (ClerkStart.start-empty lengths i) ∙ m.0));
       clerk = refl;
-      line_place = Nothing;
+      line_place = None;
       line_sits = nowhere (λ i m. no_true (sym (line-unused given keep retain i) ∙ m.0));
       active = false;
       line = refl;

@@ -1,4 +1,7 @@
 -- What the signalling of a call tells the clerk's host, handed in as a message: the desk does with the record that it means what the reading says.
+use Rattle.lists.specs.declared.words.Words.{Words}
+use Rattle.message.specs.declared.Body.{Body}
+use Rattle.std.specs.Prelude.{Option, None}
 use Prim.Native.Nat.{ℕ}
 use mathlib.Core.Path.{◌≡◌, refl, ap, subst}
 use mathlib.Core.Bool.{Bool, true}
@@ -10,10 +13,8 @@ use Rattle.message.specs.declared.Kind.{Kind}
 use Rattle.desk.specs.Carriers.{carrier_fits}
 use Rattle.desk.specs.Sends.{answered}
 use Rattle.desk.specs.declared.Keep.{Keep}
-use Rattle.desk.specs.declared.letter.Identifier.{Identifier}
 use Rattle.desk.specs.declared.letter.Letter.{Letter}
 use Rattle.desk.specs.declared.sends.Elements.{Elements}
-use Rattle.desk.specs.declared.sends.Sends.{Sends}
 use Rattle.terms.specs.declared.means.Means.{Means}
 use Rattle.terms.specs.declared.request.Name.{Name}
 use Rattle.places.specs.Places.{one}
@@ -22,7 +23,7 @@ use Rattle.clerk_table.specs.declared.table.Row.{Row}
 use Rattle.clerk_table.specs.declared.record.Record.{Record}
 use Rattle.clerk_table.specs.declared.record.Decision.{Decision}
 use Rattle.clerk_table.specs.declared.record.Decision.TheVariants.{Take}
-use Rattle.clerk_table.specs.declared.record.Plan.{Plan}
+use Rattle.desk.specs.declared.plan.Plan.{Plan}
 use Rattle.clerk_table.specs.declared.inputs.Input.{Input}
 use Rattle.clerk_table.specs.declared.inputs.RecordMessage.{RecordMessage}
 use Rattle.clerk_table.specs.declared.inputs.RecordMessage.TheVariants as Message
@@ -36,9 +37,10 @@ use Rattle.pair_request.proofs.Effects.{signal-takes}
 use Rattle.pair.specs.World.{signal_letter}
 use Rattle.pair.proofs.Ends.{clerk_read}
 use Rattle.pair.proofs.ClerkEnd.{Says, heard, own-taken, touches_taken, takes, found-says, Acted, refuses, takes-row}
+use Rattle.clerk_table.specs.declared.record.Change.{Change}
 
 -- a signal is handed in as a message; its refusal has no reply
-module _ (rs : List Record) (x : Signal) (busy : Bool) (input : Input) (l : Letter) (message : RecordMessage) (silent : (carrier : Carrier) → reply_unfit message carrier ≡ Sends.Nothing)
+module _ (rs : List Record) (x : Signal) (busy : Bool) (input : Input) (l : Letter) (message : RecordMessage) (silent : (carrier : Carrier) → reply_unfit message carrier ≡ None)
     (row : Row) (always : (keep : Keep) (kind : Kind) → row_for message busy keep kind ≡ row) where
   abbrev SaysAll : ℕ → Decision → Type 0
   SaysAll i d =
@@ -56,7 +58,7 @@ module _ (rs : List Record) (x : Signal) (busy : Bool) (input : Input) (l : Lett
       pick_elim (λ (d : Decision). SaysAll i d → Acted rs (R.signal x) (plan_of rs input d)) (carrier_fits l.body r.terms.connection l.carrier)
       (λ g says.
       takes-row i u (touches_taken rs input i row) (own-taken rs input i row)
-      (λ y c read. (subst (λ (plan : Plan). Says y plan (one r) (R.clerk_acts c (R.signal x))) (same y) (says y c read), refl)))
+      (λ y c read. (subst (λ (plan : Plan Change). Says y plan (one r) (R.clerk_acts c (R.signal x))) (same y) (says y c read), refl)))
       (λ g says. refuses refl refl quiet))
       (λ h says. refuses refl refl quiet)
 
@@ -67,7 +69,7 @@ told-says rs x busy i y c read =
     subst (Says y (takes rs y (R.signal_msg x) busy (Means.At i)) (one (get_or rs i blank))) (signal-takes c x busy) (found-says rs y (R.signal_msg x) busy c i read)
 
 acted-told :
-    (rs : List Record) (j : Identifier) (place : ℕ) (x : Signal) (busy : Bool) (means : Means) → ((i : ℕ) → means ≡ Means.At i → used (get_or rs i blank) ≡ true) →
+    (rs : List Record) (j : Option Words) (place : ℕ) (x : Signal) (busy : Bool) (means : Means) → ((i : ℕ) → means ≡ Means.At i → used (get_or rs i blank) ≡ true) →
     Acted rs (R.signal x) (plan_of rs (Input.Message (signal_letter x j) busy place) (message_meant rs (signal_letter x j) busy means (message_for (signal_letter x j).body)))
 unfolding plan_of
 acted-told rs j place call_died busy Means.Nothing u = refuses refl refl refl

@@ -1,4 +1,6 @@
 -- One request's part of a world: where its records stand, its messages and its history, as a net of crate pair_request. A step is about one request, whose net it moves, or leaves it.
+use Rattle.lists.specs.declared.words.Words.{Words}
+use Rattle.std.specs.Prelude.{Option, None}
 use Prim.Native.Nat.{ℕ, suc, ◌<◌}
 use mathlib.Core.Path.{◌≡◌, refl, sym, ◌∙◌, ap, subst}
 use mathlib.Core.Bool.{Bool, true, false}
@@ -7,22 +9,21 @@ use mathlib.Core.List.Memᴰ
 use mathlib.Core.List.{List, [], ◌∷◌, ◌++◌, map, Memᴰ as Noted}
 use lib.ListN.{length, get_or, take}
 use native.Mathlib.Omega.{arith}
-use Rattle.lists.specs.declared.Found.{Found}
-use Rattle.desk.specs.declared.letter.Identifier.{Identifier}
+use Rattle.desk.specs.declared.plan.Plan.{Plan}
 use Rattle.desk.specs.declared.sends.Elements.{Elements}
 use Rattle.message.specs.declared.Message.{Message}
 use Rattle.terms.specs.declared.request.Names.{Names}
 use Rattle.terms.specs.declared.request.Request.{Request}
 use Rattle.places.specs.Places as P
 use Rattle.clerk_table.specs.declared.inputs.Input.TheVariants as ClerkInput
-use Rattle.clerk_table.specs.declared.record.Plan as ClerkPlans
+use Rattle.clerk_table.specs.declared.record.Change as ClerkChanges
 use Rattle.clerk_table.specs.declared.record.Record as ClerkRecord
 use Rattle.clerk_records.specs.Records as ClerkRecords
 use Rattle.clerk.specs.Steps as Clerk
 use Rattle.clerk_sound.specs.Sound as ClerkSound
 use Rattle.clerk_sound.specs.Sound.{clerk_view}
 use Rattle.clerk_sound.proofs.Start as ClerkStart
-use Rattle.line_table.specs.declared.record.Plan as LinePlans
+use Rattle.line_table.specs.declared.record.Change as LineChanges
 use Rattle.line_table.specs.declared.record.Record as LineRecord
 use Rattle.line_records.specs.Records as LineRecords
 use Rattle.line.specs.Steps as Line
@@ -40,7 +41,7 @@ use Rattle.pair.proofs.Notes.{Knows, ToldIn, Notes, Unnoted}
 
 -- ---- what holds of every world of a run
 -- an ask took up a label
-abbrev pub Taken : List Note → Of Identifier → Type 0
+abbrev pub Taken : List Note → Of (Option Words) → Type 0
 Taken h l = Noted (Note.taken_up l) h
 
 -- of a request that was taken up, with elements that their bytes give back
@@ -59,16 +60,16 @@ pub record Good (p : R.Policy) (w : World) : Type 0 where
   pub up : Worded (Asked w.history) w.up
   pub down : Worded (Asked w.history) w.down
   -- origins that were given
-  pub taken : (l : Of Identifier) → Taken w.history l → l.origin < length w.history
+  pub taken : (l : Of (Option Words)) → Taken w.history l → l.origin < length w.history
 
 -- ---- one request
 pub record Sim {K : Type 0} (n : Naming K) (k : K) (w : World) (s : R.Net) : Type 0 where
   -- its identifier or that it has none, its numbers and its service
   pub name : Elements
-  pub clerk_place : Found
+  pub clerk_place : Option ℕ
   pub clerk_sits : Sits clerk_sight n k w.clerk_origins (ClerkRecords.records w.clerk.words) clerk_place
   pub clerk : there clerk_sight (ClerkRecords.records w.clerk.words) clerk_place ≡ clerk_read name s.clerk
-  pub line_place : Found
+  pub line_place : Option ℕ
   pub line_sits : Sits line_sight n k w.line_origins (LineRecords.records w.line.words) line_place
   pub active : Bool
   pub line : there line_sight (LineRecords.records w.line.words) line_place ≡ line_read name active s.line
@@ -85,7 +86,7 @@ pub record Sim {K : Type 0} (n : Naming K) (k : K) (w : World) (s : R.Net) : Typ
 -- the premise of its steps: an ask that is taken is a new request, and it is kept apart
 pub record Fine {K : Type 0} (n : Naming K) (k : K) (w : World) (e : Event) : Type 0 where
   pub fresh :
-      (names : Names) (q : Request) → e ≡ clerk_does (ClerkInput.Ask names q) → (Clerk.step w.clerk w.count (ClerkInput.Ask names q)).outcome.refusal ≡ 0 →
+      (names : Names) (q : Request) → e ≡ clerk_does (ClerkInput.Ask names q) → (Clerk.step w.clerk w.count (ClerkInput.Ask names q)).outcome.refusal ≡ None →
       n.key (from (length w.history) names.identifier) ≡ k → ToldIn n k Note.taken_up w.history → ⊥
   pub apart : KeptApart n k w e
 
@@ -122,8 +123,8 @@ abbrev pub Turned : {K : Type 0} → Naming K → R.Policy → World → Event �
 Turned {K} n p w e after = Good p after × ((k : K) (s : R.Net) → R.Reach p s → Sim n k w s → Fine n k w e → Turn n p k w e after s)
 
 -- who is touched, and whose message is the head of a wire, is whom a step is about
-pub about-touched : {K : Type 0} (n : Naming K) {ls : List (Of Identifier)} {l : Of Identifier} → ls ≡ l ∷ [] → Noted (n.key l) (map n.key ls)
-about-touched n {l = l} e = subst (λ (xs : List (Of Identifier)). Noted (n.key l) (map n.key xs)) (sym e) (Noted.head refl)
+pub about-touched : {K : Type 0} (n : Naming K) {ls : List (Of (Option Words))} {l : Of (Option Words)} → ls ≡ l ∷ [] → Noted (n.key l) (map n.key ls)
+about-touched n {l = l} e = subst (λ (xs : List (Of (Option Words))). Noted (n.key l) (map n.key xs)) (sym e) (Noted.head refl)
 
 pub about-head :
     {K : Type 0} (n : Naming K) {k : K} {xs rest : List (Of Message)} {x : Of Message} → xs ≡ x ∷ rest → n.key (label_of x) ≡ k →
@@ -145,8 +146,8 @@ line-held tells {k} {w = w} g sim =
 
 -- ---- a history that grows: what was taken up stays so, and what is taken up now is as it has to be
 pub record Grows (before after : List Note) : Type 0 where
-  pub still : (l : Of Identifier) → Taken before l → Taken after l
-  pub fits : ((l : Of Identifier) → Taken before l → l.origin < length before) → (l : Of Identifier) → Taken after l → l.origin < length after
+  pub still : (l : Of (Option Words)) → Taken before l → Taken after l
+  pub fits : ((l : Of (Option Words)) → Taken before l → l.origin < length before) → (l : Of (Option Words)) → Taken after l → l.origin < length after
 
 pub asked-still : {before after : List Note} → Grows before after → (l : Of Elements) → Asked before l → Asked after l
 asked-still grows l a = (grows.still (label l) a.0, a.1)
@@ -155,27 +156,27 @@ pub grows_not : (h : List Note) → Grows h h
 grows_not h = record { still = λ l m. m; fits = λ f. f }
 
 -- by a note that takes up nothing
-pub grows_by : (x : Note) (h : List Note) → ((l : Of Identifier) → Note.taken_up l ≡ x → ⊥) → Grows h (x ∷ h)
+pub grows_by : (x : Note) (h : List Note) → ((l : Of (Option Words)) → Note.taken_up l ≡ x → ⊥) → Grows h (x ∷ h)
 grows_by x h d = record { still = λ l m. Noted.tail m; fits = λ f l m. by f l (Memᴰ.cases_cons m) }
   where
-    by : ((l : Of Identifier) → Taken h l → l.origin < length h) → (l : Of Identifier) → (Note.taken_up l ≡ x) ⊎ Taken h l → l.origin < suc (length h)
+    by : ((l : Of (Option Words)) → Taken h l → l.origin < length h) → (l : Of (Option Words)) → (Note.taken_up l ≡ x) ⊎ Taken h l → l.origin < suc (length h)
     by f l (inl e) = absurd (d l e)
     by f l (inr m) = let z = f l m in omega (arith, z)
 
-abbrev pub label_in : Of Identifier → Note → Of Identifier
+abbrev pub label_in : Of (Option Words) → Note → Of (Option Words)
 label_in other (Note.taken_up l) = l
 label_in other (Note.dropped l) = other
 label_in other (Note.run_out l) = other
 label_in other (Note.guarded l) = other
 
-pub grows_ask : (x : Identifier) (h : List Note) → Grows h (Note.taken_up (from (length h) x) ∷ h)
+pub grows_ask : (x : Option Words) (h : List Note) → Grows h (Note.taken_up (from (length h) x) ∷ h)
 grows_ask x h = record { still = λ l m. Noted.tail m; fits = λ f l m. by f l (Memᴰ.cases_cons m) }
   where
     by :
-        ((l : Of Identifier) → Taken h l → l.origin < length h) → (l : Of Identifier) → (Note.taken_up l ≡ Note.taken_up (from (length h) x)) ⊎ Taken h l →
+        ((l : Of (Option Words)) → Taken h l → l.origin < length h) → (l : Of (Option Words)) → (Note.taken_up l ≡ Note.taken_up (from (length h) x)) ⊎ Taken h l →
         l.origin < suc (length h)
     by f l (inl e) =
-        let q : l.origin ≡ length h = ap (λ (y : Of Identifier). y.origin) (ap (label_in l) e) in
+        let q : l.origin ≡ length h = ap (λ (y : Of (Option Words)). y.origin) (ap (label_in l) e) in
         omega (arith, q)
     by f l (inr m) = let z = f l m in omega (arith, z)
 
@@ -185,7 +186,7 @@ abbrev speaker : {A : Type 0} → Sight A → List ℕ → List A → Of Element
 speaker v os rs given touch = (get_or (touched (view v) os rs (label given) touch) 0 (label given)).origin
 
 -- the world after a plan that is made there
-abbrev pub clerk_made : World → List (Of Message) → Of Elements → ClerkPlans.Plan → (List (Of Identifier) → List Note) → World
+abbrev pub clerk_made : World → List (Of Message) → Of Elements → Plan ClerkChanges.Change → (List (Of (Option Words)) → List Note) → World
 clerk_made w down given plan notes =
     let rs = ClerkRecords.records w.clerk.words in
     let touch = clerk_change plan.change in
@@ -200,7 +201,7 @@ clerk_made w down given plan notes =
       count = w.count;
     }
 
-abbrev pub line_made : World → List (Of Message) → Of Elements → LinePlans.Plan → (List (Of Identifier) → List Note) → World
+abbrev pub line_made : World → List (Of Message) → Of Elements → Plan LineChanges.Change → (List (Of (Option Words)) → List Note) → World
 line_made w up given plan notes =
     let rs = LineRecords.records w.line.words in
     let touch = line_change plan.change in
@@ -216,14 +217,14 @@ line_made w up given plan notes =
     }
 
 -- a step of the clerk's desk: what it did at a place, and what it sent for whom
-pub record ClerkTold (w : World) (given : Of Elements) (f : Found) (plan : ClerkPlans.Plan) (left : P.Held ClerkRecord.Record) (l : Of Elements) (ms : List R.Msg) : Type 0 where
+pub record ClerkTold (w : World) (given : Of Elements) (f : Option ℕ) (plan : Plan ClerkChanges.Change) (left : P.Held ClerkRecord.Record) (l : Of Elements) (ms : List R.Msg) : Type 0 where
   pub did :
       Did clerk_sight (ClerkRecords.records w.clerk.words) given f (clerk_change plan.change) (ClerkRecords.records (Clerk.made w.clerk w.count plan).desk.words) left
   pub whom : speaks clerk_sight w.clerk_origins (ClerkRecords.records w.clerk.words) given (clerk_change plan.change) ≡ l
   pub sends : sent_by plan.outcome.sending ≡ map (message_read l.it) ms
   pub clear : AllClear l.it ms
 
-module _ {p : R.Policy} {w : World} (g : Good p w) (down : List (Of Message)) (given : Of Elements) (plan : ClerkPlans.Plan) (notes : List (Of Identifier) → List Note) where
+module _ {p : R.Policy} {w : World} (g : Good p w) (down : List (Of Message)) (given : Of Elements) (plan : Plan ClerkChanges.Change) (notes : List (Of (Option Words)) → List Note) where
   abbrev clerks : List ClerkRecord.Record
   clerks = ClerkRecords.records w.clerk.words
 
@@ -231,15 +232,15 @@ module _ {p : R.Policy} {w : World} (g : Good p w) (down : List (Of Message)) (g
   clerk_after = clerk_made w down given plan notes
 
   clerk-sent :
-      {f : Found} {left : P.Held ClerkRecord.Record} {l : Of Elements} {ms : List R.Msg} → ClerkTold w given f plan left l ms →
+      {f : Option ℕ} {left : P.Held ClerkRecord.Record} {l : Of Elements} {ms : List R.Msg} → ClerkTold w given f plan left l ms →
       map (from (speaker clerk_sight w.clerk_origins clerks given (clerk_change plan.change))) (sent_by plan.outcome.sending) ≡ map (worded l) ms
   clerk-sent {l = l} {ms} told =
-      ap (λ (x : Of Identifier). map (from x.origin) (sent_by plan.outcome.sending)) (speaks-label clerk_sight w.clerk_origins clerks given (clerk_change plan.change))
+      ap (λ (x : Of (Option Words)). map (from x.origin) (sent_by plan.outcome.sending)) (speaks-label clerk_sight w.clerk_origins clerks given (clerk_change plan.change))
       ∙ ap (λ (x : Of Elements). map (from x.origin) (sent_by plan.outcome.sending)) told.whom
       ∙ sent-worded l plan.outcome.sending ms told.sends
 
   pub clerk-good :
-      {f : Found} {left : P.Held ClerkRecord.Record} {l : Of Elements} {ms : List R.Msg} → ClerkTold w given f plan left l ms → ClerkSound.Reached (Clerk.made w.clerk w.count plan).desk →
+      {f : Option ℕ} {left : P.Held ClerkRecord.Record} {l : Of Elements} {ms : List R.Msg} → ClerkTold w given f plan left l ms → ClerkSound.Reached (Clerk.made w.clerk w.count plan).desk →
       Worded (Asked w.history) down → Grows w.history clerk_after.history → Asked clerk_after.history l →
       ((i : ℕ) → clerk_change plan.change ≡ storing i → Asked clerk_after.history given) → Good p clerk_after
   clerk-good {l = l} {ms} told reached heard grows its new =
@@ -293,8 +294,8 @@ module _ {p : R.Policy} {w : World} (g : Good p w) (down : List (Of Message)) (g
 
     -- and after a step that is for another, or for none: it is left
     pub clerk-other :
-        {f : Found} {left : P.Held ClerkRecord.Record} {l : Of Elements} {ms : List R.Msg} {e : Event} → ClerkTold w given f plan left l ms → Good p clerk_after →
-        ((x : Of Identifier) → touched clerk_view w.clerk_origins clerks (label given) (clerk_change plan.change) ≡ x ∷ [] → n.key x ≡ k → ⊥) → (n.key (label l) ≡ k → ⊥) →
+        {f : Option ℕ} {left : P.Held ClerkRecord.Record} {l : Of Elements} {ms : List R.Msg} {e : Event} → ClerkTold w given f plan left l ms → Good p clerk_after →
+        ((x : Of (Option Words)) → touched clerk_view w.clerk_origins clerks (label given) (clerk_change plan.change) ≡ x ∷ [] → n.key x ≡ k → ⊥) → (n.key (label l) ≡ k → ⊥) →
         messages_of n k down ≡ messages_of n k w.down → Unnoted n k clerk_after.history w.history → Turn n p k w e clerk_after s
     clerk-other {l = l} {ms} {e} told good apart not heard noted =
         let after = did-other clerk_sight tells k ClerkStart.blank-unused w.clerk_origins clerks g.clerk_full told.did apart sim.clerk_sits in
@@ -324,14 +325,14 @@ module _ {p : R.Policy} {w : World} (g : Good p w) (down : List (Of Message)) (g
         leaves (record { clerk = clerk_same; line = same; up = sent; down = heard }) still
 
 -- a step of the line desk: what it did at a place, and what it sent for whom
-pub record LineTold (w : World) (given : Of Elements) (f : Found) (plan : LinePlans.Plan) (left : P.Held LineRecord.Record) (l : Of Elements) (ms : List R.Msg) : Type 0 where
+pub record LineTold (w : World) (given : Of Elements) (f : Option ℕ) (plan : Plan LineChanges.Change) (left : P.Held LineRecord.Record) (l : Of Elements) (ms : List R.Msg) : Type 0 where
   pub did :
       Did line_sight (LineRecords.records w.line.words) given f (line_change plan.change) (LineRecords.records (Line.made w.line w.count plan).desk.words) left
   pub whom : speaks line_sight w.line_origins (LineRecords.records w.line.words) given (line_change plan.change) ≡ l
   pub sends : sent_by plan.outcome.sending ≡ map (message_read l.it) ms
   pub clear : AllClear l.it ms
 
-module _ {p : R.Policy} {w : World} (g : Good p w) (up : List (Of Message)) (given : Of Elements) (plan : LinePlans.Plan) (notes : List (Of Identifier) → List Note) where
+module _ {p : R.Policy} {w : World} (g : Good p w) (up : List (Of Message)) (given : Of Elements) (plan : Plan LineChanges.Change) (notes : List (Of (Option Words)) → List Note) where
   abbrev lines : List LineRecord.Record
   lines = LineRecords.records w.line.words
 
@@ -339,15 +340,15 @@ module _ {p : R.Policy} {w : World} (g : Good p w) (up : List (Of Message)) (giv
   line_after = line_made w up given plan notes
 
   line-sent :
-      {f : Found} {left : P.Held LineRecord.Record} {l : Of Elements} {ms : List R.Msg} → LineTold w given f plan left l ms →
+      {f : Option ℕ} {left : P.Held LineRecord.Record} {l : Of Elements} {ms : List R.Msg} → LineTold w given f plan left l ms →
       map (from (speaker line_sight w.line_origins lines given (line_change plan.change))) (sent_by plan.outcome.sending) ≡ map (worded l) ms
   line-sent {l = l} {ms} told =
-      ap (λ (x : Of Identifier). map (from x.origin) (sent_by plan.outcome.sending)) (speaks-label line_sight w.line_origins lines given (line_change plan.change))
+      ap (λ (x : Of (Option Words)). map (from x.origin) (sent_by plan.outcome.sending)) (speaks-label line_sight w.line_origins lines given (line_change plan.change))
       ∙ ap (λ (x : Of Elements). map (from x.origin) (sent_by plan.outcome.sending)) told.whom
       ∙ sent-worded l plan.outcome.sending ms told.sends
 
   pub line-good :
-      {f : Found} {left : P.Held LineRecord.Record} {l : Of Elements} {ms : List R.Msg} → LineTold w given f plan left l ms → LineSound.Reached (Line.made w.line w.count plan).desk → policy_of (Line.made w.line w.count plan).desk.words ≡ p →
+      {f : Option ℕ} {left : P.Held LineRecord.Record} {l : Of Elements} {ms : List R.Msg} → LineTold w given f plan left l ms → LineSound.Reached (Line.made w.line w.count plan).desk → policy_of (Line.made w.line w.count plan).desk.words ≡ p →
       Worded (Asked w.history) up → Grows w.history line_after.history → Asked line_after.history l →
       ((i : ℕ) → line_change plan.change ≡ storing i → Asked line_after.history given) → Good p line_after
   line-good {l = l} {ms} told reached settings heard grows its new =
@@ -401,8 +402,8 @@ module _ {p : R.Policy} {w : World} (g : Good p w) (up : List (Of Message)) (giv
 
     -- and after a step that is for another, or for none: it is left
     pub line_other :
-        {f : Found} {left : P.Held LineRecord.Record} {l : Of Elements} {ms : List R.Msg} {e : Event} → LineTold w given f plan left l ms → Good p line_after →
-        ((x : Of Identifier) → touched line_view w.line_origins lines (label given) (line_change plan.change) ≡ x ∷ [] → n.key x ≡ k → ⊥) → (n.key (label l) ≡ k → ⊥) →
+        {f : Option ℕ} {left : P.Held LineRecord.Record} {l : Of Elements} {ms : List R.Msg} {e : Event} → LineTold w given f plan left l ms → Good p line_after →
+        ((x : Of (Option Words)) → touched line_view w.line_origins lines (label given) (line_change plan.change) ≡ x ∷ [] → n.key x ≡ k → ⊥) → (n.key (label l) ≡ k → ⊥) →
         messages_of n k up ≡ messages_of n k w.up → Unnoted n k line_after.history w.history → Turn n p k w e line_after s
     line_other {l = l} {ms} {e} told good apart not heard noted =
         let after = did-other line_sight tells k LineStarting.blank-unused w.line_origins lines g.line_full told.did apart sim.line_sits in

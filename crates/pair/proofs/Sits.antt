@@ -1,4 +1,6 @@
 -- Where a request's record stands at a desk, by place: at one place or at none. What a step does to places tells where it stands afterwards. It is said once for both desks, over any type of record.
+use Rattle.lists.specs.declared.words.Words.{Words}
+use Rattle.std.specs.Prelude.{Option, Some, None}
 use Prim.Native.Nat.{ℕ, zero, suc, ◌-◌, ◌≤◌, ◌<◌}
 use mathlib.Core.Path.{◌≡◌, refl, sym, ap, ◌∙◌, subst}
 use mathlib.Core.Bool.{Bool, true, false}
@@ -11,12 +13,8 @@ use native.Mathlib.Omega.{arith}
 use borrow.Author.Tests.{ltb-false, eqb-true, eqb-false, le-ltb}
 use Rattle.lists.specs.Choice.{pick}
 use Rattle.lists.specs.Lists.{both, without}
-use Rattle.lists.specs.declared.Found.{Found}
-use Rattle.lists.specs.declared.Found.TheVariants.{At, Nothing}
 use Rattle.lists.proofs.Choice.{no_true}
 use Rattle.lists.proofs.Lists.{both_true, both_false, without-length}
-use Rattle.desk.specs.declared.letter.Identifier.{Identifier}
-use Rattle.desk.specs.declared.letter.Identifier.TheVariants.{Absent}
 use Rattle.desk.specs.declared.sends.Elements.{Elements}
 use Rattle.places.specs.Places.{View, place_in, Held, none, one}
 use Rattle.places.proofs.Staying.{shift, shift-never, shift-tells, at_set, at-without, used-inside, place_inside, place-unused, set_elim}
@@ -36,7 +34,7 @@ abbrev pub at : {A : Type 0} → Sight A → List A → ℕ → A
 at v rs i = get_or rs i v.blank
 
 -- the label of what has these elements
-abbrev pub label : Of Elements → Of Identifier
+abbrev pub label : Of Elements → Of (Option Words)
 label l = from l.origin l.it.identifier
 
 abbrev pub key_of : {K : Type 0} → Naming K → Of Elements → K
@@ -46,9 +44,9 @@ abbrev pub elements_at : {A : Type 0} → Sight A → List ℕ → List A → �
 elements_at v os rs i = from (get_or os i 0) (v.elements (at v rs i))
 
 -- the record at a place that was found, or none
-abbrev pub there : {A : Type 0} → Sight A → List A → Found → Held A
-there v rs Nothing = none
-there v rs (At i) = one (at v rs i)
+abbrev pub there : {A : Type 0} → Sight A → List A → Option ℕ → Held A
+there v rs None = none
+there v rs (Some i) = one (at v rs i)
 
 -- ---- what is held is one record or none
 pub not-one : {A B : Type 0} {r : A} → none ≡ one r → B
@@ -61,10 +59,10 @@ record_in other (one r) = r
 pub the_one : {A : Type 0} (q r : A) → one q ≡ one r → q ≡ r
 the_one q r e = ap (record_in q) e
 
-pub no_place : {B : Type 0} {i : ℕ} → Nothing ≡ At i → B
+pub no_place : {B : Type 0} {i : ℕ} → None ≡ Some i → B
 no_place e = let z : ◌≡◌ {A = ℕ} 0 1 = cc in absurd (omega (arith, z))
 
-pub one_place : {i j : ℕ} → At i ≡ At j → i ≡ j
+pub one_place : {i j : ℕ} → Some i ≡ Some j → i ≡ j
 one_place e = cc
 
 -- what may be held of an identifier: none, or a used record that has it
@@ -73,40 +71,40 @@ Its v j none = Unit
 Its v j (one r) = (v.used r ≡ true) × (v.elements r ≡ j)
 
 -- ---- what a step did to the places of a desk, with the place that it is about and the label of what came in; and what it left there
-pub data Did {A : Type 0} (v : Sight A) (rs : List A) (given : Of Elements) : Found → Touch → List A → Held A → Type 0 where
-  stayed : {f : Found} → Did v rs given f nothing rs (there v rs f)
+pub data Did {A : Type 0} (v : Sight A) (rs : List A) (given : Of Elements) : Option ℕ → Touch → List A → Held A → Type 0 where
+  stayed : {f : Option ℕ} → Did v rs given f nothing rs (there v rs f)
   turned :
-      (i : ℕ) (r : A) → v.used (at v rs i) ≡ true → v.used r ≡ true → v.elements r ≡ v.elements (at v rs i) → Did v rs given (At i) (turning i) (set rs i r) (one r)
-  stored : (i : ℕ) (r : A) → place_in (view v) rs ≡ At i → v.used r ≡ true → v.elements r ≡ given.it → Did v rs given Nothing (storing i) (set rs i r) (one r)
-  removed : (i : ℕ) → v.used (at v rs i) ≡ true → Did v rs given (At i) (removing i) (without v.blank rs i) none
+      (i : ℕ) (r : A) → v.used (at v rs i) ≡ true → v.used r ≡ true → v.elements r ≡ v.elements (at v rs i) → Did v rs given (Some i) (turning i) (set rs i r) (one r)
+  stored : (i : ℕ) (r : A) → place_in (view v) rs ≡ Some i → v.used r ≡ true → v.elements r ≡ given.it → Did v rs given None (storing i) (set rs i r) (one r)
+  removed : (i : ℕ) → v.used (at v rs i) ≡ true → Did v rs given (Some i) (removing i) (without v.blank rs i) none
 
 module _ {A K : Type 0} (v : Sight A) (n : Naming K) (k : K) where
   -- a place with a record of the request
   abbrev pub Mine : List ℕ → List A → ℕ → Type 0
   Mine os rs i = (v.used (at v rs i) ≡ true) × (n.key (label (elements_at v os rs i)) ≡ k)
 
-  pub data Sits (os : List ℕ) (rs : List A) : Found → Type 0 where
-    nowhere : ((i : ℕ) → Mine os rs i → ⊥) → Sits os rs Nothing
-    only : (i : ℕ) → Mine os rs i → ((j : ℕ) → Mine os rs j → j ≡ i) → Sits os rs (At i)
+  pub data Sits (os : List ℕ) (rs : List A) : Option ℕ → Type 0 where
+    nowhere : ((i : ℕ) → Mine os rs i → ⊥) → Sits os rs None
+    only : (i : ℕ) → Mine os rs i → ((j : ℕ) → Mine os rs j → j ≡ i) → Sits os rs (Some i)
 
-  pub sits_at : {os : List ℕ} {rs : List A} {f : Found} → Sits os rs f → (i : ℕ) → Mine os rs i → f ≡ At i
+  pub sits_at : {os : List ℕ} {rs : List A} {f : Option ℕ} → Sits os rs f → (i : ℕ) → Mine os rs i → f ≡ Some i
   sits_at (nowhere h) i m = absurd (h i m)
-  sits_at (only j its alone) i m = ap At (sym (alone i m))
+  sits_at (only j its alone) i m = ap Some (sym (alone i m))
 
-  pub sits_mine : {os : List ℕ} {rs : List A} {f : Found} → Sits os rs f → (i : ℕ) → f ≡ At i → Mine os rs i
+  pub sits_mine : {os : List ℕ} {rs : List A} {f : Option ℕ} → Sits os rs f → (i : ℕ) → f ≡ Some i → Mine os rs i
   sits_mine (nowhere h) i e = no_place e
   sits_mine {os} {rs} (only j its alone) i e = subst (Mine os rs) (one_place e) its
 
   -- the same places are the request's
   pub sits_same :
-      {os ps : List ℕ} {rs qs : List A} {f : Found} → ((i : ℕ) → Mine os rs i → Mine ps qs i) → ((i : ℕ) → Mine ps qs i → Mine os rs i) →
+      {os ps : List ℕ} {rs qs : List A} {f : Option ℕ} → ((i : ℕ) → Mine os rs i → Mine ps qs i) → ((i : ℕ) → Mine ps qs i → Mine os rs i) →
       Sits os rs f → Sits ps qs f
   sits_same to back (nowhere h) = nowhere (λ i m. h i (back i m))
   sits_same to back (only i its alone) = only i (to i its) (λ j m. alone j (back j m))
 
   -- where the request's record stands afterwards, and what is there
   abbrev pub After : List ℕ → List A → Held A → Type 0
-  After os rs h = (f : Found) × (Sits os rs f × (there v rs f ≡ h))
+  After os rs h = (f : Option ℕ) × (Sits os rs f × (there v rs f ≡ h))
 
 -- ---- what is held of the request is what stands there
 module _ {A K : Type 0} (v : Sight A) {n : Naming K} (tells : Tells n) (k : K) where
@@ -125,18 +123,18 @@ module _ {A K : Type 0} (v : Sight A) {n : Naming K} (tells : Tells n) (k : K) w
   test_on : (o : ℕ) (r : A) → v.used r ≡ true → n.key (from o (v.elements r).identifier) ≡ k → both (n.same (n.key (from o (v.elements r).identifier)) k) (v.used r) ≡ true
   test_on o r u q = both_true (key-same tells _ k q) ∙ u
 
-  pub sits_held : (os : List ℕ) (rs : List A) (f : Found) → length os ≡ length rs → Sits v n k os rs f → v.used v.blank ≡ false → held_of (view v) n k os rs ≡ there v rs f
+  pub sits_held : (os : List ℕ) (rs : List A) (f : Option ℕ) → length os ≡ length rs → Sits v n k os rs f → v.used v.blank ≡ false → held_of (view v) n k os rs ≡ there v rs f
   unfolding held_of
   sits_held os [] f e (nowhere h) free = refl
   sits_held os [] f e (only i its alone) free = absurd (no_true (sym free ∙ its.0))
   sits_held [] (r ∷ rs) f e sits free = absurd (omega (arith, e))
   sits_held (o ∷ os) (r ∷ rs) f e (nowhere h) free =
-      rw (test_off o r (λ m. h 0 m)) (sits_held os rs Nothing (omega (arith, e)) (nowhere (λ i m. h (suc i) m)) free)
+      rw (test_off o r (λ m. h 0 m)) (sits_held os rs None (omega (arith, e)) (nowhere (λ i m. h (suc i) m)) free)
   sits_held (o ∷ os) (r ∷ rs) f e (only zero its alone) free = rw (test_on o r its.0 its.1) refl
   sits_held (o ∷ os) (r ∷ rs) f e (only (suc i) its alone) free =
       let off : (v.used r ≡ true) × (n.key (from o (v.elements r).identifier) ≡ k) → ⊥ = λ m. let z = alone 0 m in absurd (omega (arith, z)) in
       rw (test_off o r off)
-      (sits_held os rs (At i) (omega (arith, e)) (only i its (λ j m. let z = alone (suc j) m in omega (arith, z))) free)
+      (sits_held os rs (Some i) (omega (arith, e)) (only i its (λ j m. let z = alone (suc j) m in omega (arith, z))) free)
 
 -- ---- a step at a desk, for a request
 -- where a record that stood behind a removed one stands now
@@ -171,13 +169,13 @@ module _ {A K : Type 0} (v : Sight A) {n : Naming K} (tells : Tells n) (k : K) (
         (λ e. ap (from (get_or os j 0)) (named ∙ ap (λ (m : ℕ). v.elements (at v rs m)) (sym e)))
         (λ d. refl)
 
-    turn_sits : {f : Found} → Sits v n k os rs f → Sits v n k os (set rs i r) f
+    turn_sits : {f : Option ℕ} → Sits v n k os rs f → Sits v n k os (set rs i r) f
     turn_sits =
         sits_same v n k (λ j m. (turn-used j ∙ m.0, ap (key_of n) (turn-label j) ∙ m.1))
         (λ j m. (sym (turn-used j) ∙ m.0, ap (key_of n) (sym (turn-label j)) ∙ m.1))
 
   -- ---- a record stored at a free place
-  module _ (i : ℕ) (r : A) (given : Of Elements) (place : place_in (view v) rs ≡ At i) (named : v.elements r ≡ given.it) where
+  module _ (i : ℕ) (r : A) (given : Of Elements) (place : place_in (view v) rs ≡ Some i) (named : v.elements r ≡ given.it) where
     store-inside : i < length rs
     store-inside = place_inside (view v) rs i place
 
@@ -209,10 +207,10 @@ module _ {A K : Type 0} (v : Sight A) {n : Naming K} (tells : Tells n) (k : K) (
         let s = store_other j d in
         (ap v.used (sym s.0) ∙ m.0, ap (key_of n) (sym s.1) ∙ m.1)
 
-    store_sits : {f : Found} → (n.key (label given) ≡ k → ⊥) → Sits v n k os rs f → Sits v n k (set os i given.origin) (set rs i r) f
+    store_sits : {f : Option ℕ} → (n.key (label given) ≡ k → ⊥) → Sits v n k os rs f → Sits v n k (set os i given.origin) (set rs i r) f
     store_sits d = sits_same v n k store-to (λ j m. store-back j (λ e. d (sym (ap (key_of n) store-label) ∙ ap (λ (x : ℕ). n.key (label (elements_at v (set os i given.origin) (set rs i r) x))) (sym e) ∙ m.1)) m)
 
-    store-own : v.used r ≡ true → n.key (label given) ≡ k → Sits v n k os rs Nothing → Sits v n k (set os i given.origin) (set rs i r) (At i)
+    store-own : v.used r ≡ true → n.key (label given) ≡ k → Sits v n k os rs None → Sits v n k (set os i given.origin) (set rs i r) (Some i)
     store-own u e (nowhere h) = only i (ap v.used store-here ∙ u, ap (key_of n) store-label ∙ e) alone
       where
         alone : (j : ℕ) → Mine v n k (set os i given.origin) (set rs i r) j → j ≡ i
@@ -225,7 +223,7 @@ module _ {A K : Type 0} (v : Sight A) {n : Naming K} (tells : Tells n) (k : K) (
   -- ---- a record removed
   module _ (i : ℕ) where
     abbrev origin_view : View ℕ
-    origin_view = record { used = λ o. true; name = λ o. Absent; blank = 0 }
+    origin_view = record { used = λ o. true; name = λ o. None; blank = 0 }
 
     pub remove-at : (j : ℕ) → (at v (without v.blank rs i) j ≡ at v rs (shift i j)) × (elements_at v (without 0 os i) (without v.blank rs i) j ≡ elements_at v os rs (shift i j))
     remove-at j =
@@ -236,17 +234,17 @@ module _ {A K : Type 0} (v : Sight A) {n : Naming K} (tells : Tells n) (k : K) (
     remove-mine : (j : ℕ) → Mine v n k (without 0 os i) (without v.blank rs i) j → Mine v n k os rs (shift i j)
     remove-mine j m = let s = remove-at j in (ap v.used (sym s.0) ∙ m.0, ap (key_of n) (sym s.1) ∙ m.1)
 
-    remove-own : Sits v n k os rs (At i) → Sits v n k (without 0 os i) (without v.blank rs i) Nothing
+    remove-own : Sits v n k os rs (Some i) → Sits v n k (without 0 os i) (without v.blank rs i) None
     remove-own (only j its alone) = nowhere (λ x m. shift-never j x (alone (shift j x) (remove-mine x m)))
 
-    remove-other : (n.key (label (elements_at v os rs i)) ≡ k → ⊥) → {f : Found} → Sits v n k os rs f → After v n k (without 0 os i) (without v.blank rs i) (there v rs f)
-    remove-other d (nowhere h) = (Nothing, (nowhere (λ j m. h (shift i j) (remove-mine j m)), refl))
+    remove-other : (n.key (label (elements_at v os rs i)) ≡ k → ⊥) → {f : Option ℕ} → Sits v n k os rs f → After v n k (without 0 os i) (without v.blank rs i) (there v rs f)
+    remove-other d (nowhere h) = (None, (nowhere (λ j m. h (shift i j) (remove-mine j m)), refl))
     remove-other d (only j its alone) =
         let apart : (j ≡ i → ⊥) = λ e. d (ap (λ (x : ℕ). n.key (label (elements_at v os rs x))) (sym e) ∙ its.1) in
         let e = shift_back i j apart in
         let s = remove-at (back i j) in
         let here : at v (without v.blank rs i) (back i j) ≡ at v rs j = s.0 ∙ ap (at v rs) e in (
-          At (back i j),
+          Some (back i j),
           (
             only (back i j) (ap v.used here ∙ its.0, ap (key_of n) (s.1 ∙ ap (elements_at v os rs) e) ∙ its.1)
                 (λ x m. shift-tells i x (back i j) (alone (shift i x) (remove-mine x m) ∙ sym e)),
@@ -257,32 +255,32 @@ module _ {A K : Type 0} (v : Sight A) {n : Naming K} (tells : Tells n) (k : K) (
   -- ---- every step
   -- one that is for another request, or for none
   pub did-other :
-      {given : Of Elements} {f g : Found} {touch : Touch} {after : List A} {left : Held A} → Did v rs given f touch after left →
-      ((l : Of Identifier) → touched (view v) os rs (label given) touch ≡ l ∷ [] → n.key l ≡ k → ⊥) → Sits v n k os rs g →
+      {given : Of Elements} {f g : Option ℕ} {touch : Touch} {after : List A} {left : Held A} → Did v rs given f touch after left →
+      ((l : Of (Option Words)) → touched (view v) os rs (label given) touch ≡ l ∷ [] → n.key l ≡ k → ⊥) → Sits v n k os rs g →
       After v n k (origins_after touch given.origin os) after (there v rs g)
   did-other {g = g} stayed d sits = (g, (sits, refl))
   did-other {g = g} (turned i r was is named) d sits = (g, (turn_sits i r was is named sits, kept sits))
     where
-      kept : {h : Found} → Sits v n k os rs h → there v (set rs i r) h ≡ there v rs h
+      kept : {h : Option ℕ} → Sits v n k os rs h → there v (set rs i r) h ≡ there v rs h
       kept (nowhere h) = refl
       kept (only j its alone) =
           ap one (get_or-set_other rs i j r v.blank (λ e. d (label (elements_at v os rs i)) refl (ap (λ (x : ℕ). n.key (label (elements_at v os rs x))) (sym e) ∙ its.1)))
   did-other {given} {g = g} (stored i r place is named) d sits = (g, (store_sits i r given place named (d (label given) refl) sits, kept sits))
     where
-      kept : {h : Found} → Sits v n k os rs h → there v (set rs i r) h ≡ there v rs h
+      kept : {h : Option ℕ} → Sits v n k os rs h → there v (set rs i r) h ≡ there v rs h
       kept (nowhere h) = refl
       kept (only j its alone) = ap one (store_other i r given place named j (store_apart i r given place named j its.0)).0
   did-other (removed i was) d sits = remove-other i (d (label (elements_at v os rs i)) refl) sits
 
   -- one that is for the request: about its place, or storing its record
   pub did-own :
-      {given : Of Elements} {f : Found} {touch : Touch} {after : List A} {left : Held A} → Did v rs given f touch after left →
+      {given : Of Elements} {f : Option ℕ} {touch : Touch} {after : List A} {left : Held A} → Did v rs given f touch after left →
       Sits v n k os rs f → ((i : ℕ) → touch ≡ storing i → n.key (label given) ≡ k) → After v n k (origins_after touch given.origin os) after left
   did-own {f = f} stayed sits e = (f, (sits, refl))
-  did-own (turned i r was is named) sits e = (At i, (turn_sits i r was is named sits, ap one (at_set (view v) rs i r (turn_inside i r was is named))))
+  did-own (turned i r was is named) sits e = (Some i, (turn_sits i r was is named sits, ap one (at_set (view v) rs i r (turn_inside i r was is named))))
   did-own {given} (stored i r place is named) sits e =
-      (At i, (store-own i r given place named is (e i refl) sits, ap one (store-here i r given place named)))
-  did-own (removed i was) sits e = (Nothing, (remove-own i sits, refl))
+      (Some i, (store-own i r given place named is (e i refl) sits, ap one (store-here i r given place named)))
+  did-own (removed i was) sits e = (None, (remove-own i sits, refl))
 
 -- ---- the labels beside a desk
 module _ {A : Type 0} (v : Sight A) (P : Of Elements → Type 0) where
@@ -292,7 +290,7 @@ module _ {A : Type 0} (v : Sight A) (P : Of Elements → Type 0) where
   -- every label after a step was there, or is that of what came in and is stored
   pub did-all :
       (os : List ℕ) (rs : List A) → length os ≡ length rs → v.used v.blank ≡ false →
-      {given : Of Elements} {f : Found} {touch : Touch} {after : List A} {left : Held A} → Did v rs given f touch after left →
+      {given : Of Elements} {f : Option ℕ} {touch : Touch} {after : List A} {left : Held A} → Did v rs given f touch after left →
       ((i : ℕ) → touch ≡ storing i → P given) → All os rs → All (origins_after touch given.origin os) after
   did-all os rs full free stayed new all i u = all i u
   did-all os rs full free (turned j r was is named) new all i u =
@@ -310,7 +308,7 @@ module _ {A : Type 0} (v : Sight A) (P : Of Elements → Type 0) where
       subst P (sym s.1) (all (shift j i) (ap v.used (sym s.0) ∙ u))
 
 pub did-length :
-    {A : Type 0} {v : Sight A} {rs : List A} {given : Of Elements} {f : Found} {touch : Touch} {after : List A} {left : Held A} → Did v rs given f touch after left →
+    {A : Type 0} {v : Sight A} {rs : List A} {given : Of Elements} {f : Option ℕ} {touch : Touch} {after : List A} {left : Held A} → Did v rs given f touch after left →
     (o : ℕ) (os : List ℕ) → length os ≡ length rs → length (origins_after touch o os) ≡ length after
 did-length stayed o os e = e
 did-length {rs = rs} (turned i r was is named) o os e = e ∙ sym (length-set rs i r)
@@ -356,7 +354,7 @@ touches_never by_removal e = let z : ◌≡◌ {A = ℕ} 0 1 = cc in absurd (ome
 module _ {A : Type 0} (v : Sight A) (os : List ℕ) (rs : List A) (given : Of Elements) where
   -- it has the identifier that came in, where what is found has it
   pub speaks-name :
-      {f : Found} {touch : Touch} {after : List A} {left : Held A} → Did v rs given f touch after left → (j : Elements) → given.it ≡ j → Its v j (there v rs f) →
+      {f : Option ℕ} {touch : Touch} {after : List A} {left : Held A} → Did v rs given f touch after left → (j : Elements) → given.it ≡ j → Its v j (there v rs f) →
       (speaks v os rs given touch).it ≡ j
   speaks-name stayed j came its = came
   speaks-name (turned i r was is named) j came its = its.1
@@ -364,7 +362,7 @@ module _ {A : Type 0} (v : Sight A) (os : List ℕ) (rs : List A) (given : Of El
   speaks-name (removed i was) j came its = its.1
 
   pub speaks-all :
-      {f : Found} {touch : Touch} {after : List A} {left : Held A} → Did v rs given f touch after left → (P : Of Elements → Type 0) → P given → All v P os rs →
+      {f : Option ℕ} {touch : Touch} {after : List A} {left : Held A} → Did v rs given f touch after left → (P : Of Elements → Type 0) → P given → All v P os rs →
       P (speaks v os rs given touch)
   speaks-all stayed P came all = came
   speaks-all (turned i r was is named) P came all = all i was
@@ -373,7 +371,7 @@ module _ {A : Type 0} (v : Sight A) (os : List ℕ) (rs : List A) (given : Of El
 
   -- where it is about no place, it is what came in
   pub nowhere-speaks :
-      {f : Found} {touch : Touch} {after : List A} {left : Held A} → Did v rs given f touch after left → f ≡ Nothing → speaks v os rs given touch ≡ given
+      {f : Option ℕ} {touch : Touch} {after : List A} {left : Held A} → Did v rs given f touch after left → f ≡ None → speaks v os rs given touch ≡ given
   nowhere-speaks stayed e = refl
   nowhere-speaks (turned i r was is named) e = no_place (sym e)
   nowhere-speaks (stored i r place is named) e = refl
@@ -381,7 +379,7 @@ module _ {A : Type 0} (v : Sight A) (os : List ℕ) (rs : List A) (given : Of El
 
   module _ {K : Type 0} (n : Naming K) (k : K) where
     pub speaks-own :
-        {f : Found} {touch : Touch} {after : List A} {left : Held A} → Did v rs given f touch after left → n.key (label given) ≡ k → Sits v n k os rs f →
+        {f : Option ℕ} {touch : Touch} {after : List A} {left : Held A} → Did v rs given f touch after left → n.key (label given) ≡ k → Sits v n k os rs f →
         n.key (label (speaks v os rs given touch)) ≡ k
     speaks-own stayed came sits = came
     speaks-own (turned i r was is named) came sits = (sits_mine v n k sits i refl).1
@@ -389,8 +387,8 @@ module _ {A : Type 0} (v : Sight A) (os : List ℕ) (rs : List A) (given : Of El
     speaks-own (removed i was) came sits = (sits_mine v n k sits i refl).1
 
     pub speaks-other :
-        {f : Found} {touch : Touch} {after : List A} {left : Held A} → Did v rs given f touch after left → (n.key (label given) ≡ k → ⊥) →
-        ((i : ℕ) → f ≡ At i → n.key (label (elements_at v os rs i)) ≡ k → ⊥) → n.key (label (speaks v os rs given touch)) ≡ k → ⊥
+        {f : Option ℕ} {touch : Touch} {after : List A} {left : Held A} → Did v rs given f touch after left → (n.key (label given) ≡ k → ⊥) →
+        ((i : ℕ) → f ≡ Some i → n.key (label (elements_at v os rs i)) ≡ k → ⊥) → n.key (label (speaks v os rs given touch)) ≡ k → ⊥
     speaks-other stayed came found = came
     speaks-other (turned i r was is named) came found = found i refl
     speaks-other (stored i r place is named) came found = came
@@ -398,5 +396,5 @@ module _ {A : Type 0} (v : Sight A) (os : List ℕ) (rs : List A) (given : Of El
 
     -- who is touched is who is spoken for
     pub touched-other :
-        (touch : Touch) → (n.key (label (speaks v os rs given touch)) ≡ k → ⊥) → (l : Of Identifier) → touched (view v) os rs (label given) touch ≡ l ∷ [] → n.key l ≡ k → ⊥
-    touched-other touch d l e q = d (sym (ap n.key (speaks-label v os rs given touch)) ∙ ap (λ (ls : List (Of Identifier)). n.key (get_or ls 0 (label given))) e ∙ q)
+        (touch : Touch) → (n.key (label (speaks v os rs given touch)) ≡ k → ⊥) → (l : Of (Option Words)) → touched (view v) os rs (label given) touch ≡ l ∷ [] → n.key l ≡ k → ⊥
+    touched-other touch d l e q = d (sym (ap n.key (speaks-label v os rs given touch)) ∙ ap (λ (ls : List (Of (Option Words))). n.key (get_or ls 0 (label given))) e ∙ q)

@@ -1,4 +1,5 @@
 -- A tick turn by turn: each is a report by hand, which every run may have.
+use Rattle.std.specs.Prelude.{Option, Some, None}
 use Prim.Native.Nat.{ℕ, zero, suc}
 use mathlib.Core.Path.{◌≡◌, refl, sym, ◌∙◌, ap, subst}
 use mathlib.Core.Bool.{Bool, true, false}
@@ -11,7 +12,6 @@ use Rattle.desk.specs.declared.outcome.Outcome.{Outcome}
 use Rattle.clerk_table.specs.declared.table.Timer.{Timer}
 use Rattle.clerk_records.specs.Layout as ClerkLayout
 use Rattle.clerk_records.specs.Deadlines as ClerkDeadlines
-use Rattle.clerk_records.specs.declared.deadlines.Expiring.{Expiring}
 use Rattle.clerk.specs.Steps as ClerkSteps
 use Rattle.clerk.specs.Ticks as Clerk
 use Rattle.clerk.specs.declared.Desk.{Desk as ClerkDesk}
@@ -51,7 +51,7 @@ clerk-same (suc n) i at w =
     (clerk-same n (suc i) (suc at) w)
   where
     by :
-        (x : Expiring) →
+        (x : Option Timer) →
         ((timer : Timer) →
         ClerkSame (next w (clerk_does (Clerk.report at timer))) (ticking clerk_report n at (next w (clerk_does (Clerk.report at timer))))
         (Clerk.ticking n (suc i) at w.count (ClerkSteps.step w.clerk w.count (Clerk.report at timer)).desk)) →
@@ -63,7 +63,7 @@ clerk-same (suc n) i at w =
         noted (expired_at i (ClerkSteps.step w.clerk w.count (Clerk.report at timer)).outcome)
         (Clerk.ticking n (suc i) at w.count (ClerkSteps.step w.clerk w.count (Clerk.report at timer)).desk))
         (Clerk.ticking n (suc i) (suc at) w.count w.clerk))
-    by (Expiring.One timer) gone on =
+    by (Some timer) gone on =
         let same = gone timer in
         record {
           desk = same.desk;
@@ -71,7 +71,7 @@ clerk-same (suc n) i at w =
           line = same.line;
           down = same.down;
         }
-    by Expiring.Nothing gone on = on
+    by None gone on = on
 
 -- ---- the line's end
 record LineSame (w after : World) (t : Ticked LineDesk) : Type 0 where
@@ -169,9 +169,9 @@ apart-free o w e (guard place) =
 clerk-reporting : (w : World) (at : ℕ) (e : Event) → clerk_report w at ≡ one e → Reporting e
 clerk-reporting w at e so = by (ClerkDeadlines.expiring_at w.count w.clerk.words at) so
   where
-    by : (x : Expiring) → Clerk.by_timer x (λ timer. one (clerk_does (Clerk.report at timer))) none ≡ one e → Reporting e
-    by (Expiring.One t) q = let same : clerk_does (Clerk.report at t) ≡ e = cc in subst Reporting same (timer at t)
-    by Expiring.Nothing q = let z : ◌≡◌ {A = ℕ} 0 1 = cc in absurd (omega (arith, z))
+    by : (x : Option Timer) → Clerk.by_timer x (λ timer. one (clerk_does (Clerk.report at timer))) none ≡ one e → Reporting e
+    by (Some t) q = let same : clerk_does (Clerk.report at t) ≡ e = cc in subst Reporting same (timer at t)
+    by None q = let z : ◌≡◌ {A = ℕ} 0 1 = cc in absurd (omega (arith, z))
 
 line-reporting : (w : World) (at : ℕ) (e : Event) → line_report w at ≡ one e → Reporting e
 line-reporting w at e so = by (LineDeadlines.expiring_at w.count w.line.words at) so

@@ -1,14 +1,15 @@
 -- Wires for one request: its messages among those of all.
+use Rattle.lists.specs.declared.words.Words.{Words}
+use Rattle.desk.specs.declared.letter.Letter.{Letter}
+use Rattle.std.specs.Prelude.{Option}
 use Prim.Native.Nat.{ℕ, zero, suc}
 use mathlib.Core.Path.{◌≡◌, refl, sym, ◌∙◌, ap, subst}
 use mathlib.Core.Logic.{◌⊎◌, inl, inr}
 use mathlib.Core.List.{List, [], ◌∷◌, ◌++◌, map}
 use lib.ListN.{take, drop}
 use native.Mathlib.Omega.{arith}
-use Rattle.desk.specs.declared.letter.Identifier.{Identifier}
 use Rattle.desk.specs.declared.sends.Elements.{Elements}
 use Rattle.message.specs.declared.Message.{Message}
-use Rattle.desk.specs.declared.outcome.Sending.{Sending}
 use Rattle.pair_request.specs.Reading.{Msg, left_out}
 use Rattle.pair_request.specs.Listed.{NoReq}
 use Rattle.pair.specs.World.{Of, from, Naming, dropped, label_of, messages_of, sent_by, lost_at}
@@ -36,7 +37,7 @@ worded-label l m kept = ap (from l.origin) (sent-name l.it m kept)
 
 -- what a step sends, with an origin
 pub sent-worded :
-    (l : Of Elements) (sending : Sending) (ms : List Msg) → sent_by sending ≡ map (message_read l.it) ms → map (from l.origin) (sent_by sending) ≡ map (worded l) ms
+    (l : Of Elements) (sending : Option Letter) (ms : List Msg) → sent_by sending ≡ map (message_read l.it) ms → map (from l.origin) (sent_by sending) ≡ map (worded l) ms
 sent-worded l sending ms e = ap (map (from l.origin)) e ∙ again ms
   where
     again : (xs : List Msg) → map (from l.origin) (map (message_read l.it) xs) ≡ map (worded l) xs
@@ -179,9 +180,9 @@ module _ {K : Type 0} {n : Naming K} (tells : Tells n) (k : K) where
 
   pub data LeftOut (i : ℕ) (xs : List (Of Message)) : Type 0 where
     nothing-lost : without i xs ≡ xs → lost_at i xs ≡ [] → LeftOut i xs
-    other-lost : (l : Of Identifier) → lost_at i xs ≡ dropped l ∷ [] → (n.key l ≡ k → ⊥) → messages_of n k (without i xs) ≡ messages_of n k xs → LeftOut i xs
+    other-lost : (l : Of (Option Words)) → lost_at i xs ≡ dropped l ∷ [] → (n.key l ≡ k → ⊥) → messages_of n k (without i xs) ≡ messages_of n k xs → LeftOut i xs
     one-lost :
-        (l : Of Identifier) → lost_at i xs ≡ dropped l ∷ [] → n.key l ≡ k → Heads n (drop i xs) k →
+        (l : Of (Option Words)) → lost_at i xs ≡ dropped l ∷ [] → n.key l ≡ k → Heads n (drop i xs) k →
         ((j : Elements) (cs : List Msg) → AllClear j cs → messages_of n k xs ≡ map (message_read j) cs → Lost j (without i xs) cs) → LeftOut i xs
 
   first-lost : {j : Elements} {x : Of Message} {rest : List (Of Message)} {cs : List Msg} → Headed n k j x rest cs → Lost j rest cs

@@ -1,19 +1,18 @@
 -- Demand 3: what is claimed of two desks and two wires that deliver in order or drop, in every run. Each claim is a type; its proof has its name.
 -- What the words of a claim mean stands before it, and World.antt says what can happen.
-use Rattle.std.specs.Prelude.{ℕ, take, drop}
+use Rattle.lists.specs.declared.words.Words.{Words}
+use Rattle.std.specs.Prelude.{ℕ, take, drop, Option, Some, Ok}
 use mathlib.Core.{Path.◌≡◌, Bool.Bool, Bool.true, Bool.false, Logic.◌⊎◌, List.List, List.[], List.◌∷◌, List.map, List.Memᴰ as Noted}
 use Rattle.lists.specs.{Words.Bytes, declared.words.Words.Words}
-use Rattle.desk.specs.declared.letter.Identifier.{Identifier}
 use Rattle.message.specs.declared.Message.{Message}
+use Rattle.message.specs.declared.refusal.Refusal.TheVariants.{NotInCarrier}
 use Rattle.desk.specs.declared.Connection.TheVariants.{Empty}
 use Rattle.places.specs.Places.{Held, none, one}
 use Rattle.clerk_table.specs.{Inputs.names_of as clerk_names, declared.record.Record.Record as ClerkRecord, declared.table.State.State as ClerkState}
 use Rattle.line_table.specs.{Inputs.names_of as line_names, Record.activated, Search.marks, declared.inputs.Input.Input as LineInput}
 use Rattle.line_table.specs.declared.{record.Record.Record as LineRecord, table.State.State as LineState}
-use Rattle.clerk.specs.declared.entry.Entry.TheVariants as ClerkEntry
 use Rattle.clerk.specs.declared.start.Lengths.{Lengths}
 use Rattle.clerk.specs.Steps as Clerk
-use Rattle.line.specs.declared.entry.Entry.TheVariants as LineEntry
 use Rattle.line.specs.Steps as Line
 use Rattle.pair.specs.World.{Of, Naming, origins, identifiers, Note, taken_up, dropped, run_out, guarded, World, new_label, label_of, clerk_holds, line_holds, messages_of, clerk_touched, line_touched, signal_entry}
 use Rattle.pair.specs.World.{Event, clerk_does, line_does, clerk_is_told, clerk_hears, line_hears, drops_up, drops_down, counts, next, Allowed, Run, stop, then, start_world, Reached, is_request, Once, Apart}
@@ -49,9 +48,9 @@ NoRequest (m ∷ ms) = (is_request m.body ≡ false) × NoRequest ms
 
 -- the request that a step is about, at most one: the one that an input at an end touches, a Look's too, or of which the signalling tells; or whose message is
 -- delivered. A line report, a drop and another count are about none
-abbrev pub whom : World → Event → List (Of Identifier)
-whom w (clerk_does input) = clerk_touched w (new_label w (clerk_names input).identifier) (ClerkEntry.Given input)
-whom w (line_does input) = line_touched w (new_label w (line_names input).identifier) (LineEntry.Given input)
+abbrev pub whom : World → Event → List (Of (Option Words))
+whom w (clerk_does input) = clerk_touched w (new_label w (clerk_names input).identifier) (Ok input)
+whom w (line_does input) = line_touched w (new_label w (line_names input).identifier) (Ok input)
 whom w (clerk_is_told signal name busy) = clerk_touched w (new_label w name.identifier) (signal_entry signal name busy)
 whom w (clerk_hears busy place) = map label_of (take 1 w.down)
 whom w (line_hears place) = map label_of (take 1 w.up)
@@ -74,8 +73,8 @@ module _ {K : Type 0} (n : Naming K) where
   Heads (x ∷ xs) k = n.key (label_of x) ≡ k
 
   -- something is noted of it
-  abbrev pub Told : (Of Identifier → Note) → K → World → Type 0
-  Told note k w = (l : Of Identifier) × ((n.key l ≡ k) × Noted (note l) w.history)
+  abbrev pub Told : (Of (Option Words) → Note) → K → World → Type 0
+  Told note k w = (l : Of (Option Words)) × ((n.key l ≡ k) × Noted (note l) w.history)
 
   -- ---- 1. what the clerk's end holds as acknowledged was accepted earlier at the line's end
   -- the head of a wire is its request message
@@ -162,8 +161,8 @@ module _ {K : Type 0} (n : Naming K) where
   abbrev pub CarriersFit : (K → World → Event → Type 0) → Type 0
   CarriersFit Holds =
       (k : K) (w : World) → Reached (Holds k) w → (x : Of Message) (rest : List (Of Message)) → n.key (label_of x) ≡ k →
-      ((busy : Bool) (place : ℕ) → w.down ≡ x ∷ rest → Holds k w (clerk_hears busy place) → (Clerk.received w.clerk w.count x.it busy place).outcome.refusal ≡ 8 → ⊥) ×
-      ((place : ℕ) → w.up ≡ x ∷ rest → Holds k w (line_hears place) → (Line.received w.line w.count x.it place).outcome.refusal ≡ 8 → ⊥)
+      ((busy : Bool) (place : ℕ) → w.down ≡ x ∷ rest → Holds k w (clerk_hears busy place) → (Clerk.received w.clerk w.count x.it busy place).outcome.refusal ≡ Some NotInCarrier → ⊥) ×
+      ((place : ℕ) → w.up ≡ x ∷ rest → Holds k w (line_hears place) → (Line.received w.line w.count x.it place).outcome.refusal ≡ Some NotInCarrier → ⊥)
 
   pub record Claims (Holds : K → World → Event → Type 0) : Type 0 where
     pub acknowledged_was_accepted : AcknowledgedWasAccepted Holds

@@ -1,25 +1,28 @@
 -- Two desks, two wires that deliver in order or drop, and the history of the run. A step is an input at a desk, as the desk's contract has it, or the drop of a message.
 -- A request is an ask that was taken. The run notes beside records and messages which one they come from; no desk sees it.
-use Rattle.std.specs.Prelude.{ℕ, suc}
+use Rattle.lists.specs.declared.words.Words.{Words}
+use Rattle.desk.specs.declared.letter.Letter.{Letter}
+use Rattle.std.specs.Prelude.{ℕ, suc, Option, Some, None, Ok, Err, Result}
 use mathlib.Core.{Path.◌≡◌, Bool.Bool, Bool.true, Bool.false, Bool.not, List.List, List.[], List.◌∷◌, List.◌++◌, List.map, List.Memᴰ as Noted}
 use lib.{Dec.eqb, Dec.ltb, ListN.get_or, ListN.set, ListN.length, ListN.replicate, ListN.take, ListN.drop}
 use Rattle.lists.specs.{Choice.pick, Lists.both, Lists.without, Words.Bytes, Words.same_words}
 use Rattle.message.specs.Format.{typeNumber, has_elements}
 use Rattle.message.specs.declared.{Message.Message, Body.Body, Body.TheVariants.RequestError, Body.TheVariants.CallFailed, Carrier.TheVariants.ReleaseComplete}
-use Rattle.desk.specs.{Letter.identifier_of, Letter.letter_of, Letter.message_of, Sends.plain_letter, declared.letter.Identifier.Identifier, declared.letter.Identifier.TheVariants.Absent, declared.letter.Identifier.TheVariants.Is, declared.letter.Letter.Letter, declared.outcome.Sending.Sending}
+use Rattle.message.specs.declared.refusal.Refusal.{Refusal}
+use Rattle.desk.specs.{Letter.identifier_of, Letter.letter_of, Letter.message_of, Sends.plain_letter, declared.letter.Letter.Letter}
 use Rattle.terms.specs.declared.{request.Name.Name, request.Names.Names, request.Request.Request, means.Means.Means, means.Means.TheVariants.At, means.Means.TheVariants.Nothing}
 use Rattle.places.specs.Places.{View, at, Held, none, one}
 use Rattle.clerk_table.specs.{Inputs.names_of as clerk_names, declared.inputs.Input.Input as ClerkInput, declared.record.Change.Change as ClerkChange, declared.record.Record.Record as ClerkRecord, declared.table.Timer.Timer}
 use Rattle.clerk_records.specs.{Layout.places as clerk_places, Meaning.meaning as clerk_meaning, Records.records as clerk_records}
 use Rattle.clerk_plan.specs.Plan as ClerkPlan
-use Rattle.clerk.specs.{Entry.message_entry as clerk_entry, declared.Desk.Desk as ClerkDesk, declared.entry.Entry.Entry as ClerkEntry}
+use Rattle.clerk.specs.{Entry.message_entry as clerk_entry, declared.Desk.Desk as ClerkDesk}
 use Rattle.clerk.specs.{Start.started_desk as clerk_started, declared.start.Lengths.Lengths}
 use Rattle.clerk.specs.Steps as Clerk
 use Rattle.clerk_sound.specs.Sound.{clerk_view, Fair}
 use Rattle.line_table.specs.{Inputs.names_of as line_names, declared.inputs.Input.Input as LineInput, declared.record.Change.Change as LineChange, declared.record.Record.Record as LineRecord}
 use Rattle.line_records.specs.{Layout.places as line_places, Meaning.meaning as line_meaning, Records.records as line_records}
 use Rattle.line_plan.specs.Plan as LinePlan
-use Rattle.line.specs.{Entry.message_entry as line_entry, Start.started as line_started, declared.Desk.Desk as LineDesk, declared.entry.Entry.Entry as LineEntry}
+use Rattle.line.specs.{Entry.message_entry as line_entry, Start.started as line_started, declared.Desk.Desk as LineDesk}
 use Rattle.line.specs.Steps as Line
 use Rattle.line_sound.specs.Sound.{line_view}
 use Rattle.pair_request.specs.Signal.{Signal, call_died, rejected}
@@ -35,26 +38,26 @@ from origin it = record { origin = origin; it = it }
 
 -- a label is an identifier, or that there is none, with its origin; and a request is named by one part of it
 pub record Naming (K : Type 0) : Type 0 where
-  pub key : Of Identifier → K
+  pub key : Of (Option Words) → K
   pub same : K → K → Bool
 
 abbrev pub origins : Naming ℕ
 origins = record { key = λ l. l.origin; same = eqb }
 
-abbrev pub alike : Identifier → Identifier → Bool
-alike Absent Absent = true
-alike Absent (Is other) = false
-alike (Is own) Absent = false
-alike (Is own) (Is other) = same_words own other
+abbrev pub alike : Option Words → Option Words → Bool
+alike None None = true
+alike None (Some other) = false
+alike (Some own) None = false
+alike (Some own) (Some other) = same_words own other
 
-abbrev pub identifiers : Naming Identifier
+abbrev pub identifiers : Naming (Option Words)
 identifiers = record { key = λ l. l.it; same = alike }
 
 -- ---- the world
 -- what is noted of a request: an ask took it up; a message of it was dropped; a T1 or T2 report of it was taken at the clerk's end; a guard report at the line's
 -- (that a note is in the history, `Noted`, is mathlib's membership of a list)
 pub data Note : Type 0 where
-  taken_up dropped run_out guarded : Of Identifier → Note
+  taken_up dropped run_out guarded : Of (Option Words) → Note
 
 -- `up` is the wire to the line's end, `down` the one to the clerk's; messages arrive from the front. Beside each desk stand the origins of the records at its places
 pub record World : Type 0 where
@@ -69,17 +72,17 @@ pub record World : Type 0 where
   pub count : ℕ
 
 -- a message's identifier, as the desks compare it
-abbrev pub name_of : Message → Identifier
+abbrev pub name_of : Message → Option Words
 name_of m = identifier_of m.identified m.identifier
 
 -- the label of an ask that is taken now (its number is how long the history is, so no two have one), of a message, and of the record at a place
-abbrev pub new_label : World → Identifier → Of Identifier
+abbrev pub new_label : World → Option Words → Of (Option Words)
 new_label w identifier = from (length w.history) identifier
 
-abbrev pub label_of : Of Message → Of Identifier
+abbrev pub label_of : Of Message → Of (Option Words)
 label_of x = from x.origin (name_of x.it)
 
-abbrev pub label_at : {A : Type 0} → View A → List ℕ → List A → ℕ → Of Identifier
+abbrev pub label_at : {A : Type 0} → View A → List ℕ → List A → ℕ → Of (Option Words)
 label_at v os rs i = from (get_or os i 0) (v.name (at v rs i))
 
 -- what a desk holds of a request: its record, or none
@@ -118,13 +121,13 @@ line_change (LineChange.Remove i) = removing i
 line_change (LineChange.Report k number busy) = nothing
 
 -- as the desk plans it for what comes in at its entry
-abbrev pub clerk_touch : ClerkDesk → ClerkEntry → Touch
-clerk_touch d (ClerkEntry.Refused number) = nothing
-clerk_touch d (ClerkEntry.Given input) = clerk_change (ClerkPlan.plan_for (clerk_records d.words) input).change
+abbrev pub clerk_touch : ClerkDesk → Result ClerkInput Refusal → Touch
+clerk_touch d (Err refusal) = nothing
+clerk_touch d (Ok input) = clerk_change (ClerkPlan.plan_for (clerk_records d.words) input).change
 
-abbrev pub line_touch : LineDesk → LineEntry → Touch
-line_touch d (LineEntry.Refused number) = nothing
-line_touch d (LineEntry.Given input) = line_change (LinePlan.plan_for d.words input).change
+abbrev pub line_touch : LineDesk → Result LineInput Refusal → Touch
+line_touch d (Err refusal) = nothing
+line_touch d (Ok input) = line_change (LinePlan.plan_for d.words input).change
 
 -- the origins beside the desk afterwards: a record that is stored has the origin that is given, of the ask or of the request message; a removal closes the gap
 abbrev pub origins_after : Touch → ℕ → List ℕ → List ℕ
@@ -134,16 +137,16 @@ origins_after (turning i) given os = os
 origins_after (removing i) given os = without 0 os i
 
 -- whom the step is for: the record that it turns or removes; where one is stored what is given; else nobody
-abbrev pub touched : {A : Type 0} → View A → List ℕ → List A → Of Identifier → Touch → List (Of Identifier)
+abbrev pub touched : {A : Type 0} → View A → List ℕ → List A → Of (Option Words) → Touch → List (Of (Option Words))
 touched v os rs given nothing = []
 touched v os rs given (storing i) = given ∷ []
 touched v os rs given (turning i) = label_at v os rs i ∷ []
 touched v os rs given (removing i) = label_at v os rs i ∷ []
 
-abbrev pub clerk_touched : World → Of Identifier → ClerkEntry → List (Of Identifier)
+abbrev pub clerk_touched : World → Of (Option Words) → Result ClerkInput Refusal → List (Of (Option Words))
 clerk_touched w given entry = touched clerk_view w.clerk_origins (clerk_records w.clerk.words) given (clerk_touch w.clerk entry)
 
-abbrev pub line_touched : World → Of Identifier → LineEntry → List (Of Identifier)
+abbrev pub line_touched : World → Of (Option Words) → Result LineInput Refusal → List (Of (Option Words))
 line_touched w given entry = touched line_view w.line_origins (line_records w.line.words) given (line_touch w.line entry)
 
 -- ---- the steps
@@ -163,12 +166,12 @@ pub data Event : Type 0 where
   counts : ℕ → Event
 
 -- what an outcome sends, a reply too
-abbrev pub sent_by : Sending → List Message
-sent_by Sending.Nothing = []
-sent_by (Sending.Send l) = message_of l ∷ []
+abbrev pub sent_by : Option Letter → List Message
+sent_by None = []
+sent_by (Some l) = message_of l ∷ []
 
 -- what is noted of those that an input is for: an ask takes up a request; T1, T2 or a guard has run out. T3 is no timer of the demand
-abbrev pub clerk_notes : ClerkInput → List (Of Identifier) → List Note
+abbrev pub clerk_notes : ClerkInput → List (Of (Option Words)) → List Note
 clerk_notes (ClerkInput.Ask names q) ls = map taken_up ls
 clerk_notes (ClerkInput.Message l busy place) ls = []
 clerk_notes (ClerkInput.Act name act) ls = []
@@ -176,7 +179,7 @@ clerk_notes (ClerkInput.Timer name Timer.T1) ls = map run_out ls
 clerk_notes (ClerkInput.Timer name Timer.T2) ls = map run_out ls
 clerk_notes (ClerkInput.Timer name Timer.T3) ls = []
 
-abbrev pub line_notes : LineInput → List (Of Identifier) → List Note
+abbrev pub line_notes : LineInput → List (Of (Option Words)) → List Note
 line_notes (LineInput.Message l place) ls = []
 line_notes (LineInput.Act name act) ls = []
 line_notes (LineInput.Guard name) ls = map guarded ls
@@ -185,7 +188,7 @@ line_notes (LineInput.Look number) ls = []
 
 -- the world after a step of a desk: with what is left of the wire that it heard from, the label of what came in, and what is noted of those that the step is for. What is
 -- sent is for them; a reply is for the message that is refused
-abbrev pub clerk_stepped : World → List (Of Message) → Of Identifier → ClerkEntry → (List (Of Identifier) → List Note) → World
+abbrev pub clerk_stepped : World → List (Of Message) → Of (Option Words) → Result ClerkInput Refusal → (List (Of (Option Words)) → List Note) → World
 clerk_stepped w down given entry notes =
     let step = Clerk.entered w.clerk w.count entry in
     let whom = clerk_touched w given entry in
@@ -193,7 +196,7 @@ clerk_stepped w down given entry notes =
     let sent = map (from (get_or whom 0 given).origin) (sent_by step.outcome.sending) in
     record { clerk = step.desk; clerk_origins = os; up = w.up ++ sent; line = w.line; line_origins = w.line_origins; down = down; history = notes whom ++ w.history; count = w.count }
 
-abbrev pub line_stepped : World → List (Of Message) → Of Identifier → LineEntry → (List (Of Identifier) → List Note) → World
+abbrev pub line_stepped : World → List (Of Message) → Of (Option Words) → Result LineInput Refusal → (List (Of (Option Words)) → List Note) → World
 line_stepped w up given entry notes =
     let step = Line.entered w.line w.count entry in
     let whom = line_touched w given entry in
@@ -212,12 +215,12 @@ lineHeard w place (x ∷ rest) = line_stepped w rest (label_of x) (line_entry x.
 
 -- a message that nobody sent (docs/HOST.md, 12): type 12, or type 4 short, in Release Complete. The types 11 and 7 that HOST.md names there are no
 -- steps of a run, since claim 3 would not hold of them (`LeftOut` in crate pair_runs)
-abbrev pub signal_letter : Signal → Identifier → Letter
+abbrev pub signal_letter : Signal → Option Words → Letter
 signal_letter call_died identifier = plain_letter identifier ReleaseComplete CallFailed
 signal_letter rejected identifier = plain_letter identifier ReleaseComplete (RequestError 1)
 
-abbrev pub signal_entry : Signal → Name → Bool → ClerkEntry
-signal_entry signal name busy = ClerkEntry.Given (ClerkInput.Message (signal_letter signal name.identifier) busy name.place)
+abbrev pub signal_entry : Signal → Name → Bool → Result ClerkInput Refusal
+signal_entry signal name busy = Ok (ClerkInput.Message (signal_letter signal name.identifier) busy name.place)
 
 -- a wire without the message at a place, and the note of it; behind its end there is none
 abbrev pub lost_at : ℕ → List (Of Message) → List Note
@@ -230,8 +233,8 @@ lossy w up down notes count =
 
 -- what a host puts in has the label of an ask that is taken now: it counts only if it is one
 unfoldable pub next : World → Event → World
-next w (clerk_does input) = clerk_stepped w w.down (new_label w (clerk_names input).identifier) (ClerkEntry.Given input) (clerk_notes input)
-next w (line_does input) = line_stepped w w.up (new_label w (line_names input).identifier) (LineEntry.Given input) (line_notes input)
+next w (clerk_does input) = clerk_stepped w w.down (new_label w (clerk_names input).identifier) (Ok input) (clerk_notes input)
+next w (line_does input) = line_stepped w w.up (new_label w (line_names input).identifier) (Ok input) (line_notes input)
 next w (clerk_is_told signal name busy) = clerk_stepped w w.down (new_label w name.identifier) (signal_entry signal name busy) (λ whom. [])
 next w (clerk_hears busy place) = clerkHeard w busy place w.down
 next w (line_hears place) = lineHeard w place w.up
@@ -269,8 +272,8 @@ Any w e = Unit
 -- every ask that is taken has an identifier, and one that none before it had
 abbrev pub Once : World → Event → Type 0
 Once w e =
-    (names : Names) (q : Request) → e ≡ clerk_does (ClerkInput.Ask names q) → (Clerk.step w.clerk w.count (ClerkInput.Ask names q)).outcome.refusal ≡ 0 →
-    (names.identifier ≡ Absent → ⊥) × ((o : ℕ) → Noted (taken_up (from o names.identifier)) w.history → ⊥)
+    (names : Names) (q : Request) → e ≡ clerk_does (ClerkInput.Ask names q) → (Clerk.step w.clerk w.count (ClerkInput.Ask names q)).outcome.refusal ≡ None →
+    (names.identifier ≡ None → ⊥) × ((o : ℕ) → Noted (taken_up (from o names.identifier)) w.history → ⊥)
 
 -- types 1 and 2, whose numbers are below 3
 abbrev pub is_request : Body → Bool

@@ -1,4 +1,6 @@
 -- A run from a list of events, by tests that compute: each ask is one that the entry makes; and whether no identifier is taken up twice.
+use Rattle.lists.specs.declared.words.Words.{Words}
+use Rattle.std.specs.Prelude.{Option, Some, None, Ok, is_none}
 use Prim.Native.Nat.{ℕ, zero, suc, ◌+◌, ◌/◌}
 use mathlib.Core.Path.{◌≡◌, refl, sym, ◌∙◌, ap, subst}
 use mathlib.Core.Bool.{Bool, true, false, not, false≢true}
@@ -13,9 +15,7 @@ use Rattle.lists.proofs.Lists.{both_true, both_parts}
 use Rattle.lists.proofs.WordsLaws.{same-words-true, length-bytes_of, bytes-bytes_of}
 use Rattle.message.specs.Format.{in_range}
 use Rattle.message.specs.declared.Message.{Message}
-use Rattle.message.specs.declared.Service.{Service}
 use Rattle.desk.specs.Letter.{is_identified, identifier_words}
-use Rattle.desk.specs.declared.letter.Identifier.{Identifier}
 use Rattle.terms.specs.Request.{can_keep_sent}
 use Rattle.terms.specs.declared.means.Means.{Means}
 use Rattle.terms.specs.declared.means.Means.TheVariants.{Nothing, NotNow, At}
@@ -26,7 +26,6 @@ use Rattle.clerk_table.specs.declared.inputs.Input.TheVariants as AtClerk
 use Rattle.clerk.specs.Entry.{ask_message, ask_names, ask_entry}
 use Rattle.clerk.specs.Steps as Clerk
 use Rattle.clerk.specs.declared.entry.Asking.{Asking}
-use Rattle.clerk.specs.declared.entry.Entry.TheVariants.{Given}
 use Rattle.clerk_records.specs.Records.{records as clerk_records}
 use Rattle.clerk_sound.specs.Sound as ClerkSound
 use Rattle.clerk_sound.specs.Sound.{clerk_view}
@@ -77,18 +76,18 @@ asking-typed names q =
     }
 
 -- it names what is asked for; an ask has its service beside what it names
-abbrev is_absent : Service → Bool
-is_absent Service.Absent = true
-is_absent (Service.Is service) = false
+abbrev is_absent : Option ℕ → Bool
+is_absent None = true
+is_absent (Some service) = false
 
 abbrev same_names : Names → Names → Bool
 same_names a b =
     both (alike a.identifier b.identifier)
     (both (same_words a.numberA b.numberA) (both (same_words a.numberB b.numberB) (both (is_absent a.service) (is_absent b.service))))
 
-absent-told : (s : Service) → is_absent s ≡ true → s ≡ Service.Absent
-absent-told Service.Absent e = refl
-absent-told (Service.Is service) e = absurd (false≢true e)
+absent-told : (s : Option ℕ) → is_absent s ≡ true → s ≡ None
+absent-told None e = refl
+absent-told (Some service) e = absurd (false≢true e)
 
 same-names-told : (a b : Names) → same_names a b ≡ true → a ≡ b
 same-names-told a b e =
@@ -113,7 +112,7 @@ fair-told names q e =
     let a = asking names q in
     let p = both_parts (ltb (q.flags / 2) 3) (both (in_range (ask_message a)) (same_names (ask_names a) names)) e in
     let r = both_parts (in_range (ask_message a)) (same_names (ask_names a) names) p.1 in
-    let entry : ask_entry a ≡ Given (AtClerk.Ask names q) = rw (p.0, r.0, same-names-told (ask_names a) names r.1, flags-sent q.flags) in
+    let entry : ask_entry a ≡ Ok (AtClerk.Ask names q) = rw (p.0, r.0, same-names-told (ask_names a) names r.1, flags-sent q.flags) in
     ClerkSound.asks a (asking-typed names q) entry
 
 -- a note that a history does not have is not in it
@@ -129,17 +128,17 @@ has-noted n (x ∷ xs) (Noted.tail m) = later (both (alike (whose x) (whose n)) 
 
 -- of an identifier
 pub has-not :
-    (note : Of Identifier → Note) (kind : ℕ) → ((l : Of Identifier) → (kind_of (note l) ≡ kind) × (whose (note l) ≡ l.it)) → (identifier : Identifier) (h : List Note) → has kind identifier h ≡ false →
-    (l : Of Identifier) → l.it ≡ identifier → Noted (note l) h → ⊥
+    (note : Of (Option Words) → Note) (kind : ℕ) → ((l : Of (Option Words)) → (kind_of (note l) ≡ kind) × (whose (note l) ≡ l.it)) → (identifier : Option Words) (h : List Note) → has kind identifier h ≡ false →
+    (l : Of (Option Words)) → l.it ≡ identifier → Noted (note l) h → ⊥
 has-not note kind same identifier h e l its m =
-    false≢true (sym e ∙ ap (λ (j : Identifier). has kind j h) (sym its) ∙ ap (λ (j : Identifier). has kind j h) (sym (same l).1) ∙ ap (λ (i : ℕ). has i (whose (note l)) h) (sym (same l).0) ∙ has-noted (note l) h m)
+    false≢true (sym e ∙ ap (λ (j : Option Words). has kind j h) (sym its) ∙ ap (λ (j : Option Words). has kind j h) (sym (same l).1) ∙ ap (λ (i : ℕ). has i (whose (note l)) h) (sym (same l).0) ∙ has-noted (note l) h m)
 
-pub undropped : (w : World) (identifier : Identifier) → has 1 identifier w.history ≡ false → Told identifiers Note.dropped identifier w → ⊥
+pub undropped : (w : World) (identifier : Option Words) → has 1 identifier w.history ≡ false → Told identifiers Note.dropped identifier w → ⊥
 undropped w identifier e told = has-not Note.dropped 1 (λ l. (refl, refl)) identifier w.history e told.0 told.1.0 told.1.1
 
 -- an ask that is not refused takes up an identifier that was not taken up before
 abbrev once : World → Names → Request → Bool
-once w names q = pick (eqb (Clerk.step w.clerk w.count (AtClerk.Ask names q)).outcome.refusal 0) (both (is_identified names.identifier) (not (has 0 names.identifier w.history))) true
+once w names q = pick (is_none (Clerk.step w.clerk w.count (AtClerk.Ask names q)).outcome.refusal) (both (is_identified names.identifier) (not (has 0 names.identifier w.history))) true
 
 once-so : (take given had : Bool) → pick take (both given (not had)) true ≡ true → take ≡ true → (given ≡ true) × (had ≡ false)
 once-so true given had e t = ((both_parts given (not had) e).0, by had (both_parts given (not had) e).1)
@@ -191,7 +190,7 @@ new w (counts count) = true
 pub new_told : (w : World) (e : Event) → new w e ≡ true → Once w e
 new_told w e so names q is taken =
     let had =
-    once-so (eqb (Clerk.step w.clerk w.count (AtClerk.Ask names q)).outcome.refusal 0) (is_identified names.identifier) (has 0 names.identifier w.history) (subst (λ (x : Event). new w x ≡ true) is so) (eq-eqb _ 0 taken) in (
+    once-so (is_none (Clerk.step w.clerk w.count (AtClerk.Ask names q)).outcome.refusal) (is_identified names.identifier) (has 0 names.identifier w.history) (subst (λ (x : Event). new w x ≡ true) is so) (ap is_none taken) in (
       λ absent. false≢true (sym (ap is_identified absent) ∙ had.0),
       λ o noted. has-not Note.taken_up 0 (λ l. (refl, refl)) names.identifier w.history had.1 (from o names.identifier) refl noted,
     )

@@ -1,4 +1,6 @@
 -- Each wrong claim, held against a run that was computed.
+use Rattle.lists.specs.declared.words.Words.{Words}
+use Rattle.std.specs.Prelude.{Option, Some, None}
 use Prim.Native.Nat.{ℕ}
 use mathlib.Core.Path.{◌≡◌, refl, sym, ◌∙◌, ap, subst}
 use mathlib.Core.Bool.{Bool, true, false, not, true≢false, false≢true}
@@ -7,12 +9,10 @@ use mathlib.Core.List.Memᴰ
 use mathlib.Core.List.{List, [], ◌∷◌, Memᴰ as Noted}
 use lib.ListN.{take}
 use native.Mathlib.Omega.{arith}
-use Rattle.desk.specs.declared.letter.Identifier.{Identifier}
 use Rattle.message.specs.declared.Kind.{Kind}
 use Rattle.message.specs.declared.Kind.TheVariants.{Ccbs, Ccnr}
 use Rattle.message.specs.declared.Message.{Message}
 use Rattle.desk.specs.Letter.{is_identified, number_words}
-use Rattle.desk.specs.declared.letter.Identifier.TheVariants.{Absent, Is}
 use Rattle.terms.specs.declared.means.Means.{Means}
 use Rattle.desk.specs.declared.Connection.{Connection}
 use Rattle.desk.specs.declared.Keep.{Keep}
@@ -173,7 +173,7 @@ gone_though_under-way wrong =
 
 -- ---- 5. a Look that offers; a busy report; a drop
 -- who is in no list
-nobody : {B : Type 0} {k : Identifier} → Noted k [] → B
+nobody : {B : Type 0} {k : Option Words} → Noted k [] → B
 nobody m = elim m [ ]
 
 abbrev waiting : State → Bool
@@ -278,9 +278,9 @@ unnamed w (counts count) = true
 unnamed_told : (w : World) (e : Event) → unnamed w e ≡ true → Wrong.OnceIfGiven w e
 unnamed_told w e so names q is given o noted = given (by names.identifier (subst (λ (x : Event). unnamed w x ≡ true) is so))
   where
-    by : (j : Identifier) → not (is_identified j) ≡ true → j ≡ Absent
-    by Absent t = refl
-    by (Is words) t = absurd (false≢true t)
+    by : (j : Option Words) → not (is_identified j) ≡ true → j ≡ None
+    by None t = refl
+    by (Some words) t = absurd (false≢true t)
 
 pub altered_though_nameless_lem : Wrong.AlteredThoughNameless → ⊥
 unfolding play passes all
@@ -336,7 +336,7 @@ listed-answered (wait_answer a b) = ap waits_ack a
 listed-answered (suspended a b m) = ap waits_ack a
 listed-answered (ringout a b) = ap waits_ack a
 
-not-dropped : (l x : Of Identifier) → Noted (Note.dropped l) (Note.taken_up x ∷ []) → ⊥
+not-dropped : (l x : Of (Option Words)) → Noted (Note.dropped l) (Note.taken_up x ∷ []) → ⊥
 not-dropped l x m = by (Memᴰ.cases_cons m)
   where
     by : (Note.dropped l ≡ Note.taken_up x) ⊎ Noted (Note.dropped l) [] → ⊥

@@ -1,4 +1,6 @@
 -- The table holds: each row computes to what it says, and ends in a world of a run.
+use Rattle.lists.specs.declared.words.Words.{Words}
+use Rattle.std.specs.Prelude.{Option}
 use Prim.Native.Nat.{ℕ}
 use mathlib.Core.Path.{◌≡◌, refl, sym, ◌∙◌, ap}
 use mathlib.Core.Bool.{Bool, true, false, true≢false, false≢true}
@@ -10,7 +12,6 @@ use Rattle.message.specs.Number.{number_at, field_at, scan_at, digits_at, digits
 use Rattle.message.specs.Format.{in_range}
 use Rattle.store.specs.Rows.{rows, put_row, turn_row, drop_row, rows_fit, removed_row}
 use Rattle.desk.specs.Letter.{identifier_of, number_words, letter_of, message_of}
-use Rattle.desk.specs.declared.letter.Identifier.{Identifier}
 use Rattle.terms.specs.Means.{fits, oldest}
 use Rattle.desk.specs.Carriers.{carrier_fits}
 use Rattle.terms.specs.Codes.{kind_of, keep_of, connection_of}
@@ -204,7 +205,7 @@ pub not_listed : (c : Held ClerkRecord.Record) (l : Held LineRecord.Record) → 
 not_listed c l apart so = true≢false (sym (listed-together c l so) ∙ apart)
 
 pub unlisted-told :
-    (w : World) (identifier : Identifier) → has 1 identifier w.history ≡ false → messages_of identifiers identifier w.up ≡ [] → messages_of identifiers identifier w.down ≡ [] →
+    (w : World) (identifier : Option Words) → has 1 identifier w.history ≡ false → messages_of identifiers identifier w.up ≡ [] → messages_of identifiers identifier w.down ≡ [] →
     together (clerk_holds identifiers w identifier) (line_holds identifiers w identifier) ≡ false → Unlisted w identifier
 unlisted-told w identifier dropped up down apart =
     record { dropped = undropped w identifier dropped; up = up; down = down; unlisted = not_listed (clerk_holds identifiers w identifier) (line_holds identifiers w identifier) apart }

@@ -1,12 +1,10 @@
 -- Wrong claims: demand 3's with a premise left out or a word altered. A run of Runs.antt refutes each, so what was left out is needed.
-use Rattle.std.specs.Prelude.{ℕ, ◌≡◌, Bool, false, get_or}
+use Rattle.std.specs.Prelude.{ℕ, ◌≡◌, Bool, false, get_or, Option, None}
 use mathlib.Core.List.{List, [], ◌∷◌, Memᴰ as Noted}
 use Rattle.clerk.specs.declared.start.Lengths.{Lengths}
 use Rattle.message.specs.declared.Message.{Message}
 use Rattle.lists.specs.Words.{Bytes}
 use Rattle.lists.specs.declared.words.Words.{Words}
-use Rattle.desk.specs.declared.letter.Identifier.{Identifier}
-use Rattle.desk.specs.declared.letter.Identifier.TheVariants.{Absent}
 use Rattle.terms.specs.declared.{request.Name.Name, request.Names.Names, request.Request.Request, means.Means.TheVariants.At}
 use Rattle.places.specs.Places.{none, one}
 use Rattle.clerk_table.specs.declared.inputs.Input.TheVariants as AtClerk
@@ -22,29 +20,29 @@ use Rattle.pair.specs.Demand3.{Told, Accepted, Listed, Quiet, NoRequest, About, 
 abbrev pub AcceptedThoughWaiting : Type 0
 AcceptedThoughWaiting =
     (lengths : Lengths) (given : List ℕ) (keep retain : Bool) → Bytes given → (w : World) (run : Run Once (start_world lengths given keep retain) w) →
-    (identifier : Identifier) (c : ClerkRecord.Record) → clerk_holds identifiers w identifier ≡ one c → Accepted identifiers identifier run
+    (identifier : Option Words) (c : ClerkRecord.Record) → clerk_holds identifiers w identifier ≡ one c → Accepted identifiers identifier run
 
 -- ---- 2. keep choice and connection choice without "once acknowledged"
 abbrev pub KeepBeforeAcknowledged : Type 0
 KeepBeforeAcknowledged =
-    (w : World) → Reached Once w → (identifier : Identifier) (c : ClerkRecord.Record) (l : LineRecord.Record) →
+    (w : World) → Reached Once w → (identifier : Option Words) (c : ClerkRecord.Record) (l : LineRecord.Record) →
     clerk_holds identifiers w identifier ≡ one c → line_holds identifiers w identifier ≡ one l → c.terms.keep ≡ l.terms.keep
 
 abbrev pub ConnectionBeforeAcknowledged : Type 0
 ConnectionBeforeAcknowledged =
-    (w : World) → Reached Once w → (identifier : Identifier) (c : ClerkRecord.Record) (l : LineRecord.Record) →
+    (w : World) → Reached Once w → (identifier : Option Words) (c : ClerkRecord.Record) (l : LineRecord.Record) →
     clerk_holds identifiers w identifier ≡ one c → line_holds identifiers w identifier ≡ one l → c.terms.connection ≡ l.terms.connection
 
 -- ---- 3. without "none of its messages was dropped"
 abbrev pub QuietThoughDropped : Type 0
 QuietThoughDropped =
-    (w : World) → Reached Once w → (identifier : Identifier) → messages_of identifiers identifier w.up ≡ [] → messages_of identifiers identifier w.down ≡ [] →
+    (w : World) → Reached Once w → (identifier : Option Words) → messages_of identifiers identifier w.up ≡ [] → messages_of identifiers identifier w.down ≡ [] →
     Listed (clerk_holds identifiers w identifier) (line_holds identifiers w identifier)
 
 -- Wait-Answer stands with Await, the suspended mark not set
 abbrev pub AnswerUnmarked : Type 0
 AnswerUnmarked =
-    (w : World) → Reached Once w → (identifier : Identifier) → (Told identifiers dropped identifier w → ⊥) →
+    (w : World) → Reached Once w → (identifier : Option Words) → (Told identifiers dropped identifier w → ⊥) →
     messages_of identifiers identifier w.up ≡ [] → messages_of identifiers identifier w.down ≡ [] →
     (c : ClerkRecord.Record) (l : LineRecord.Record) → clerk_holds identifiers w identifier ≡ one c → line_holds identifiers w identifier ≡ one l →
     c.state ≡ ClerkState.WaitAnswer → l.suspended ≡ false
@@ -52,24 +50,24 @@ AnswerUnmarked =
 -- the kinds agree while both hold it: without "under way", and without "dropped"
 abbrev pub KindThoughUnderWay : Type 0
 KindThoughUnderWay =
-    (w : World) → Reached Once w → (identifier : Identifier) → (Told identifiers dropped identifier w → ⊥) →
+    (w : World) → Reached Once w → (identifier : Option Words) → (Told identifiers dropped identifier w → ⊥) →
     (c : ClerkRecord.Record) (l : LineRecord.Record) → clerk_holds identifiers w identifier ≡ one c → line_holds identifiers w identifier ≡ one l → c.terms.kind ≡ l.terms.kind
 
 abbrev pub KindThoughDropped : Type 0
 KindThoughDropped =
-    (w : World) → Reached Once w → (identifier : Identifier) (c : ClerkRecord.Record) (l : LineRecord.Record) → clerk_holds identifiers w identifier ≡ one c → line_holds identifiers w identifier ≡ one l →
+    (w : World) → Reached Once w → (identifier : Option Words) (c : ClerkRecord.Record) (l : LineRecord.Record) → clerk_holds identifiers w identifier ≡ one c → line_holds identifiers w identifier ≡ one l →
     messages_of identifiers identifier w.up ≡ [] → messages_of identifiers identifier w.down ≡ [] → c.terms.kind ≡ l.terms.kind
 
 -- the marks "connection down" agree as the kinds do: each end sets its own
 abbrev pub MarksAgree : Type 0
 MarksAgree =
-    (w : World) → Reached Once w → (identifier : Identifier) → Quiet identifiers identifier w → (c : ClerkRecord.Record) (l : LineRecord.Record) →
+    (w : World) → Reached Once w → (identifier : Option Words) → Quiet identifiers identifier w → (c : ClerkRecord.Record) (l : LineRecord.Record) →
     clerk_holds identifiers w identifier ≡ one c → line_holds identifiers w identifier ≡ one l → c.down ≡ l.down
 
 -- ---- 4. without the guard's report
 abbrev pub OverUnguarded : Type 0
 OverUnguarded =
-    (w : World) → Reached Once w → (identifier : Identifier) → Told identifiers run_out identifier w → NoRequest (messages_of identifiers identifier w.up) →
+    (w : World) → Reached Once w → (identifier : Option Words) → Told identifiers run_out identifier w → NoRequest (messages_of identifiers identifier w.up) →
     (later : World) → Run Once w later → (clerk_holds identifiers later identifier ≡ none) × (line_holds identifiers later identifier ≡ none)
 
 -- with a T2 report that is taken or refused (mend M1)
@@ -83,32 +81,32 @@ OverByRefusedT2 =
 -- without "was taken up"; without "no request message under way"
 abbrev pub GoneBeforeTakenUp : Type 0
 GoneBeforeTakenUp =
-    (w : World) → Reached Once w → (identifier : Identifier) → clerk_holds identifiers w identifier ≡ none → line_holds identifiers w identifier ≡ none →
+    (w : World) → Reached Once w → (identifier : Option Words) → clerk_holds identifiers w identifier ≡ none → line_holds identifiers w identifier ≡ none →
     NoRequest (messages_of identifiers identifier w.up) →
     (later : World) → Run Once w later → (clerk_holds identifiers later identifier ≡ none) × (line_holds identifiers later identifier ≡ none)
 
 abbrev pub GoneThoughUnderWay : Type 0
 GoneThoughUnderWay =
-    (w : World) → Reached Once w → (identifier : Identifier) → Told identifiers taken_up identifier w → clerk_holds identifiers w identifier ≡ none → line_holds identifiers w identifier ≡ none →
+    (w : World) → Reached Once w → (identifier : Option Words) → Told identifiers taken_up identifier w → clerk_holds identifiers w identifier ≡ none → line_holds identifiers w identifier ≡ none →
     (later : World) → Run Once w later → (clerk_holds identifiers later identifier ≡ none) × (line_holds identifiers later identifier ≡ none)
 
 -- ---- 5. a Look is about no request
 abbrev pub LookAltersNothing : Type 0
 LookAltersNothing =
-    (w : World) → Reached Once w → (number : Words) (identifier : Identifier) →
+    (w : World) → Reached Once w → (number : Words) (identifier : Option Words) →
     let e = line_does (AtLine.Look number) in
     (clerk_holds identifiers (next w e) identifier ≡ clerk_holds identifiers w identifier) × Unaltered e (line_holds identifiers w identifier) (line_holds identifiers (next w e) identifier)
 
 -- without the exception of a busy report
 abbrev pub ReportMarksNothing : Type 0
 ReportMarksNothing =
-    (w : World) → Reached Once w → (e : Event) → Allowed w e → Once w e → (identifier : Identifier) → (About identifiers w e identifier → ⊥) →
+    (w : World) → Reached Once w → (e : Event) → Allowed w e → Once w e → (identifier : Option Words) → (About identifiers w e identifier → ⊥) →
     line_holds identifiers (next w e) identifier ≡ line_holds identifiers w identifier
 
 -- without "does not drop one of its messages"
 abbrev pub DropTakesNothing : Type 0
 DropTakesNothing =
-    (w : World) → Reached Once w → (e : Event) → Allowed w e → Once w e → (identifier : Identifier) → (About identifiers w e identifier → ⊥) →
+    (w : World) → Reached Once w → (e : Event) → Allowed w e → Once w e → (identifier : Option Words) → (About identifiers w e identifier → ⊥) →
     (messages_of identifiers identifier (next w e).up ≡ messages_of identifiers identifier w.up) × (messages_of identifiers identifier (next w e).down ≡ messages_of identifiers identifier w.down)
 
 -- ---- the premise: without it an identifier may be used again, and a message of the first request means the second's record
@@ -121,7 +119,7 @@ AlteredThoughMixed = NoOtherAltered origins (λ o. Any)
 -- requests without identifiers, where only those that have one must each have another: a message in Setup of the first fits the second's record too
 abbrev pub OnceIfGiven : World → Event → Type 0
 OnceIfGiven w e =
-    (names : Names) (q : Request) → e ≡ clerk_does (AtClerk.Ask names q) → (names.identifier ≡ Absent → ⊥) → (o : ℕ) → Noted (taken_up (from o names.identifier)) w.history → ⊥
+    (names : Names) (q : Request) → e ≡ clerk_does (AtClerk.Ask names q) → (names.identifier ≡ None → ⊥) → (o : ℕ) → Noted (taken_up (from o names.identifier)) w.history → ⊥
 
 abbrev pub AlteredThoughNameless : Type 0
 AlteredThoughNameless = NoOtherAltered origins (λ o. OnceIfGiven)

@@ -1,5 +1,6 @@
 -- What demand 3 speaks of does happen: runs of two desks and two wires, in tables under one claim. Each row is computed on the definitions that the contracts cite. Refuted.antt has what some of them refute.
-use Rattle.std.specs.Prelude.{ℕ, ◌≡◌, Bool, true, false, List, [], ◌∷◌, ◌++◌, map, eqb, length}
+use Rattle.lists.specs.declared.words.Words.{Words}
+use Rattle.std.specs.Prelude.{ℕ, ◌≡◌, Bool, true, false, List, [], ◌∷◌, ◌++◌, map, eqb, length, Option, Some, None}
 use Rattle.lists.specs.Choice.{pick}
 use Rattle.lists.specs.Lists.{both}
 use Rattle.lists.specs.Words.{words_of}
@@ -10,8 +11,6 @@ use Rattle.message.specs.declared.Body.TheVariants.{RingoutError, CallAlerts}
 use Rattle.terms.specs.Codes.{kind_code, keep_code, flag_code}
 use Rattle.desk.specs.Letter.{number_words}
 use Rattle.desk.specs.Sends.{plain_letter}
-use Rattle.desk.specs.declared.letter.Identifier.{Identifier}
-use Rattle.desk.specs.declared.letter.Identifier.TheVariants.{Absent, Is}
 use Rattle.desk.specs.declared.letter.Letter.{Letter}
 use Rattle.terms.specs.declared.request.Name.{Name}
 use Rattle.desk.specs.declared.Connection.TheVariants.{Empty}
@@ -49,13 +48,13 @@ kind_of (Note.dropped l) = 1
 kind_of (Note.run_out l) = 2
 kind_of (Note.guarded l) = 3
 
-abbrev pub whose : Note → Identifier
+abbrev pub whose : Note → Option Words
 whose (Note.taken_up l) = l.it
 whose (Note.dropped l) = l.it
 whose (Note.run_out l) = l.it
 whose (Note.guarded l) = l.it
 
-unfoldable pub has : ℕ → Identifier → List Note → Bool
+unfoldable pub has : ℕ → Option Words → List Note → Bool
 has kind identifier [] = false
 has kind identifier (x ∷ xs) = pick (both (alike (whose x) identifier) (eqb (kind_of x) kind)) true (has kind identifier xs)
 
@@ -100,7 +99,7 @@ abbrev told : {A : Type 0} → (A → ℕ) → Held A → ℕ
 told tells none = 0
 told tells (one r) = tells r
 
-unfoldable pub seen : World → Identifier → Seen
+unfoldable pub seen : World → Option Words → Seen
 seen w identifier =
     sees
     (told (λ (c : ClerkRecord.Record). ClerkCodes.state_code c.state) (clerk_holds identifiers w identifier))
@@ -131,8 +130,8 @@ abbrev pub numberB : List ℕ
 numberB = 4 ∷ 3 ∷ 0 ∷ 0 ∷ 5 ∷ 0 ∷ 0 ∷ 0 ∷ 0 ∷ 0 ∷ 0 ∷ 0 ∷ 0 ∷ 0 ∷ 0 ∷ 0 ∷ []
 
 -- as the desks compare them, and as a host names a request by one: then no place is looked at
-abbrev pub called : List ℕ → Identifier
-called identifier = Is (words_of identifier)
+abbrev pub called : List ℕ → Option Words
+called identifier = Some (words_of identifier)
 
 abbrev pub named : List ℕ → Name
 named identifier = record { identifier = called identifier; place = 0 }
@@ -194,7 +193,7 @@ line_gets = line_hears 0
 
 -- the same without an identifier: a request is named by the place of its record
 abbrev pub placed : ℕ → Name
-placed place = record { identifier = Absent; place = place }
+placed place = record { identifier = None; place = place }
 
 abbrev pub asks_nameless : Event
 asks_nameless = let a = asking false Ccbs true first in clerk_does (AtClerk.Ask (ask_names a) (ask_request a))
@@ -471,7 +470,7 @@ kinds =
     kind_row kept 1 1 ∷
     []
 
-unfoldable pub kinds_seen : World → Identifier → Kinds
+unfoldable pub kinds_seen : World → Option Words → Kinds
 kinds_seen w identifier =
     record {
       clerk = told (λ (c : ClerkRecord.Record). kind_code c.terms.kind) (clerk_holds identifiers w identifier);
@@ -508,7 +507,7 @@ falls retain =
     mark_row (both_fell ++ (meets_busy ++ (clerk_gets false ∷ []))) (flag_code retain) (flag_code retain) ∷
     []
 
-unfoldable pub marks_seen : World → Identifier → Marks
+unfoldable pub marks_seen : World → Option Words → Marks
 marks_seen w identifier =
     record {
       clerk = told (λ (c : ClerkRecord.Record). flag_code c.down) (clerk_holds identifiers w identifier);
@@ -548,7 +547,7 @@ TableReached = (retain : Bool) → EachReached retain table
 pub record BothHold (So : ClerkRecord.Record → Type 0) : Type 0 where
   pub world : World
   pub reached : Reached Once world
-  pub identifier : Identifier
+  pub identifier : Option Words
   pub c : ClerkRecord.Record
   pub l : LineRecord.Record
   pub clerk : clerk_holds identifiers world identifier ≡ one c
@@ -559,7 +558,7 @@ pub record BothHold (So : ClerkRecord.Record → Type 0) : Type 0 where
 pub record RunOut : Type 0 where
   pub world : World
   pub reached : Reached Once world
-  pub identifier : Identifier
+  pub identifier : Option Words
   pub dropped : Told identifiers Note.dropped identifier world
   pub run_out : Told identifiers Note.run_out identifier world
   pub guarded : Told identifiers Note.guarded identifier world
@@ -591,7 +590,7 @@ pub record Premises : Type 0 where
 
 -- ---- what is no event of a run
 -- nothing of a request was dropped or is under way, and yet its pair is not listed
-pub record Unlisted (w : World) (identifier : Identifier) : Type 0 where
+pub record Unlisted (w : World) (identifier : Option Words) : Type 0 where
   pub dropped : Told identifiers Note.dropped identifier w → ⊥
   pub up : messages_of identifiers identifier w.up ≡ []
   pub down : messages_of identifiers identifier w.down ≡ []

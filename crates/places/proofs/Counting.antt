@@ -1,4 +1,5 @@
 -- The first free place of a placed list is behind all used ones: so many are used as stand before it. Each change moves the count by one or not at all.
+use Rattle.std.specs.Prelude.{Some, None}
 use Prim.Native.Nat.{ℕ, zero, suc, ◌+◌, ◌≤◌, ◌<◌}
 use mathlib.Core.Path.{◌≡◌, refl, sym, ap, ◌∙◌}
 use mathlib.Core.Bool.{Bool, true, false}
@@ -7,7 +8,6 @@ use lib.ListN.{length, set}
 use native.Mathlib.Omega.{arith}
 use Rattle.lists.specs.Choice.{pick}
 use Rattle.lists.specs.Lists.{first_from, count, without}
-use Rattle.lists.specs.declared.Found.TheVariants.{At, Nothing}
 use Rattle.lists.proofs.Choice.{no_true}
 use Rattle.places.specs.Places.{View, at, Placed, stored, unused, place_in}
 use Rattle.places.specs.Claims.{Counting}
@@ -45,7 +45,7 @@ module _ {A : Type 0} (v : View A) where
       by true e = ap suc e
       by false e = e
 
-  pub stored_more : (rs : List A) (i : ℕ) (r : A) → place_in v rs ≡ At i → v.used r ≡ true → stored v (set rs i r) ≡ suc (stored v rs)
+  pub stored_more : (rs : List A) (i : ℕ) (r : A) → place_in v rs ≡ Some i → v.used r ≡ true → stored v (set rs i r) ≡ suc (stored v rs)
   stored_more rs i r free w = stored-filled rs i r (place_inside v rs i free) (place-unused v rs i free) w
 
   -- a record put over one, where both are used or none is
@@ -94,7 +94,7 @@ module _ {A : Type 0} (v : View A) where
   -- ---- the first free place
   room-from :
       (rs : List A) (k : ℕ) → ((i j : ℕ) → i < j → v.used (at v rs j) ≡ true → v.used (at v rs i) ≡ true) → stored v rs < length rs →
-      first_from (unused v) k rs ≡ At (k + stored v rs)
+      first_from (unused v) k rs ≡ Some (k + stored v rs)
   unfolding first_from count
   room-from [] k c h = absurd (omega (arith, h))
   room-from (x ∷ xs) k c h = head (v.used x) refl (room-from xs (suc k) (λ i j g u. c (suc i) (suc j) (omega (arith, g)) u))
@@ -104,28 +104,28 @@ module _ {A : Type 0} (v : View A) where
       later f j false e = e
 
       head :
-          (b : Bool) → v.used x ≡ b → (stored v xs < length xs → first_from (unused v) (suc k) xs ≡ At (suc k + stored v xs)) →
-          first_from (unused v) k (x ∷ xs) ≡ At (k + stored v (x ∷ xs))
+          (b : Bool) → v.used x ≡ b → (stored v xs < length xs → first_from (unused v) (suc k) xs ≡ Some (suc k + stored v xs)) →
+          first_from (unused v) k (x ∷ xs) ≡ Some (k + stored v (x ∷ xs))
       head true t next =
           let a : stored v (x ∷ xs) ≡ suc (stored v xs) = rw t in
           let b : first_from (unused v) k (x ∷ xs) ≡ first_from (unused v) (suc k) xs = rw t in
           let e : suc k + stored v xs ≡ k + stored v (x ∷ xs) = omega arith in
-          b ∙ next (omega (arith, h)) ∙ ap At e
+          b ∙ next (omega (arith, h)) ∙ ap Some e
       head false f next =
           let z : stored v xs ≡ 0 = stored-none xs (λ j. later f j (v.used (at v xs j)) refl) in
           let a : stored v (x ∷ xs) ≡ stored v xs = rw f in
-          let b : first_from (unused v) k (x ∷ xs) ≡ At k = rw f in
+          let b : first_from (unused v) k (x ∷ xs) ≡ Some k = rw f in
           let e : k ≡ k + stored v (x ∷ xs) = omega arith in
-          b ∙ ap At e
+          b ∙ ap Some e
 
-  full_from : (rs : List A) (k : ℕ) → stored v rs ≡ length rs → first_from (unused v) k rs ≡ Nothing
+  full_from : (rs : List A) (k : ℕ) → stored v rs ≡ length rs → first_from (unused v) k rs ≡ None
   unfolding first_from count
   full_from [] k h = refl
   full_from (x ∷ xs) k h = head (v.used x) refl (full_from xs (suc k))
     where
       head :
-          (b : Bool) → v.used x ≡ b → (stored v xs ≡ length xs → first_from (unused v) (suc k) xs ≡ Nothing) →
-          first_from (unused v) k (x ∷ xs) ≡ Nothing
+          (b : Bool) → v.used x ≡ b → (stored v xs ≡ length xs → first_from (unused v) (suc k) xs ≡ None) →
+          first_from (unused v) k (x ∷ xs) ≡ None
       head true t next =
           let a : stored v (x ∷ xs) ≡ suc (stored v xs) = rw t in
           let b : first_from (unused v) k (x ∷ xs) ≡ first_from (unused v) (suc k) xs = rw t in
@@ -134,10 +134,10 @@ module _ {A : Type 0} (v : View A) where
           let a : stored v (x ∷ xs) ≡ stored v xs = rw f in
           absurd (omega (arith, h, stored-below xs))
 
-  pub place-room : (rs : List A) (n : ℕ) → Placed v rs → length rs ≡ n → stored v rs < n → place_in v rs ≡ At (stored v rs)
-  place-room rs n placed l h = room-from rs 0 placed.compact (omega arith) ∙ ap At (omega arith)
+  pub place-room : (rs : List A) (n : ℕ) → Placed v rs → length rs ≡ n → stored v rs < n → place_in v rs ≡ Some (stored v rs)
+  place-room rs n placed l h = room-from rs 0 placed.compact (omega arith) ∙ ap Some (omega arith)
 
-  pub place-full : (rs : List A) (n : ℕ) → length rs ≡ n → stored v rs ≡ n → place_in v rs ≡ Nothing
+  pub place-full : (rs : List A) (n : ℕ) → length rs ≡ n → stored v rs ≡ n → place_in v rs ≡ None
   place-full rs n l h = full_from rs 0 (omega arith)
 
 pub counting : {A : Type 0} (v : View A) → Counting v

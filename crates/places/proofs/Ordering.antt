@@ -1,4 +1,6 @@
 -- Used records stand in the order of storing: a put keeps the identifiers, an add puts one behind all others, a removal takes one out.
+use Rattle.lists.specs.declared.words.Words.{Words}
+use Rattle.std.specs.Prelude.{Option, Some}
 use Prim.Native.Nat.{ℕ, zero, suc, ◌≤◌, ◌<◌}
 use mathlib.Core.Path.{◌≡◌, refl}
 use mathlib.Core.Bool.{Bool, true, false}
@@ -7,8 +9,6 @@ use lib.ListN.{length, set}
 use native.Mathlib.Omega.{arith}
 use Rattle.lists.specs.Choice.{pick}
 use Rattle.lists.specs.Lists.{without}
-use Rattle.lists.specs.declared.Found.TheVariants.{At}
-use Rattle.desk.specs.declared.letter.Identifier.{Identifier}
 use Rattle.places.specs.Places.{View, at, Placed, place_in, names, Queued, same, last, out}
 use Rattle.places.specs.Claims.{Ordering}
 use Rattle.places.proofs.Staying.{place_inside, place-unused, earlier-used, later-unused}
@@ -48,7 +48,7 @@ module _ {A : Type 0} (v : View A) where
       rw (before 0 (omega arith), n)
 
   pub names-add :
-      (rs : List A) (i : ℕ) (r : A) → Placed v rs → place_in v rs ≡ At i → v.used r ≡ true → names v (set rs i r) ≡ names v rs ++ (v.name r ∷ [])
+      (rs : List A) (i : ℕ) (r : A) → Placed v rs → place_in v rs ≡ Some i → v.used r ≡ true → names v (set rs i r) ≡ names v rs ++ (v.name r ∷ [])
   names-add rs i r placed free w =
       names-behind-all rs i r (place_inside v rs i free) (earlier-used v rs i free) (later-unused v rs i placed (place-unused v rs i free)) w
 
@@ -69,7 +69,7 @@ module _ {A : Type 0} (v : View A) where
       head false = same
   names-remove (x ∷ xs) (suc i) free = head (v.used x) (names-remove xs i free)
     where
-      head : (b : Bool) {xs ys : List Identifier} → Queued xs ys → Queued (pick b (v.name x ∷ xs) xs) (pick b (v.name x ∷ ys) ys)
+      head : (b : Bool) {xs ys : List (Option Words)} → Queued xs ys → Queued (pick b (v.name x ∷ xs) xs) (pick b (v.name x ∷ ys) ys)
       head true q = queued_cons (v.name x) q
       head false q = q
 

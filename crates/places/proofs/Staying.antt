@@ -1,4 +1,5 @@
 -- Each kind of change keeps a list of records placed: a put keeps use and identifier of every place, an add fills the first free place with a new identifier or none, a removal keeps the order.
+use Rattle.std.specs.Prelude.{Option, Some, None}
 use Prim.Native.Nat.{ℕ, zero, suc, ◌+◌, ◌≤◌, ◌<◌}
 use mathlib.Core.Path.{◌≡◌, refl, sym, ap, ap₂, ◌∙◌, subst}
 use mathlib.Core.Bool.{Bool, true, false}
@@ -10,13 +11,10 @@ use native.Mathlib.Omega.{arith}
 use borrow.Author.Tests.{ltb-true, ltb-false, eqb-true, eqb-false}
 use Rattle.lists.specs.Choice.{pick}
 use Rattle.lists.specs.Lists.{without}
-use Rattle.lists.specs.declared.Found.TheVariants.{At, Nothing}
 use Rattle.lists.specs.declared.words.Words.{Words}
 use Rattle.lists.proofs.Choice.{pick_elim, no_true}
 use Rattle.lists.proofs.Lists.{both_true, first_below, first_holds, first-earlier, first-none, get_or-without-before, get_or-without-behind, without-length}
 use Rattle.desk.specs.Letter.{same_identifier}
-use Rattle.desk.specs.declared.letter.Identifier.{Identifier}
-use Rattle.desk.specs.declared.letter.Identifier.TheVariants.{Is}
 use Rattle.places.specs.Places.{View, at, Placed, unused, place_in, identified, meant_in, known_in}
 use Rattle.places.specs.Claims.{StaysPlaced}
 use Rattle.places.proofs.Identifiers.{same_alike, is_same}
@@ -79,13 +77,13 @@ module _ {A : Type 0} (v : View A) where
       inside false f = absurd (no_true (sym (ap v.used (at-past rs i (ltb-false i (length rs) f)) ∙ free) ∙ u))
 
   -- the first place that is not used: in the list, not used, and all before it are
-  pub place_inside : (rs : List A) (i : ℕ) → place_in v rs ≡ At i → i < length rs
+  pub place_inside : (rs : List A) (i : ℕ) → place_in v rs ≡ Some i → i < length rs
   place_inside rs i free = omega (arith, first_below (unused v) 0 rs i free)
 
-  pub place-unused : (rs : List A) (i : ℕ) → place_in v rs ≡ At i → v.used (at v rs i) ≡ false
+  pub place-unused : (rs : List A) (i : ℕ) → place_in v rs ≡ Some i → v.used (at v rs i) ≡ false
   place-unused rs i free = not-used (v.used (at v rs i)) (first_holds (unused v) rs i v.blank free)
 
-  pub earlier-used : (rs : List A) (i : ℕ) → place_in v rs ≡ At i → (j : ℕ) → j < i → v.used (at v rs j) ≡ true
+  pub earlier-used : (rs : List A) (i : ℕ) → place_in v rs ≡ Some i → (j : ℕ) → j < i → v.used (at v rs j) ≡ true
   earlier-used rs i free j h = not-unused (v.used (at v rs j)) (first-earlier (unused v) rs i v.blank free j h)
 
   -- what a place holds after a store
@@ -134,8 +132,8 @@ module _ {A : Type 0} (v : View A) where
 
   -- where no record with an identifier is found, no used one has it
   pub nobody :
-      (rs : List A) (identifier : Words) → v.used v.blank ≡ false → meant_in v identifier rs ≡ Nothing →
-      (j : ℕ) → v.used (at v rs j) ≡ true → v.name (at v rs j) ≡ Is identifier → ⊥
+      (rs : List A) (identifier : Words) → v.used v.blank ≡ false → meant_in v identifier rs ≡ None →
+      (j : ℕ) → v.used (at v rs j) ≡ true → v.name (at v rs j) ≡ Some identifier → ⊥
   nobody rs identifier free new j u e =
       let t : identified v identifier (at v rs j) ≡ true = both_true (is_same (v.name (at v rs j)) identifier e) ∙ u in
       no_true (sym (first-none (identified v identifier) rs v.blank new j (used-inside rs j free u)) ∙ t)
@@ -184,12 +182,12 @@ module _ {A : Type 0} (v : View A) where
         }
 
   -- ---- a record with a new identifier, or none, put at the first free place
-  module _ (rs : List A) (i : ℕ) (r : A) (placed : Placed v rs) (free : place_in v rs ≡ At i) (new : known_in v (v.name r) rs ≡ Nothing) (is : v.used r ≡ true) where
+  module _ (rs : List A) (i : ℕ) (r : A) (placed : Placed v rs) (free : place_in v rs ≡ Some i) (new : known_in v (v.name r) rs ≡ None) (is : v.used r ≡ true) where
     inside : i < length rs
     inside = place_inside rs i free
 
-    other : (j : ℕ) (words : Words) → v.used (at v rs j) ≡ true → v.name (at v rs j) ≡ Is words → v.name r ≡ Is words → ⊥
-    other j words u its own = nobody rs words placed.free (subst (λ (x : Identifier). known_in v x rs ≡ Nothing) own new) j u its
+    other : (j : ℕ) (words : Words) → v.used (at v rs j) ≡ true → v.name (at v rs j) ≡ Some words → v.name r ≡ Some words → ⊥
+    other j words u its own = nobody rs words placed.free (subst (λ (x : Option Words). known_in v x rs ≡ None) own new) j u its
 
     pub add-placed : Placed v (set rs i r)
     add-placed =

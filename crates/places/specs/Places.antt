@@ -1,18 +1,14 @@
 -- A desk's list of places, each with a record or free, over any type of record, and a step of it: what both desks have in common.
-use Rattle.std.specs.Prelude.{ℕ, suc, ◌≤◌, ◌<◌, ◌≡◌, Bool, true, false, List, [], ◌∷◌, ◌++◌, get_or, set}
+use Rattle.std.specs.Prelude.{ℕ, suc, ◌≤◌, ◌<◌, ◌≡◌, Bool, true, false, List, [], ◌∷◌, ◌++◌, get_or, set, Option, Some, None}
 use Rattle.lists.specs.Choice.{pick}
 use Rattle.lists.specs.Lists.{both, first, count, without}
-use Rattle.lists.specs.declared.Found.{Found}
-use Rattle.lists.specs.declared.Found.TheVariants.{At, Nothing}
 use Rattle.lists.specs.declared.words.Words.{Words}
 use Rattle.desk.specs.Letter.{same_identifier}
-use Rattle.desk.specs.declared.letter.Identifier.{Identifier}
-use Rattle.desk.specs.declared.letter.Identifier.TheVariants.{Absent, Is}
 
 -- how a type of record is looked at: whether it is one, its identifier or that it has none, and what a free place holds
 pub record View (A : Type 0) : Type 0 where
   pub used : A → Bool
-  pub name : A → Identifier
+  pub name : A → Option Words
   pub blank : A
 
 -- the record of a place
@@ -39,20 +35,20 @@ stored v rs = count v.used rs
 abbrev pub unused : {A : Type 0} → View A → A → Bool
 unused v r = pick (v.used r) false true
 
-abbrev pub place_in : {A : Type 0} → View A → List A → Found
+abbrev pub place_in : {A : Type 0} → View A → List A → Option ℕ
 place_in v rs = first (unused v) rs
 
 -- ---- the record with an identifier
 abbrev pub identified : {A : Type 0} → View A → Words → A → Bool
-identified v identifier r = both (same_identifier (v.name r) (Is identifier)) (v.used r)
+identified v identifier r = both (same_identifier (v.name r) (Some identifier)) (v.used r)
 
-abbrev pub meant_in : {A : Type 0} → View A → Words → List A → Found
+abbrev pub meant_in : {A : Type 0} → View A → Words → List A → Option ℕ
 meant_in v identifier rs = first (identified v identifier) rs
 
 -- where there is none, no record has it
-abbrev pub known_in : {A : Type 0} → View A → Identifier → List A → Found
-known_in v Absent rs = Nothing
-known_in v (Is identifier) rs = meant_in v identifier rs
+abbrev pub known_in : {A : Type 0} → View A → Option Words → List A → Option ℕ
+known_in v None rs = None
+known_in v (Some identifier) rs = meant_in v identifier rs
 
 -- what a desk holds of a request: its record, or none
 pub data Held (A : Type 0) : Type 0 where
@@ -61,7 +57,7 @@ pub data Held (A : Type 0) : Type 0 where
 
 -- ---- the order of storing
 -- the identifiers of the used records, in the order of their places
-unfoldable pub names : {A : Type 0} → View A → List A → List Identifier
+unfoldable pub names : {A : Type 0} → View A → List A → List (Option Words)
 names v [] = []
 names v (r ∷ rs) = pick (v.used r) (v.name r ∷ names v rs) (names v rs)
 
@@ -73,23 +69,23 @@ pub data Queued {B : Type 0} : List B → List B → Type 0 where
 
 -- ---- a step about the record of one place, or about none: what it makes of the list
 -- `Turn` is what holds of a used record and of the one put over it, `Store` of a new one
-pub data Moved {A : Type 0} (v : View A) (Turn : A → A → Type 0) (Store : A → Type 0) (about : Found) (rs after : List A) : Type 0 where
-  stays : about ≡ Nothing → after ≡ rs → Moved v Turn Store about rs after
+pub data Moved {A : Type 0} (v : View A) (Turn : A → A → Type 0) (Store : A → Type 0) (about : Option ℕ) (rs after : List A) : Type 0 where
+  stays : about ≡ None → after ≡ rs → Moved v Turn Store about rs after
   -- the record of the place gives way to another that has its identifier, or has none as it has none
   turns :
-      (i : ℕ) (r : A) → about ≡ At i → v.used (at v rs i) ≡ true → v.used r ≡ true → v.name r ≡ v.name (at v rs i) →
+      (i : ℕ) (r : A) → about ≡ Some i → v.used (at v rs i) ≡ true → v.used r ≡ true → v.name r ≡ v.name (at v rs i) →
       Turn (at v rs i) r → after ≡ set rs i r → Moved v Turn Store about rs after
   -- a new one, whose identifier no record has, is put at the first free place
   stores :
-      (i : ℕ) (r : A) → about ≡ At i → place_in v rs ≡ At i → known_in v (v.name r) rs ≡ Nothing → v.used r ≡ true →
+      (i : ℕ) (r : A) → about ≡ Some i → place_in v rs ≡ Some i → known_in v (v.name r) rs ≡ None → v.used r ≡ true →
       Store r → after ≡ set rs i r → Moved v Turn Store about rs after
   -- the record of the place is taken out
   removes :
-      (i : ℕ) → about ≡ At i → v.used (at v rs i) ≡ true → after ≡ without v.blank rs i → Moved v Turn Store about rs after
+      (i : ℕ) → about ≡ Some i → v.used (at v rs i) ≡ true → after ≡ without v.blank rs i → Moved v Turn Store about rs after
 
 -- every other record stays: at its place, or, behind one that was taken out, one place further to the front
-pub data OthersStay {A : Type 0} (v : View A) (about : Found) (rs after : List A) : Type 0 where
-  in_place : ((j : ℕ) → (about ≡ At j → ⊥) → at v after j ≡ at v rs j) → OthersStay v about rs after
+pub data OthersStay {A : Type 0} (v : View A) (about : Option ℕ) (rs after : List A) : Type 0 where
+  in_place : ((j : ℕ) → (about ≡ Some j → ⊥) → at v after j ≡ at v rs j) → OthersStay v about rs after
   forward :
-      (i : ℕ) → about ≡ At i → ((j : ℕ) → j < i → at v after j ≡ at v rs j) → ((j : ℕ) → i ≤ j → at v after j ≡ at v rs (suc j)) →
+      (i : ℕ) → about ≡ Some i → ((j : ℕ) → j < i → at v after j ≡ at v rs j) → ((j : ℕ) → i ≤ j → at v after j ≡ at v rs (suc j)) →
       OthersStay v about rs after

@@ -1,19 +1,14 @@
 // Tables of words: a table is a text, and its entries, from 0, each end with a newline. An inner room of the programs: its functions are no public operations.
 ghost use Rattle.std.specs.Prelude.{◌≡◌, ◌-◌, eqb};
 ghost use Rattle.lists.specs.Choice.{pick};
-ghost use Rattle.printing.specs.Page.{text_put};
 ghost use Rattle.printing.specs.Table.{entries_from, line_of, entry_of};
-
-use crate::{Page, put_text};
 
 // How many entries are still to be passed when a byte was passed.
 fn entries_left(left: usize, byte: u8) -> usize
     ensures { result ≡ pick (eqb byte 10) (left - 1) left }
 {
     if byte == b'\n' {
-        if 0 < left {
-            return left - 1;
-        }
+        return left.saturating_sub(1);
     }
     left
 }
@@ -24,15 +19,13 @@ fn entries_from(table: &[u8], entry: usize) -> &[u8]
     ensures { result.now ≡ entries_from table.now entry }
 {
     let mut left = entry;
-    let mut i = 0;
-    while i < table.len() {
+    for (i, byte) in table.iter().enumerate() {
         if left == 0 {
             return &table[i..];
         }
-        left = entries_left(left, table[i]);
-        i += 1;
+        left = entries_left(left, *byte);
     }
-    &table[i..]
+    &table[table.len()..]
 }
 
 // What stands in front of the first newline: all, where there is none.
@@ -40,19 +33,17 @@ fn entries_from(table: &[u8], entry: usize) -> &[u8]
 fn first_line(text: &[u8]) -> &[u8]
     ensures { result.now ≡ line_of text.now }
 {
-    let mut i = 0;
-    while i < text.len() {
-        if text[i] == b'\n' {
+    for (i, byte) in text.iter().enumerate() {
+        if *byte == b'\n' {
             return &text[..i];
         }
-        i += 1;
     }
     text
 }
 
-// An entry of a table, without its newline.
-pub fn put_entry(page: Page, table: &[u8], entry: usize) -> Page
-    ensures { result ≡ text_put page (entry_of table.now entry) }
+// An entry of a table, without its newline; behind the last entry nothing.
+pub fn entry_of(table: &[u8], entry: usize) -> &[u8]
+    ensures { result.now ≡ entry_of table.now entry }
 {
-    put_text(page, first_line(entries_from(table, entry)))
+    first_line(entries_from(table, entry))
 }

@@ -1,4 +1,5 @@
 -- A message is its head and then its fields: those that stand behind two numbers, or those without. And a number's range may be tested late, or twice.
+use Rattle.std.specs.Prelude.{None, Result, Ok, Err}
 use Prim.Native.Nat.{ℕ, ◌+◌, ◌-◌, ◌≤◌, ◌<◌}
 use mathlib.Core.Path.{◌≡◌, refl, sym, ◌∙◌, ap, subst}
 use mathlib.Core.Bool.{Bool, true, false}
@@ -14,8 +15,9 @@ use Rattle.message.specs.Wire.{carrier_of, identified_at, identifier_at, Fields,
 use Rattle.message.specs.declared.Carrier.{Carrier}
 use Rattle.message.specs.declared.Carrier.TheVariants.{Setup, Connect, Facility, ReleaseComplete, Alerting}
 use Rattle.message.specs.declared.Body.{Body}
-use Rattle.message.specs.declared.Service.TheVariants.{Absent}
+use Rattle.message.specs.declared.Fault.{Fault}
 use Rattle.message.specs.declared.Message.{Message}
+use Rattle.message.specs.declared.refusal.Refusal.TheVariants.{OutOfRange}
 use Rattle.message.proofs.CopiedLaws.{copied-whole}
 use Rattle.reader.specs.Parts.{carrier_at, head_behind, head_at, numbers_at, bare_body, has_numbers, tail_of, own_at}
 use Rattle.reader.specs.Answers.{fields_told, whole_read, identifier_copied}
@@ -57,10 +59,10 @@ pub fields-own : (type : ℕ) (carrier : Carrier) (s : List ℕ) (at : ℕ) → 
 fields-own type carrier s at has = rw has at (fields-by type carrier s at)
 
 pub whole-told : (at : ℕ) (r : Read Fields) → fields_told at (whole_read r) ≡ r
-whole-told at (took fields next) = refl
-whole-told at (refused fault) = refl
+whole-told at (Ok (fields, next)) = refl
+whole-told at (Err fault) = refl
 
-pub fields_told_lem : (at : ℕ) (r known : FieldsRead) (definition : Read Fields) → fields_told at r ≡ definition → r ≡ known → definition ≡ fields_told at known
+pub fields_told_lem : (at : ℕ) (r known : Result (FieldsRead × ℕ) Fault) (definition : Read Fields) → fields_told at r ≡ definition → r ≡ known → definition ≡ fields_told at known
 fields_told_lem at r known definition told is = sym told ∙ ap (fields_told at) is
 
 -- ---- the message behind its head
@@ -73,12 +75,12 @@ message-behind s h from = behind_fields h s from (fields_at h.typeNumber h.carri
 then-both :
     {A B C : Type 0} (r : Read A) (f : A → ℕ → Read C) (g : A → ℕ → Read B) (k : B → ℕ → Read C) → ((v : A) (n : ℕ) → f v n ≡ and_then (g v n) k) →
     and_then r f ≡ and_then (and_then r g) k
-then-both (took v n) f g k same = same v n
-then-both (refused x) f g k same = refl
+then-both (Ok (v, n)) f g k same = same v n
+then-both (Err x) f g k same = refl
 
 then-made : {A B C : Type 0} (r : Read A) (make : A → B) (f : B → ℕ → Read C) → and_then r (λ v n. f (make v) n) ≡ and_then (and_then r (λ v n. took (make v) n)) f
-then-made (took v n) make f = refl
-then-made (refused x) make f = refl
+then-made (Ok (v, n)) make f = refl
+then-made (Err x) make f = refl
 
 identifier-behind :
     (type : ℕ) (carrier : Carrier) (identified : Bool) (s : List ℕ) (at : ℕ) →
@@ -116,7 +118,7 @@ pub message-bare :
       identifier = identifier_copied h.identified s h.at;
       numberA = replicate 16 0;
       numberB = replicate 16 0;
-      service = Absent;
+      service = None;
       body = body;
     }) next
 message-bare s h from body next e f =
@@ -144,16 +146,16 @@ head-none type carrier s place identified at e given = rw (e, given)
 
 -- ---- a number that is looked at without its range, or within a wider one
 then-within :
-    {A : Type 0} (at high : ℕ) (k : ℕ → ℕ → Read A) → ((v n : ℕ) → high < v → k v n ≡ wrong_at 2 at) → (r : Read ℕ) → and_then r k ≡ and_then (and_then r (within at 0 high)) k
-then-within at high k over (refused x) = refl
-then-within at high k over (took v n) = go (ltb high v) refl
+    {A : Type 0} (at high : ℕ) (k : ℕ → ℕ → Read A) → ((v n : ℕ) → high < v → k v n ≡ wrong_at OutOfRange at) → (r : Read ℕ) → and_then r k ≡ and_then (and_then r (within at 0 high)) k
+then-within at high k over (Err x) = refl
+then-within at high k over (Ok (v, n)) = go (ltb high v) refl
   where
     go : (b : Bool) → ltb high v ≡ b → k v n ≡ and_then (within at 0 high v n) k
     go true t = rw (le-ltb v 0 (omega arith), t) (over v n (ltb-true high v t))
     go false t = rw (le-ltb v 0 (omega arith), t)
 
 abbrev length-known : ℕ → ℕ → ℕ → Read Bool
-length-known at length next = pick (eqb length 16) (took true next) (pick (eqb length 0) (took false next) (wrong_at 2 at))
+length-known at length next = pick (eqb length 16) (took true next) (pick (eqb length 0) (took false next) (wrong_at OutOfRange at))
 
 pub identified-field : (s : List ℕ) (at : ℕ) → identified_at s at ≡ and_then (field_at s at 0 127) (length-known at)
 unfolding identified_at field_at
@@ -166,7 +168,7 @@ carrier-known at n next =
     (pick (eqb n 3) (took Facility next)
     (pick (eqb n 4) (took ReleaseComplete next)
     (pick (eqb n 5) (took Alerting next)
-    (wrong_at 2 at)))))
+    (wrong_at OutOfRange at)))))
 
 carrier-by : (at v n : ℕ) → and_then (within at 1 5 v n) (λ m next. took (carrier_of m) next) ≡ carrier-known at v n
 unfolding carrier_of
@@ -188,8 +190,8 @@ carrier-by at v n =
     rw (le-ltb v 1 (omega arith), lt-ltb 5 v over, n1, n2, n3, n4, n5)))))))
 
 carrier-then : (at : ℕ) (r : Read ℕ) → and_then (and_then r (within at 1 5)) (λ m next. took (carrier_of m) next) ≡ and_then r (carrier-known at)
-carrier-then at (took v n) = carrier-by at v n
-carrier-then at (refused x) = refl
+carrier-then at (Ok (v, n)) = carrier-by at v n
+carrier-then at (Err x) = refl
 
 pub carrier-field : (s : List ℕ) (at : ℕ) → carrier_at s at ≡ and_then (field_at s at 0 127) (carrier-known at)
 unfolding carrier_at field_at

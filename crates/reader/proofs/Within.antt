@@ -19,7 +19,7 @@ use Rattle.message.specs.declared.Kind.{Kind}
 use Rattle.message.specs.declared.Kind.TheVariants.{Ccbs, Ccnr}
 use Rattle.message.specs.declared.Body.{Body}
 use Rattle.message.specs.declared.Body.TheVariants.{RequestResult, RequestError, CcExecPossible, CcRingout, RingoutError, CcSuspend, CcResume, CcCancel, CallAlerts, CallFailed}
-use Rattle.message.proofs.Reading.{never-took, then_elim}
+use Rattle.message.proofs.Reading.{never-took, took_same, then_elim}
 use Rattle.message.proofs.NumberLaws.{number-ends, field-read, digits-read}
 use Rattle.message.proofs.IdentifierLaws.{identified-read}
 use Rattle.reader.specs.Parts.{carrier_at, head_behind, head_at}
@@ -34,9 +34,8 @@ no-head s x h from e = absurd (never-took e)
 
 one-head : (s : List ℕ) (h : Head) (from : ℕ) → h.at + pick h.identified 16 0 ≤ length s → from ≤ length s → HeadPlaces s (took h from)
 one-head s h from room ends h' from' e =
-    let q : h ≡ h' = cc in
-    let f : from ≡ from' = cc in
-    (rw (← q) room, rw (← f) ends)
+    let q = took_same e in
+    (rw (← q.0) room, rw (← q.1) ends)
 
 identifier-places :
     (type : ℕ) (carrier : Carrier) (identified : Bool) (s : List ℕ) (at : ℕ) → at ≤ length s →
@@ -76,6 +75,7 @@ no-places s at x f n e = absurd (never-took e)
 
 plain-places : (s : List ℕ) (at : ℕ) (body : Body) (next : ℕ) → at ≤ next → next ≤ length s → Places s at (plain_at at body next)
 plain-places s at body next h k f n e =
+    let t = took_same e in
     let a : at ≡ f.behindA = cc in
     let b : at ≡ f.behindB = cc in
     let q : next ≡ n = cc in
@@ -96,6 +96,7 @@ request-places kind s at =
     then_elim (Places s at) (field_at s nb 0 16383) _ (no-places s at) (λ service ns es.
     then_elim (Places s at) (field_at s ns 0 5) _ (no-places s at) (λ flags nf ef.
     λ f n e.
+    let t = took_same e in
     let a : na ≡ f.behindA = cc in
     let b : nb ≡ f.behindB = cc in
     let q : nf ≡ n = cc in
@@ -119,6 +120,7 @@ elements-places body s at =
     then_elim (Places s at) (digits_at s na 1) _ (no-places s at) (λ w nb eb.
     then_elim (Places s at) (field_at s nb 0 16383) _ (no-places s at) (λ service ns es.
     λ f n e.
+    let t = took_same e in
     let a : na ≡ f.behindA = cc in
     let b : nb ≡ f.behindB = cc in
     let q : ns ≡ n = cc in

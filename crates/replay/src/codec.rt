@@ -1,48 +1,42 @@
 // Code 48: a run of bytes is read, and the message that it holds is written at a place of a buffer.
-use crate::fields::{behind, byte_in};
-use crate::outcome_line::place_field;
-use crate::output::{print_line, put_hex, put_numbers};
-use crate::script::{Next, RunRead, run_at};
-use lists::Found;
-use message::digits::PlaceRead;
-use printing::{blank_page, part};
+use crate::outcome_line::put_place;
+use crate::output::Fields;
+use crate::script::Script;
+use crate::stop::Stop;
+use message::refusal::Refusal;
 use std::io;
 use std::io::Write;
-use writer::Written;
+use told::refusal_told;
 
-// A refusal by its number in document 01, or 0; how many bytes were written, 0 on a refusal; and the place of a fault, where the bytes cannot be read.
+// A refusal, if there is one; how many bytes were written, 0 on a refusal; and the place of a fault, where the bytes cannot be read.
 #[derive(Clone, Copy)]
 struct Rewritten {
-    refusal: u8,
+    refusal: Option<Refusal>,
     length: usize,
-    fault: Found,
+    fault: Option<usize>,
 }
 
 // The reader's refusal comes first: a run that holds no message leaves nothing to write.
 fn rewrite(bytes: &[u8], buffer: &mut [u8], place: usize) -> Rewritten {
     let answer = reader::read(bytes);
-    let verdict = answer.verdict;
-    match verdict {
-        PlaceRead::Refused(fault) => Rewritten {
-            refusal: fault.number,
+    if let Err(fault) = answer.verdict {
+        return Rewritten {
+            refusal: Some(fault.refusal),
             length: 0,
-            fault: Found::At(fault.place),
+            fault: Some(fault.place),
+        };
+    }
+    match writer::write(buffer, place, answer.message) {
+        Err(refusal) => Rewritten {
+            refusal: Some(refusal),
+            length: 0,
+            fault: None,
         },
-        PlaceRead::Taken(_) => {
-            let message = answer.message;
-            match writer::write(buffer, place, message) {
-                Written::Refused(refusal) => Rewritten {
-                    refusal,
-                    length: 0,
-                    fault: Found::Nothing,
-                },
-                Written::Wrote(length) => Rewritten {
-                    refusal: 0,
-                    length,
-                    fault: Found::Nothing,
-                },
-            }
-        }
+        Ok(length) => Rewritten {
+            refusal: None,
+            length,
+            fault: None,
+        },
     }
 }
 
@@ -51,57 +45,26 @@ fn print_rewritten<W: Write>(
     out: &mut W,
     number: usize,
     rewritten: Rewritten,
-    buffer: &[u8; 255],
-    size: usize,
+    buffer: &[u8],
 ) -> io::Result<()> {
-    let numbers = [
+    let mut fields = Fields::new();
+    fields.put_numbers(&[
         number as u64,
-        rewritten.refusal as u64,
+        refusal_told(rewritten.refusal),
         rewritten.length as u64,
-    ];
-    let fault = rewritten.fault;
-    let page = put_hex(put_numbers(blank_page(), &numbers), part(buffer, 0, size));
-    print_line(out, put_numbers(page, &[place_field(fault)]))
+    ]);
+    fields.put_hex(buffer);
+    put_place(&mut fields, rewritten.fault);
+    fields.print_line(out)
 }
 
-// The size is one byte of the script, so that 255 bytes are enough for every buffer.
-fn write_run<W: Write>(
-    out: &mut W,
-    number: usize,
-    bytes: &[u8],
-    place: u8,
-    size: u8,
-) -> io::Result<()> {
-    let mut buffer = [0xEEu8; 255];
-    let count = size as usize;
-    let rewritten = rewrite(bytes, &mut buffer[0..count], place as usize);
-    print_rewritten(out, number, rewritten, &buffer, count)
-}
-
-// The entry behind its code: a run, a place and a size.
-pub fn play_write<W: Write>(
-    out: &mut W,
-    script: &[u8],
-    at: usize,
-    number: usize,
-) -> io::Result<Next> {
-    match run_at(script, at) {
-        RunRead::Ended => Ok(Next::Stop),
-        RunRead::Run(start, end) => {
-            let next = behind(script, end, 2);
-            match next {
-                Next::Stop => Ok(next),
-                Next::At(_) => {
-                    write_run(
-                        out,
-                        number,
-                        part(script, start, end),
-                        byte_in(script, end, 0),
-                        byte_in(script, end, 1),
-                    )?;
-                    Ok(next)
-                }
-            }
-        }
-    }
+// The entry behind its code: a run, a place and a size, which is one byte of the script, so that 255 bytes are enough for every buffer.
+pub fn play_write<W: Write>(out: &mut W, number: usize, script: &mut Script) -> Result<(), Stop> {
+    let bytes = script.run()?;
+    let place = script.place()?;
+    let size = script.byte()?;
+    let mut room = [0xEEu8; 255];
+    let buffer = &mut room[..usize::from(size)];
+    let rewritten = rewrite(bytes, buffer, place);
+    Ok(print_rewritten(out, number, rewritten, buffer)?)
 }

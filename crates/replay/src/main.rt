@@ -6,129 +6,92 @@ mod clerk_entries;
 mod clerk_lines;
 mod codec;
 mod defaults;
-mod fields;
+mod desk_entries;
 mod line_entries;
 mod line_lines;
-mod lines_given;
 mod outcome_line;
 mod output;
 mod record_lines;
 mod script;
+mod stop;
 mod tick_line;
 
 ghost use Rattle.std.specs.Prelude.{◌≤◌, IfOk, length};
 
 use crate::clerk_entries::play_clerk;
 use crate::codec::play_write;
-use crate::defaults::COUNT;
-use crate::fields::{behind, byte_in, four_at};
+use crate::defaults::{COUNT, default_lengths};
 use crate::line_entries::play_line;
 use crate::outcome_line::print_nothing;
-use crate::output::{print_line, put_numbers};
-use crate::script::Next;
-use printing::{blank_page, part, put_text};
+use crate::output::Fields;
+use crate::script::Script;
+use crate::stop::Stop;
+use printing::part;
 use std::io;
 use std::io::{Read, Write};
 
-// Code 3: the count of every step and tick from here on.
-fn play_count<W: Write>(
-    out: &mut W,
-    script: &[u8],
-    at: usize,
-    number: usize,
-    count: &mut u32,
-) -> io::Result<Next> {
-    match behind(script, at, 4) {
-        Next::Stop => Ok(Next::Stop),
-        Next::At(next) => {
-            *count = four_at(script, at);
-            print_nothing(out, number)?;
-            Ok(Next::At(next))
-        }
+// What goes on from entry to entry: both desks, and the count of every step and tick.
+#[derive(Drop)]
+struct Playing {
+    clerk: clerk::Desk,
+    line: line::Desk,
+    count: u32,
+}
+
+// The default lengths are in range, so that the clerk's desk is never refused. The line desk has no lines, does not keep and does not retain.
+fn start() -> Playing {
+    Playing {
+        clerk: clerk::start::start(default_lengths()).desk,
+        line: line::start::start(b"", false, false).desk,
+        count: COUNT,
     }
 }
 
-// The entry behind its code, on the desk that the code names.
+// An entry, on the desk that its code names.
 fn play_entry<W: Write>(
     out: &mut W,
-    code: u8,
-    script: &[u8],
-    at: usize,
     number: usize,
-    count: &mut u32,
-    clerk_words: &mut [u64; clerk_records::WORDS],
-    line_words: &mut [u64; line_records::WORDS],
-) -> io::Result<Next> {
+    script: &mut Script,
+    now: &mut Playing,
+) -> Result<(), Stop> {
+    let code = script.byte()?;
     match code {
-        1 | 32..=38 | 65 => play_line(out, code, script, at, number, *count, line_words),
-        3 => play_count(out, script, at, number, count),
-        48 => play_write(out, script, at, number),
-        _ => play_clerk(out, code, script, at, number, *count, clerk_words),
-    }
-}
-
-// After an entry that can't be played the script is at its end.
-fn place_after<W: Write>(out: &mut W, next: Next, number: usize, end: usize) -> io::Result<usize> {
-    match next {
-        Next::Stop => {
-            let numbers = [number as u64];
-            print_line(out, put_numbers(put_text(blank_page(), b" stop"), &numbers))?;
-            Ok(end)
+        1 | 32..=38 | 65 => play_line(out, number, code, script, now.count, &mut now.line),
+        3 => {
+            now.count = script.four()?;
+            Ok(print_nothing(out, number)?)
         }
-        Next::At(place) => Ok(place),
+        48 => play_write(out, number, script),
+        _ => play_clerk(out, number, code, script, now.count, &mut now.clerk),
     }
 }
 
-// The entry at a place, and the place of the next one. Behind the script's end nothing is played.
-fn play_at<W: Write>(
-    out: &mut W,
-    script: &[u8],
-    at: usize,
-    number: usize,
-    count: &mut u32,
-    clerk_words: &mut [u64; clerk_records::WORDS],
-    line_words: &mut [u64; line_records::WORDS],
-) -> io::Result<usize> {
-    if script.len() <= at {
-        return Ok(at);
-    }
-    let code = byte_in(script, at, 0);
-    let next = play_entry(
-        out,
-        code,
-        script,
-        at + 1,
-        number,
-        count,
-        clerk_words,
-        line_words,
-    )?;
-    place_after(out, next, number, script.len())
+fn print_stop<W: Write>(out: &mut W, number: usize) -> io::Result<()> {
+    let mut fields = Fields::new();
+    fields.put_text(b" stop");
+    fields.put_number(number as u64);
+    fields.print_line(out)
 }
 
 // Every entry from the script's first byte on. An entry takes a byte or more, so that a script never has more entries than bytes.
-fn play<W: Write>(out: &mut W, script: &[u8]) -> io::Result<()> {
-    let mut clerk_words = clerk_entries::first_words();
-    let mut line_words = line_entries::first_words();
-    let mut count = COUNT;
-    let mut at = 0;
-    let mut number = 0;
-    while number < script.len() {
-        at = play_at(
-            out,
-            script,
-            at,
-            number,
-            &mut count,
-            &mut clerk_words,
-            &mut line_words,
-        )?;
-        number += 1;
+fn play<W: Write>(out: &mut W, bytes: &[u8]) -> io::Result<()> {
+    let mut script = Script { rest: bytes };
+    let mut now = start();
+    for number in 0..bytes.len() {
+        if script.rest.is_empty() {
+            break;
+        }
+        match play_entry(out, number, &mut script, &mut now) {
+            Ok(()) => {}
+            Err(Stop::Unplayable) => return print_stop(out, number),
+            Err(Stop::Failed(error)) => return Err(error),
+        }
     }
     Ok(())
 }
 
-// Reads until the room is full or the input ends: how many bytes stand at its front.
+// Reads until the room is full or the input ends: how many bytes stand at its front. It counts by what each read brings: `read_exact` refuses an input that ends before, and
+// `read_to_end` needs a heap, which no program of ours does (docs/DECISIONS.md, "The ladder promises nothing").
 fn read_full<R: Read>(input: &mut R, room: &mut [u8]) -> io::Result<usize>
     ensures { IfOk result (λ n. n ≤ length room.new) }
 {

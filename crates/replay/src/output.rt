@@ -1,102 +1,93 @@
 // Lines: each field is put on a page behind a space, and the line goes out, without the first of these spaces, when it ends. No line but a tick's, which goes out in parts
 // (`tick_line`), is longer than 524 bytes, those of a write into 255, so that a page has room for all of it.
-ghost use Rattle.std.specs.Prelude.{◌≤◌};
-
 use itoa::Buffer;
-use lists::words::{Words, bytes_of};
-use printing::{Page, part, put_text};
+use lists::words::Words;
+use printing::{Page, blank_page, part};
 use std::io;
 use std::io::Write;
 
-// The number that stands for nothing: no field has one as large.
-pub const NOTHING: u64 = 18446744073709551615;
-
-pub fn put_number(page: Page, number: u64) -> Page {
-    let mut digits = Buffer::new();
-    put_text(page, digits.format(number).as_bytes())
-}
-
-// A number in decimal, `-` for nothing.
-fn put_field(page: Page, number: u64) -> Page {
-    if number == NOTHING {
-        return put_text(page, b" -");
-    }
-    put_number(put_text(page, b" "), number)
-}
-
-pub fn put_numbers(page: Page, numbers: &[u64]) -> Page {
-    let mut next = page;
-    let mut i = 0;
-    while i < numbers.len() {
-        next = put_field(next, numbers[i]);
-        i += 1;
-    }
-    next
-}
-
-// The digit of a number below 16; of a larger one the last digit.
+// The last digit of a number, in hexadecimal.
 fn hex_digit(number: u8) -> u8 {
-    let low = number % 16;
-    if low < 10 {
-        return b'0' + low;
+    match number % 16 {
+        low @ 0..=9 => b'0' + low,
+        low => b'a' - 10 + low,
     }
-    b'a' - 10 + low
 }
 
-pub fn least(a: usize, b: usize) -> usize
-    ensures { (result ≤ a) × (result ≤ b) }
-{
-    if a < b {
-        return a;
-    }
-    b
+// A line that is being made, or a part of it.
+#[derive(Drop)]
+pub struct Fields {
+    page: Page,
 }
 
-// Bytes in hexadecimal, `-` for none. A field has at most 255 bytes, those of a write's buffer.
-pub fn put_hex(page: Page, bytes: &[u8]) -> Page {
-    let count = least(bytes.len(), 255);
-    if count == 0 {
-        return put_text(page, b" -");
+impl Fields {
+    pub fn new() -> Fields {
+        Fields { page: blank_page() }
     }
-    let mut text = [b' '; 511];
-    let mut i = 0;
-    while i < count {
-        let byte = bytes[i];
-        text[2 * i + 1] = hex_digit(byte / 16);
-        text[2 * i + 2] = hex_digit(byte);
-        i += 1;
+
+    // Text as it is: its space is the first byte of it.
+    pub fn put_text(&mut self, text: &[u8]) {
+        self.page.put_text(text);
     }
-    put_text(page, part(&text, 0, 2 * count + 1))
-}
 
-// A byte as a count. A call of it asks for no proof that the byte fits.
-fn wide(byte: u8) -> usize {
-    byte as usize
-}
-
-// A number of digits, its length in front: the digits as themselves, `-` for none.
-pub fn put_digits(page: Page, number: Words) -> Page {
-    let bytes = bytes_of(number);
-    let count = least(wide(bytes[0]), 15);
-    if count == 0 {
-        return put_text(page, b" -");
+    // A number in decimal, without a space.
+    pub fn put_decimal(&mut self, number: u64) {
+        let mut digits = Buffer::new();
+        self.page.put_text(digits.format(number).as_bytes());
     }
-    let mut text = [b' '; 16];
-    let mut i = 0;
-    while i < count {
-        text[i + 1] = hex_digit(bytes[i + 1]);
-        i += 1;
+
+    pub fn put_number(&mut self, number: u64) {
+        self.put_text(b" ");
+        self.put_decimal(number);
     }
-    put_text(page, part(&text, 0, count + 1))
-}
 
-// What is on a page goes out, without its first space.
-pub fn print_part<W: Write>(out: &mut W, page: Page) -> io::Result<()> {
-    let bytes = page.bytes;
-    out.write_all(part(&bytes, 1, page.at))
-}
+    pub fn put_numbers(&mut self, numbers: &[u64]) {
+        for number in numbers {
+            self.put_number(*number);
+        }
+    }
 
-// The line's end, and the line goes out.
-pub fn print_line<W: Write>(out: &mut W, page: Page) -> io::Result<()> {
-    print_part(out, put_text(page, b"\n"))
+    // A number that may be absent: `-` for nothing.
+    pub fn put_option(&mut self, number: Option<u64>) {
+        match number {
+            None => self.put_text(b" -"),
+            Some(number) => self.put_number(number),
+        }
+    }
+
+    // Bytes in hexadecimal, `-` for none.
+    pub fn put_hex(&mut self, bytes: &[u8]) {
+        if bytes.is_empty() {
+            return self.put_text(b" -");
+        }
+        self.put_text(b" ");
+        for byte in bytes {
+            self.put_text(&[hex_digit(*byte / 16), hex_digit(*byte)]);
+        }
+    }
+
+    // A number of digits, its length in front: the digits as themselves, `-` for none.
+    pub fn put_digits(&mut self, number: Words) {
+        let bytes = <[u8; 16]>::from(number);
+        let digits = part(&bytes, 1, 1 + usize::from(bytes[0].min(15)));
+        if digits.is_empty() {
+            return self.put_text(b" -");
+        }
+        self.put_text(b" ");
+        for digit in digits {
+            self.put_text(&[hex_digit(*digit)]);
+        }
+    }
+
+    // What was put goes out, without its first space.
+    pub fn print<W: Write>(&self, out: &mut W) -> io::Result<()> {
+        let text = self.page.text();
+        out.write_all(part(text, 1, text.len()))
+    }
+
+    // The line's end, and the line goes out.
+    pub fn print_line<W: Write>(mut self, out: &mut W) -> io::Result<()> {
+        self.put_text(b"\n");
+        self.print(out)
+    }
 }

@@ -1,65 +1,38 @@
 // What the printed desks have in common: how many places are used, and the fields that a record of either desk begins with.
-use crate::output::{NOTHING, put_digits, put_hex, put_numbers};
-use desk::letter::Identifier;
+use crate::output::Fields;
 use desk::{Connection, Keep};
-use lists::Found;
-use lists::words::bytes_of;
-use printing::{Page, put_text};
 use terms::Terms;
 use terms::codes::kind_code;
 
-// How many places are used, by the first that is not: used places stand before the others.
-pub fn count_used(free: Found, most: usize) -> usize {
-    match free {
-        Found::At(i) => i,
-        Found::Nothing => most,
-    }
-}
-
-pub fn keep_number(keep: Keep) -> u64 {
+pub fn keep_number(keep: Keep) -> Option<u64> {
     match keep {
-        Keep::Empty => NOTHING,
-        Keep::Ends => 0,
-        Keep::Keeps => 1,
+        Keep::Empty => None,
+        Keep::Ends => Some(0),
+        Keep::Keeps => Some(1),
     }
 }
 
-pub fn connection_number(connection: Connection) -> u64 {
+pub fn connection_number(connection: Connection) -> Option<u64> {
     match connection {
-        Connection::Empty => NOTHING,
-        Connection::Ret => 1,
-        Connection::Rls => 2,
-    }
-}
-
-// The deadline of a timer that runs.
-pub fn deadline_number(runs: bool, deadline: u32) -> u64 {
-    if runs {
-        return deadline as u64;
-    }
-    NOTHING
-}
-
-// An identifier, or `-`.
-fn put_identifier(page: Page, identifier: Identifier) -> Page {
-    match identifier {
-        Identifier::Absent => put_text(page, b" -"),
-        Identifier::Is(words) => {
-            let bytes = bytes_of(words);
-            put_hex(page, &bytes)
-        }
+        Connection::Empty => None,
+        Connection::Ret => Some(1),
+        Connection::Rls => Some(2),
     }
 }
 
 // The request's terms, but for its two choices.
-pub fn put_terms(page: Page, terms: Terms) -> Page {
-    let identifier = terms.identifier;
-    let kind = terms.kind;
-    let numberA = terms.numberA;
-    let numberB = terms.numberB;
-    let mut next = put_identifier(page, identifier);
-    next = put_numbers(next, &[kind_code(kind)]);
-    next = put_digits(next, numberA);
-    next = put_digits(next, numberB);
-    put_numbers(next, &[terms.service])
+pub fn put_terms(fields: &mut Fields, terms: Terms) {
+    match terms.identifier {
+        None => fields.put_text(b" -"),
+        Some(words) => fields.put_hex(&<[u8; 16]>::from(words)),
+    }
+    fields.put_number(kind_code(terms.kind));
+    fields.put_digits(terms.numberA);
+    fields.put_digits(terms.numberB);
+    fields.put_number(terms.service);
+}
+
+// The deadline of a timer that runs.
+pub fn put_deadline(fields: &mut Fields, runs: bool, deadline: u32) {
+    fields.put_option(runs.then_some(u64::from(deadline)));
 }

@@ -1,65 +1,38 @@
 // The line of a tick: `N refusal expired places length buffer`. The buffer may be longer than a page, so it goes out in parts.
-use crate::output::{least, print_part, put_hex, put_number, put_numbers};
-use printing::{Page, blank_page, part, put_text};
+use crate::output::Fields;
 use std::io;
 use std::io::Write;
 use told::ticking::TOLD;
 
-// So many bytes of the buffer go out at once, and in so many parts the most that a script may lend.
+// So many bytes of the buffer go out at once, and the most that a script may lend.
 const PART: usize = 128;
 
-const PARTS: usize = 16;
-
-pub const MOST_ROOM: usize = PARTS * PART;
+pub const MOST_ROOM: usize = 16 * PART;
 
 // What the bytes are that it lends.
 pub const UNTOUCHED: u8 = 238;
 
-// The k-th record's place among the numbers that are told. No desk has more than 32.
-fn place_in(told: [u64; TOLD], k: usize) -> u64 {
-    if k < 32 {
-        return told[3 + 4 * k];
-    }
-    0
-}
-
-// The places with a comma between two, `-` for none.
-fn put_places(page: Page, told: [u64; TOLD]) -> Page {
-    let expired = told[2];
+// The places with a comma between two, `-` for none. No desk has more than 32 records.
+fn put_places(fields: &mut Fields, told: &[u64; TOLD]) {
+    let expired = told[2].min(32) as usize;
     if expired == 0 {
-        return put_text(page, b" -");
+        return fields.put_text(b" -");
     }
-    let mut next = put_number(put_text(page, b" "), place_in(told, 0));
-    let mut k = 1;
-    while k < 32 {
-        if (k as u64) < expired {
-            next = put_number(put_text(next, b","), place_in(told, k));
-        }
-        k += 1;
+    for k in 0..expired {
+        fields.put_text(if k == 0 { b" " } else { b"," });
+        fields.put_decimal(told[3 + 4 * k]);
     }
-    next
-}
-
-// The bytes from a place up to another, as far as there are any.
-fn print_bytes<W: Write>(out: &mut W, bytes: &[u8], from: usize, behind: usize) -> io::Result<()> {
-    if from < bytes.len() {
-        print_part(
-            out,
-            put_hex(blank_page(), part(bytes, from, least(behind, bytes.len()))),
-        )?;
-    }
-    Ok(())
 }
 
 // A buffer in hexadecimal, part by part; `-` for none.
 fn print_buffer<W: Write>(out: &mut W, bytes: &[u8]) -> io::Result<()> {
-    if bytes.len() == 0 {
-        print_part(out, put_text(blank_page(), b" -"))?;
+    if bytes.is_empty() {
+        return out.write_all(b"-");
     }
-    let mut i = 0;
-    while i < PARTS {
-        print_bytes(out, bytes, i * PART, i * PART + PART)?;
-        i += 1;
+    for part in bytes.chunks(PART) {
+        let mut fields = Fields::new();
+        fields.put_hex(part);
+        fields.print(out)?;
     }
     Ok(())
 }
@@ -67,12 +40,14 @@ fn print_buffer<W: Write>(out: &mut W, bytes: &[u8]) -> io::Result<()> {
 pub fn print_tick<W: Write>(
     out: &mut W,
     number: usize,
-    told: [u64; TOLD],
+    told: &[u64; TOLD],
     buffer: &[u8],
 ) -> io::Result<()> {
-    let page = put_numbers(blank_page(), &[number as u64, told[0], told[2]]);
-    let placed = put_places(page, told);
-    print_part(out, put_numbers(placed, &[told[1]]))?;
+    let mut fields = Fields::new();
+    fields.put_numbers(&[number as u64, told[0], told[2]]);
+    put_places(&mut fields, told);
+    fields.put_number(told[1]);
+    fields.print(out)?;
     out.write_all(b" ")?;
     print_buffer(out, buffer)?;
     out.write_all(b"\n")

@@ -1,4 +1,5 @@
 -- Rows of words read as records, over any width, count, type and decoder: each search, each store and each delete in words is the same in records. By the laws of rows, row by row.
+use Rattle.std.specs.Prelude.{Some, None}
 use Prim.Native.Nat.{ℕ, ◌+◌, ◌*◌, ◌≤◌, ◌<◌}
 use mathlib.Core.Path.{◌≡◌, refl, sym, ap, ◌∙◌}
 use mathlib.Core.Bool.{Bool, true, false, not}
@@ -14,7 +15,6 @@ use Rattle.lists.specs.Words.{same_words}
 use Rattle.lists.specs.declared.words.Words.{Words}
 use Rattle.lists.proofs.Lists.{first-map, first-same, map-set, map-without}
 use Rattle.desk.specs.Letter.{same_identifier}
-use Rattle.desk.specs.declared.letter.Identifier.TheVariants.{Absent, Is}
 use Rattle.terms.specs.Means.{fits, oldest}
 use Rattle.terms.specs.Terms.{identifier_in, terms_of}
 use Rattle.terms.specs.declared.request.Names.{Names}
@@ -36,7 +36,7 @@ removed-fit width count ws i fit h = rw (fit, lt-ltb i count h)
 -- low word, high word, flag and state, against the identifier that stands in the words
 identified-by :
     (low high flag used : Bool) (own other : Words) → same_words own other ≡ both low high →
-    both low (both high (both flag used)) ≡ both (same_identifier (pick flag (Is own) Absent) (Is other)) used
+    both low (both high (both flag used)) ≡ both (same_identifier (pick flag (Some own) None) (Some other)) used
 identified-by true true true used own other e = rw e
 identified-by true true false used own other e = refl
 identified-by true false true used own other e = rw e
@@ -46,7 +46,7 @@ identified-by false high false used own other e = refl
 
 pub identified-live :
     (top : ℕ) (identifier : Words) (row : List ℕ) (used : Bool) → live top row ≡ used →
-    has_identifier top identifier row ≡ both (same_identifier (identifier_in row) (Is identifier)) used
+    has_identifier top identifier row ≡ both (same_identifier (identifier_in row) (Some identifier)) used
 unfolding has_identifier same_words
 identified-live top identifier row used e =
     let low : Bool = eqb (get_or row 1 0) identifier.low in

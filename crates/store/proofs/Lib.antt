@@ -1,3 +1,4 @@
 pub mod RowsLaws
-pub mod Turns
+pub mod Searches
+pub mod Removal
 pub mod Decoded

@@ -1,4 +1,5 @@
 -- Laws of specs/Rows.antt, over any width and count: rows of joined words are joined rows, and the rest follows from that. Assumes nothing.
+use Rattle.std.specs.Prelude.{Some, None}
 use Prim.Native.Nat.{ℕ, zero, suc, ◌+◌, ◌-◌, ◌*◌, ◌≤◌, ◌<◌}
 use mathlib.Core.Bool.{Bool, true, false}
 use mathlib.Core.List.{List, [], ◌∷◌, ◌++◌, append_assoc}
@@ -12,15 +13,10 @@ use lib.ListN.{length, get_or, take, drop, set, replicate, length-append, length
 use lib.Seq.{length-take-le, take_all, drop-drop, take-add, take_at, drop_at, drop-append-add, set_at, set_split, get_or-take, get_or-drop, sets, sets-eq}
 use Rattle.lists.specs.Lists.{both, first, without}
 use Rattle.lists.specs.Parts.{over}
-use Rattle.lists.specs.declared.Found.TheVariants.{At, Nothing}
 use Rattle.lists.specs.declared.words.Words.{Words}
 use Rattle.lists.proofs.Lists.{both_parts, first_below, first_holds, first-earlier, first-none}
 use Rattle.terms.specs.Terms as Terms
-use Rattle.terms.specs.declared.request.Names.{Names}
-use Rattle.terms.proofs.TermsLaws.{terms-front}
-use Rattle.store.specs.declared.For.{For}
-use Rattle.store.specs.declared.For.TheVariants.{Every, State}
-use Rattle.store.specs.Rows.{state_word, live, free, has_identifier, fits_row, is_for, rows, row_at, put_row, turn_row, blank_row, drop_row, most, rows_fit}
+use Rattle.store.specs.Rows.{state_word, live, free, has_identifier, rows, row_at, put_row, turn_row, blank_row, drop_row, most, rows_fit}
 
 -- ---- places: row i ends within the rows, and the rows behind it are the rest
 pub place-within : (width count i n : ℕ) → i < count → count * width ≤ n → i * width + width ≤ n
@@ -33,16 +29,6 @@ place_rest width count i h =
     let e : i + 1 + (count - (i + 1)) ≡ count = omega arith in
     let p : (i + 1 + (count - (i + 1))) * width ≡ count * width = ap (λ (n : ℕ). n * width) e in
     omega arith
-
--- the rows between i and k, k one of the places: so many words, and the next row ends within the rows
-pub moved-rows :
-    (width count i k n : ℕ) → i + 1 ≤ k → k < count → count * width ≤ n →
-    (i * width + (k - (i + 1)) * width + width + width ≤ n) × ((k - (i + 1)) * width + width ≡ (k + 1 - (i + 1)) * width)
-moved-rows width count i k n low h fits =
-    let a : (i + (k - (i + 1)) + 2) * width ≤ count * width = mul-le-mul_right width (omega arith) in
-    let e : k - (i + 1) + 1 ≡ k + 1 - (i + 1) = omega arith in
-    let p : (k - (i + 1) + 1) * width ≡ (k + 1 - (i + 1)) * width = ap (λ (m : ℕ). m * width) e in
-    (omega arith, omega arith)
 
 -- ---- rows that fit
 pub fit_parts : (width count n : ℕ) → rows_fit width count n ≡ true → (Terms.width < width) × (count * width ≤ n)
@@ -174,9 +160,19 @@ module _ (width : ℕ) where
       (ap {B = List (List ℕ)} (λ r. front ∷ r) (rows_behind m n (drop width ws) rest (simp length-drop (omega arith))))
 
   -- one row and what stands behind it
-  rows_cons : (n : ℕ) (row rest : List ℕ) → length row ≡ width → rows width (suc n) (row ++ rest) ≡ row ∷ rows width n rest
+  pub rows_cons : (n : ℕ) (row rest : List ℕ) → length row ≡ width → rows width (suc n) (row ++ rest) ≡ row ∷ rows width n rest
   unfolding rows
   rows_cons n row rest l = rw (take_at row rest width l, drop_at row rest width l)
+
+  -- words behind the rows tell nothing of them
+  pub rows_front : (n : ℕ) (ws : List ℕ) → n * width ≤ length ws → rows width n (take (n * width) ws) ≡ rows width n ws
+  unfolding rows
+  rows_front zero ws h = refl
+  rows_front (suc n) ws h =
+      let e : suc n * width ≡ width + n * width = omega arith in
+      ap (rows width (suc n)) (ap (λ (k : ℕ). take k ws) e ∙ take-add width (n * width) ws)
+      ∙ rows_cons n (take width ws) (take (n * width) (drop width ws)) (length-take-le width ws (omega arith))
+      ∙ ap {B = List (List ℕ)} (λ r. take width ws ∷ r) (rows_front n (drop width ws) (simp length-drop (omega arith)))
 
   -- ---- a row put at a place
   put_parts :
@@ -318,29 +314,10 @@ module _ (width : ℕ) where
       (rows_cons n (blank_row width) (replicate (n * width) 0) (length-replicate width 0)
       ∙ ap {B = List (List ℕ)} (λ r. blank_row width ∷ r) (rows-blank n))
 
-  -- ---- a row's tests look at no word behind its state
-  module _ (wide : Terms.width < width) (top : ℕ) (row : List ℕ) where
-    pub live-take : live top (take width row) ≡ live top row
-    unfolding live
-    live-take = rw (get_or-take width row Terms.width 0)
-
-    pub free-take : free top (take width row) ≡ free top row
-    unfolding free
-    free-take = rw live-take
-
-    pub identifier-take : (identifier : Words) → has_identifier top identifier (take width row) ≡ has_identifier top identifier row
-    unfolding has_identifier
-    identifier-take identifier =
-        rw (get_or-take width row 0 0 (omega arith), get_or-take width row 1 0 (omega arith), get_or-take width row 2 0 (omega arith), live-take)
-
-    pub fits-take : (names : Names) → fits_row top names (take width row) ≡ fits_row top names row
-    unfolding fits_row
-    fits-take names = rw (live-take, terms-front width row (omega arith))
-
-    pub for-take : (states : For) → is_for states (take width row) ≡ is_for states row
-    unfolding is_for
-    for-take Every = refl
-    for-take (State word) = rw (get_or-take width row Terms.width 0)
+  -- ---- whether a row is live is told by no word behind its state
+  pub live-take : Terms.width < width → (top : ℕ) (row : List ℕ) → live top (take width row) ≡ live top row
+  unfolding live
+  live-take wide top row = rw (get_or-take width row Terms.width 0)
 
   -- the place of a blank row is free
   pub blank-free : Terms.width < width → (top : ℕ) → free top (blank_row width) ≡ true
@@ -349,18 +326,18 @@ module _ (width : ℕ) where
 
   -- ---- what a search of the rows says of the places, by any test
   module _ (p : List ℕ → Bool) (count : ℕ) (ws : List ℕ) where
-    pub found_below : (i : ℕ) → first p (rows width count ws) ≡ At i → i < count
+    pub found_below : (i : ℕ) → first p (rows width count ws) ≡ Some i → i < count
     found_below i e = let k = first_below p 0 (rows width count ws) i e in omega (arith, rows-length count ws)
 
-    pub found-row : (i : ℕ) → first p (rows width count ws) ≡ At i → p (row_at width ws i) ≡ true
+    pub found-row : (i : ℕ) → first p (rows width count ws) ≡ Some i → p (row_at width ws i) ≡ true
     found-row i e = ap p (sym (rows_at count ws i [] (found_below i e))) ∙ first_holds p (rows width count ws) i [] e
 
-    pub found-earlier : (i : ℕ) → first p (rows width count ws) ≡ At i → (j : ℕ) → j < i → p (row_at width ws j) ≡ false
+    pub found-earlier : (i : ℕ) → first p (rows width count ws) ≡ Some i → (j : ℕ) → j < i → p (row_at width ws j) ≡ false
     found-earlier i e j h =
         let k = found_below i e in
         ap p (sym (rows_at count ws j [] (omega arith))) ∙ first-earlier p (rows width count ws) i [] e j h
 
-    pub found_none : first p (rows width count ws) ≡ Nothing → (j : ℕ) → j < count → p (row_at width ws j) ≡ false
+    pub found_none : first p (rows width count ws) ≡ None → (j : ℕ) → j < count → p (row_at width ws j) ≡ false
     found_none e j h =
         ap p (sym (rows_at count ws j [] h))
         ∙ first-none p (rows width count ws) [] e j (omega (arith, rows-length count ws))

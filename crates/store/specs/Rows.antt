@@ -1,10 +1,8 @@
 -- The records of a desk at rest: rows of words, `width` words a row, `count` rows at the front of a list of words.
-use Rattle.std.specs.Prelude.{ℕ, zero, suc, ◌+◌, ◌-◌, ◌*◌, Bool, true, false, not, List, [], ◌∷◌, ◌++◌, leb, ltb, eqb, length, get_or, take, drop, replicate}
+use Rattle.std.specs.Prelude.{ℕ, zero, suc, ◌+◌, ◌-◌, ◌*◌, Bool, true, false, not, List, [], ◌∷◌, ◌++◌, leb, ltb, eqb, length, get_or, take, drop, replicate, Option, None}
 use Rattle.lists.specs.Choice.{pick}
 use Rattle.lists.specs.Lists.{both, first}
 use Rattle.lists.specs.Parts.{over}
-use Rattle.lists.specs.declared.Found.{Found}
-use Rattle.lists.specs.declared.Found.TheVariants.{Nothing}
 use Rattle.lists.specs.declared.words.Words.{Words}
 use Rattle.terms.specs.Means.{fits, oldest}
 use Rattle.terms.specs.Terms as Terms
@@ -76,8 +74,8 @@ unfoldable pub rows_fit : ℕ → ℕ → ℕ → Bool
 rows_fit width count words = both (ltb Terms.width width) (both (leb width most) (both (leb count most) (leb (count * width) words)))
 
 -- the first row that passes a test, and a row taken out; where the rows don't fit, none, and nothing changes
-unfoldable pub found : (List ℕ → Bool) → ℕ → ℕ → List ℕ → Found
-found test width count ws = pick (rows_fit width count (length ws)) (first test (rows width count ws)) Nothing
+unfoldable pub found : (List ℕ → Bool) → ℕ → ℕ → List ℕ → Option ℕ
+found test width count ws = pick (rows_fit width count (length ws)) (first test (rows width count ws)) None
 
 -- the oldest row that fits whom a message names and is in a state that it is for
 unfoldable pub found_fitting : For → ℕ → Names → ℕ → ℕ → List ℕ → Means

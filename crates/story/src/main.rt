@@ -2,6 +2,7 @@
 #![tactic(auto)]
 
 mod clerk_end;
+mod end;
 mod line_end;
 mod play;
 mod records;
@@ -17,10 +18,8 @@ use std::io;
 fn main(rt: HostRuntime) -> io::Result<()> {
     let mut out = io::writer(&rt);
     open_story(&mut out)?;
-    play_scene(&mut out, 1)?;
-    play_scene(&mut out, 2)?;
-    play_scene(&mut out, 3)?;
-    play_scene(&mut out, 4)?;
-    play_scene(&mut out, 5)?;
-    play_scene(&mut out, 6)
+    for scene in 1..=6 {
+        play_scene(&mut out, scene)?;
+    }
+    Ok(())
 }

@@ -1,47 +1,47 @@
 // The scenes as a script: what is done and heard, in order (docs/STORY.md, "The scenes"). What comes of it is the desks' word. An event is a line: the scenes that
 // it is played in (the evening of the 34 in two), or a scene and a dot for an event of its prelude, which is not seen; two digits for what it is about,
 // or dashes (of `until` the minutes past six); the place that the host names with it (a digit, or a dash for none), or a blank; and its name.
-use ladder::events::{
-    ACCEPT, ALERTED, ASK, BUSY, CANCEL, CLERK_FELL, CLERK_HEARS, Event, FREE, LINE_FELL,
-    LINE_HEARS, LOOK, NOTHING, RECORDS, SAY, STRAY, TICK, UNTIL, WITHDRAW,
-};
-use printing::{Page, blank_page, put_entry};
+use ladder::events::{Event, EventKind, Naming};
+use printing::entry_of;
 
 // An event by the first two letters of its name. A capital: the connection fell, at that end.
-fn code_of(first: u8, second: u8) -> u8 {
-    match first {
-        b'a' => match second {
-            b's' => ASK,
-            b'c' => ACCEPT,
-            _ => ALERTED,
-        },
-        b'b' => BUSY,
-        b'c' => match second {
-            b'a' => CANCEL,
-            _ => CLERK_HEARS,
-        },
-        b'f' => FREE,
-        b'l' => match second {
-            b'i' => LINE_HEARS,
-            _ => LOOK,
-        },
-        b'r' => RECORDS,
-        b's' => match second {
-            b'a' => SAY,
-            _ => STRAY,
-        },
-        b'C' => CLERK_FELL,
-        b'L' => LINE_FELL,
-        b't' => TICK,
-        b'u' => UNTIL,
-        b'w' => WITHDRAW,
-        _ => NOTHING,
+fn kind_of(first: u8, second: u8) -> EventKind {
+    match (first, second) {
+        (b'a', b's') => EventKind::Ask,
+        (b'a', b'c') => EventKind::Accept,
+        (b'a', _) => EventKind::Alerted,
+        (b'b', _) => EventKind::Busy,
+        (b'c', b'a') => EventKind::Cancel,
+        (b'c', _) => EventKind::ClerkHears,
+        (b'f', _) => EventKind::Free,
+        (b'l', b'i') => EventKind::LineHears,
+        (b'l', _) => EventKind::Look,
+        (b'r', _) => EventKind::Records,
+        (b's', b'a') => EventKind::Say,
+        (b's', _) => EventKind::Stray,
+        (b'C', _) => EventKind::ClerkFell,
+        (b'L', _) => EventKind::LineFell,
+        (b't', _) => EventKind::Tick,
+        (b'u', _) => EventKind::Until,
+        (b'w', _) => EventKind::Withdraw,
+        _ => EventKind::Nothing,
     }
 }
 
-// The number of two digits. (The last four bits of a digit's byte are its value.)
-fn number_of(tens: u8, ones: u8) -> u8 {
-    10 * (tens % 16) + ones % 16
+// The number of two digits, or none. (The last four bits of a digit's byte are its value.)
+fn number_of(tens: u8, ones: u8) -> Option<u8> {
+    if tens == b'-' {
+        return None;
+    }
+    Some(10 * (tens % 16) + ones % 16)
+}
+
+fn naming_of(place: u8) -> Naming {
+    match place {
+        b' ' => Naming::Silent,
+        b'-' => Naming::NoPlace,
+        _ => Naming::Place(usize::from(place % 16)),
+    }
 }
 
 // Whether a line of the script, by its first two bytes, is of a scene.
@@ -50,10 +50,9 @@ fn is_of(first: u8, second: u8, scene: u8) -> bool {
     first == digit || second == digit
 }
 
-// A step of the script; behind the last one the line is blank.
-fn line_at(step: usize) -> Page {
-    put_entry(
-        blank_page(),
+// A step of the script; behind the last one the line is empty.
+fn line_at(step: usize) -> &'static [u8] {
+    entry_of(
         b"12 01 say\n12 41 busy\n12 34 ask\n12 -- line hears\n12 -- clerk hears\n\
           12 -- records\n\
           12 02 say\n12 41 free\n12 41 look\n12 -- clerk hears\n12 41 busy\n\
@@ -94,28 +93,29 @@ fn line_at(step: usize) -> Page {
     )
 }
 
-fn event_of(code: u8, about: u8, place: u8, seen: bool) -> Event {
+fn event_of(kind: EventKind, about: Option<u8>, naming: Naming, seen: bool) -> Event {
     Event {
-        code,
+        kind,
         about,
-        place,
-        atLine: ALERTED <= code && code != CLERK_HEARS,
+        naming,
+        atLine: EventKind::Alerted <= kind && kind != EventKind::ClerkHears,
         seen,
         clock: 0,
     }
 }
 
-// The event at a step of a scene. A line of another scene, and a blank one, is an event that does nothing.
+// The event at a step of a scene. A line of another scene, and an empty one, is an event that does nothing.
 pub fn event_at(scene: u8, step: usize) -> Event {
-    let line = line_at(step);
-    let bytes = line.bytes;
-    if is_of(bytes[0], bytes[1], scene) {
-        return event_of(
-            code_of(bytes[6], bytes[7]),
-            number_of(bytes[3], bytes[4]),
-            bytes[5],
-            bytes[1] != b'.',
-        );
+    match line_at(step) {
+        [first, second, _, tens, ones, place, letter, next, ..] if is_of(*first, *second, scene) =>
+            {
+                event_of(
+                    kind_of(*letter, *next),
+                    number_of(*tens, *ones),
+                    naming_of(*place),
+                    *second != b'.',
+                )
+            }
+        _ => event_of(EventKind::Nothing, None, Naming::Silent, false),
     }
-    event_of(NOTHING, 0, b' ', false)
 }

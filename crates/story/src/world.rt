@@ -1,16 +1,13 @@
 // A scene's two desks and two wires, and what it sets: whether the line's end is the wrong one, and User A's preference.
+use crate::wire::{Wire, quiet};
 use clerk::start::Lengths;
-use printing::{Page, blank_page};
 
-// Each desk is its words. A wire is the bytes of all messages that were sent, one behind the other, of which those up to a place have been heard.
 #[derive(Clone, Copy)]
 pub struct World {
-    pub clerk: [u64; clerk_records::WORDS],
-    pub line: [u64; line_records::WORDS],
-    pub toClerk: Page,
-    pub toLine: Page,
-    pub clerkHeard: usize,
-    pub lineHeard: usize,
+    pub clerk: clerk::Desk,
+    pub line: line::Desk,
+    pub toClerk: Wire,
+    pub toLine: Wire,
     pub wrong: bool,
     pub preference: u8,
     pub clock: u32,
@@ -20,15 +17,14 @@ pub struct World {
 pub const SIX: u32 = 64800;
 
 // The lengths of the clerk's timers, in seconds, are those that a replay begins with (REPLAY-02.md, "Request 6").
-fn clerk_words() -> [u64; clerk_records::WORDS] {
-    let step = clerk::start::start(Lengths {
+fn clerk_desk() -> clerk::Desk {
+    let started = clerk::start::start(Lengths {
         t1: 20,
         t2Ccbs: 900,
         t2Ccnr: 3600,
         t3: 20,
     });
-    let d = step.desk;
-    d.words
+    started.desk
 }
 
 // What User A prefers to become of the connection, in an ask: 1 retain, 2 release.
@@ -42,22 +38,17 @@ fn preference_of(scene: u8) -> u8 {
 // The desks as they start. The line desk is given lines 41180 and 52290: length and digits in sixteen places, then both kinds. The wrong end, scene 1's, does
 // not keep requests, whatever it tells.
 pub fn start_world(scene: u8) -> World {
-    let step = line::start::start(
+    let started = line::start::start(
         b"\x05\x04\x01\x01\x08\0\0\0\0\0\0\0\0\0\0\0\x03\
           \x05\x05\x02\x02\x09\0\0\0\0\0\0\0\0\0\0\0\x03",
         scene != 1,
         false,
     );
-    let lineDesk = step.desk;
-    let line = lineDesk.words;
-    let quiet = blank_page();
     World {
-        clerk: clerk_words(),
-        line,
-        toClerk: quiet,
-        toLine: quiet,
-        clerkHeard: 0,
-        lineHeard: 0,
+        clerk: clerk_desk(),
+        line: started.desk,
+        toClerk: quiet(),
+        toLine: quiet(),
         wrong: scene == 1,
         preference: preference_of(scene),
         clock: SIX,

@@ -6,7 +6,6 @@ ghost use Rattle.message.specs.Wire.{message_at};
 ghost use Rattle.reader.specs.Answers.{read_answer};
 ghost use Rattle.taken.specs.Rest.{rest_of};
 
-use message::digits::PlaceRead;
 use reader::{Answer, read};
 
 // The caller's own slice from the first unread byte of an answer; all of it where the answer is a refusal.
@@ -14,16 +13,9 @@ use reader::{Answer, read};
 pub fn rest(s: &[u8], answer: Answer) -> &[u8]
     ensures { result.now ≡ rest_of s.now answer }
 {
-    let verdict = answer.verdict;
-    match verdict {
-        PlaceRead::Refused(_) => s,
-        PlaceRead::Taken(next) => {
-            if next <= s.len() {
-                return &s[next..];
-            }
-            let end = s.len();
-            &s[end..]
-        }
+    match answer.verdict {
+        Err(_) => s,
+        Ok(next) => &s[next.min(s.len())..],
     }
 }
 

@@ -1,4 +1,5 @@
 -- What the oldest that fits says of the list: by the laws of the two searches that it is made of.
+use Rattle.std.specs.Prelude.{Option, Some, None}
 use Prim.Native.Nat.{ℕ, ◌<◌}
 use mathlib.Core.Path.{◌≡◌, refl, sym, ◌∙◌, subst}
 use mathlib.Core.Bool.{Bool}
@@ -7,7 +8,6 @@ use native.Mathlib.Nat.{zero-add}
 use native.Mathlib.Omega.{arith}
 use lib.ListN.{length, get_or}
 use Rattle.lists.specs.Lists.{both, first}
-use Rattle.lists.specs.declared.Found.{Found}
 use Rattle.lists.proofs.Lists.{both_parts, first_below, first_holds, first-earlier, first-none, first-map, first-same}
 use mathlib.Core.List.{map}
 use Rattle.terms.specs.Means.{means_of, oldest, OldestAt, FitNotNow, NoneFits, Told}
@@ -17,16 +17,16 @@ module _ {A : Type 0} (fit ready : A → Bool) (xs : List A) (d : A) where
   abbrev now : A → Bool
   now x = both (fit x) (ready x)
 
-  inside : (p : A → Bool) (i : ℕ) → first p xs ≡ Found.At i → i < length xs
+  inside : (p : A → Bool) (i : ℕ) → first p xs ≡ Some i → i < length xs
   inside p i e = let h = first_below p 0 xs i e in omega (arith, zero-add (length xs))
 
-  told : (a b : Found) → first now xs ≡ a → first fit xs ≡ b → Told fit ready xs d (means_of a b)
-  told (Found.At i) b e f =
+  told : (a b : Option ℕ) → first now xs ≡ a → first fit xs ≡ b → Told fit ready xs d (means_of a b)
+  told (Some i) b e f =
       let h = both_parts (fit (get_or xs i d)) (ready (get_or xs i d)) (first_holds now xs i d e) in
       record { inside = inside now i e; fitting = h.0; is_ready = h.1; earlier = first-earlier now xs i d e }
-  told Found.Nothing (Found.At i) e f =
+  told None (Some i) e f =
       record { index = i; inside = inside fit i f; fitting = first_holds fit xs i d f; none_ready = first-none now xs d e }
-  told Found.Nothing Found.Nothing e f = first-none fit xs d f
+  told None None e f = first-none fit xs d f
 
   -- the law, once for both desks
   pub oldest-told : Told fit ready xs d (oldest fit ready xs)

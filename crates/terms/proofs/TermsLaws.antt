@@ -1,4 +1,6 @@
 -- What is put is read back: each word stands at its place, and each code stands for what was stored. Where words are put anew from one on, those before it are read as they were.
+use Rattle.lists.specs.declared.words.Words.{Words}
+use Rattle.std.specs.Prelude.{Option, Some, None}
 use Prim.Native.Nat.{ℕ, ◌+◌, ◌≤◌, ◌<◌}
 use mathlib.Core.Path.{◌≡◌, refl, sym, ◌∙◌, ap}
 use mathlib.Core.List.{List, ◌∷◌, ◌++◌}
@@ -13,7 +15,6 @@ use Rattle.message.specs.declared.Kind.{Kind}
 use Rattle.desk.specs.Letter.{is_identified, identifier_words}
 use Rattle.desk.specs.declared.Connection.{Connection}
 use Rattle.desk.specs.declared.Keep.{Keep}
-use Rattle.desk.specs.declared.letter.Identifier.{Identifier}
 use Rattle.terms.specs.Codes.{kind_code, flag_code}
 use Rattle.terms.specs.Terms.{width, choices_at, kind_at, terms_of, choice_words, terms_words, terms_at, terms_put, with_choices, with_kind}
 use Rattle.terms.specs.declared.Terms.{Terms}
@@ -21,9 +22,9 @@ use Rattle.terms.proofs.CodesLaws.{kind-back, keep-back, connection-back}
 
 -- an identifier by its flag and its words
 pub identifier-back :
-    (k : Identifier) → pick (eqb (flag_code (is_identified k)) 1) (Identifier.Is (record { low = (identifier_words k).low; high = (identifier_words k).high })) Identifier.Absent ≡ k
-identifier-back Identifier.Absent = refl
-identifier-back (Identifier.Is words) = refl
+    (k : Option Words) → pick (eqb (flag_code (is_identified k)) 1) (Some (record { low = (identifier_words k).low; high = (identifier_words k).high })) None ≡ k
+identifier-back None = refl
+identifier-back (Some words) = refl
 
 -- terms and whatever stands behind them
 pub terms-back : (t : Terms) (rest : List ℕ) → terms_of (terms_words t ++ rest) ≡ t

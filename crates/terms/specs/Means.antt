@@ -1,13 +1,10 @@
 -- Which record is meant by numbers and service (document 02, Ask 1; READINGS-02, "Which record is meant", (b)): when one fits, and the oldest that does.
-use Rattle.std.specs.Prelude.{ℕ, ◌<◌, ◌≡◌, Bool, true, false, not, List, eqb, length, get_or}
+use Rattle.std.specs.Prelude.{ℕ, ◌<◌, ◌≡◌, Bool, true, false, not, List, eqb, length, get_or, Option, Some, None}
 use Rattle.lists.specs.Choice.{pick}
 use Rattle.lists.specs.Lists.{both, first}
 use Rattle.lists.specs.Words.{same_words}
-use Rattle.lists.specs.declared.Found.{Found}
 use Rattle.lists.specs.declared.words.Words.{Words}
-use Rattle.message.specs.declared.Service.{Service}
 use Rattle.desk.specs.Sends.{no_number}
-use Rattle.desk.specs.declared.letter.Identifier.{Identifier}
 use Rattle.terms.specs.declared.Terms.{Terms}
 use Rattle.terms.specs.declared.request.Names.{Names}
 use Rattle.terms.specs.declared.means.Means.{Means}
@@ -22,14 +19,14 @@ abbrev pub agree : Words → Words → Bool
 agree a b = pick (given a) (pick (given b) (same_words a b) true) true
 
 -- a record has its service
-abbrev pub service_agrees : Service → ℕ → Bool
-service_agrees Service.Absent own = true
-service_agrees (Service.Is service) own = eqb service own
+abbrev pub service_agrees : Option ℕ → ℕ → Bool
+service_agrees None own = true
+service_agrees (Some service) own = eqb service own
 
-abbrev pub not_both : Identifier → Identifier → Bool
-not_both Identifier.Absent b = true
-not_both (Identifier.Is own) Identifier.Absent = true
-not_both (Identifier.Is own) (Identifier.Is other) = false
+abbrev pub not_both : Option Words → Option Words → Bool
+not_both None b = true
+not_both (Some own) None = true
+not_both (Some own) (Some other) = false
 
 unfoldable pub fits : Names → Terms → Bool
 fits names t =
@@ -38,15 +35,15 @@ fits names t =
 
 -- ---- which one is meant
 -- what was found
-abbrev pub found_means : Found → Means
-found_means (Found.At i) = At i
-found_means Found.Nothing = Nothing
+abbrev pub found_means : Option ℕ → Means
+found_means (Some i) = At i
+found_means None = Nothing
 
 -- the first that fits and is in a state that the message is for; else whether one fits at all
-abbrev pub means_of : Found → Found → Means
-means_of (Found.At i) fitting = At i
-means_of Found.Nothing (Found.At i) = NotNow
-means_of Found.Nothing Found.Nothing = Nothing
+abbrev pub means_of : Option ℕ → Option ℕ → Means
+means_of (Some i) fitting = At i
+means_of None (Some i) = NotNow
+means_of None None = Nothing
 
 -- the first is the oldest: records stand in the order of storing
 unfoldable pub oldest : {A : Type 0} → (A → Bool) → (A → Bool) → List A → Means

@@ -1,13 +1,11 @@
 -- What a request asks for (document 01, types 1 and 2): whom it names, and what stands behind the numbers; the message that asks it, and the terms that it gives a record.
-use Rattle.std.specs.Prelude.{ℕ, ◌%◌, Bool, eqb}
+use Rattle.std.specs.Prelude.{ℕ, ◌%◌, Bool, eqb, Option, None}
 use Rattle.lists.specs.declared.words.Words.{Words}
 use Rattle.message.specs.Format.{request_body}
 use Rattle.message.specs.declared.Carrier.TheVariants.{Setup}
-use Rattle.message.specs.declared.Service.TheVariants as Service
 use Rattle.desk.specs.Sends.{no_number}
 use Rattle.desk.specs.declared.Connection.{Connection}
 use Rattle.desk.specs.declared.Keep.{Keep}
-use Rattle.desk.specs.declared.letter.Identifier.{Identifier}
 use Rattle.desk.specs.declared.letter.Letter.{Letter}
 use Rattle.terms.specs.declared.Terms.{Terms}
 use Rattle.terms.specs.declared.request.Names.{Names}
@@ -17,11 +15,11 @@ use Rattle.terms.specs.declared.request.Request.{Request}
 abbrev pub letter_names : Letter → Names
 letter_names l = record { identifier = l.identifier; numberA = l.numberA; numberB = l.numberB; service = l.service }
 
-abbrev pub only_identifier : Identifier → Names
-only_identifier identifier = record { identifier = identifier; numberA = no_number; numberB = no_number; service = Service.Absent }
+abbrev pub only_identifier : Option Words → Names
+only_identifier identifier = record { identifier = identifier; numberA = no_number; numberB = no_number; service = None }
 
 abbrev pub only_line : Words → Names
-only_line number = record { identifier = Identifier.Absent; numberA = no_number; numberB = number; service = Service.Absent }
+only_line number = record { identifier = None; numberA = no_number; numberB = number; service = None }
 
 -- ---- a request
 -- flags are can-keep (0 or 1) plus 2 × preference
@@ -49,6 +47,6 @@ request_letter names q =
       identifier = names.identifier;
       numberA = names.numberA;
       numberB = names.numberB;
-      service = Service.Absent;
+      service = None;
       body = request_body q.kind q.service q.flags;
     }

@@ -1,16 +1,14 @@
 -- The terms of a request (document 01, "A record has: .."): what both ends agree on, and its words at rest.
-use Rattle.std.specs.Prelude.{ℕ, List, [], ◌∷◌, length, get_or, leb, eqb}
+use Rattle.lists.specs.declared.words.Words.{Words}
+use Rattle.std.specs.Prelude.{ℕ, List, [], ◌∷◌, length, get_or, leb, eqb, Option, Some, None}
 use Rattle.lists.specs.Choice.{pick}
 use Rattle.lists.specs.Parts.{over}
 use Rattle.message.specs.declared.Kind.{Kind}
 use Rattle.desk.specs.Letter.{is_identified, identifier_words}
 use Rattle.desk.specs.declared.Connection.{Connection}
 use Rattle.desk.specs.declared.Keep.{Keep}
-use Rattle.desk.specs.declared.letter.Identifier.{Identifier}
 use Rattle.desk.specs.declared.sends.Elements.{Elements}
 use Rattle.terms.specs.Codes.{kind_of, kind_code, keep_of, keep_code, connection_of, connection_code, flag_code}
-use Rattle.terms.specs.declared.Becomes.{Becomes}
-use Rattle.terms.specs.declared.Becomes.TheVariants.{Nothing, One}
 use Rattle.terms.specs.declared.Terms.{Terms}
 
 -- how many words the terms take; in a record's words the state stands behind them
@@ -26,8 +24,8 @@ abbrev pub kind_at : ℕ
 kind_at = 10
 
 -- words as terms; there is an identifier exactly if the first word is 1
-abbrev pub identifier_in : List ℕ → Identifier
-identifier_in row = pick (eqb (get_or row 0 0) 1) (Identifier.Is (record { low = get_or row 1 0; high = get_or row 2 0 })) Identifier.Absent
+abbrev pub identifier_in : List ℕ → Option Words
+identifier_in row = pick (eqb (get_or row 0 0) 1) (Some (record { low = get_or row 1 0; high = get_or row 2 0 })) None
 
 unfoldable pub terms_of : List ℕ → Terms
 terms_of row =
@@ -89,9 +87,9 @@ with_kind t kind =
     }
 
 -- the kind as a row of a table leaves it
-abbrev pub kind_after : Becomes → Kind → Kind
-kind_after Nothing kind = kind
-kind_after (One new) kind = new
+abbrev pub kind_after : Option Kind → Kind → Kind
+kind_after None kind = kind
+kind_after (Some new) kind = new
 
 -- what a record with these terms gives the messages that it sends
 abbrev pub elements_of : Terms → Elements

@@ -3,17 +3,20 @@
 #![tactic(auto)]
 
 use codes::{connection_code, connection_of, flag_code, keep_code, keep_of, kind_code, kind_of};
-use desk::letter::{Identifier, identifier_words, is_identified};
-use desk::sends::Elements;
+use desk::carriers::sends_as;
+use desk::letter::{Letter, identifier_words};
+use desk::sends::{Elements, sent_for};
 use desk::{Connection, Keep};
 use lists::words::Words;
-use message::Kind;
+use message::{Body, Kind};
 
 pub mod codes;
 pub mod means;
 pub mod request;
 
 ghost use Rattle.std.specs.Prelude.{◌≡◌};
+ghost use Rattle.desk.specs.Carriers.{sends_as};
+ghost use Rattle.desk.specs.Sends.{sent};
 ghost use Rattle.terms.specs.Terms.{no_terms, terms_at, terms_put, with_choices, kind_after, elements_of};
 
 // How many words the terms take. They stand at the front of a record's words, and the state behind them.
@@ -25,16 +28,9 @@ pub const CHOICES_AT: usize = 8;
 // The word of the kind: at the line's end no step changes what stands before it.
 pub const KIND_AT: usize = 10;
 
-// What a row of a table makes of the kind: nothing, or this one.
-#[derive(Clone, Copy)]
-pub enum Becomes {
-    Nothing,
-    One(Kind),
-}
-
 #[derive(Clone, Copy)]
 pub struct Terms {
-    pub identifier: Identifier,
+    pub identifier: Option<Words>,
     pub numberA: Words,
     pub numberB: Words,
     pub service: u64,
@@ -50,7 +46,7 @@ pub fn no_terms() -> Terms
 {
     let none = Words { low: 0, high: 0 };
     Terms {
-        identifier: Identifier::Absent,
+        identifier: None,
         numberA: none,
         numberB: none,
         service: 0,
@@ -62,20 +58,19 @@ pub fn no_terms() -> Terms
 
 // What the terms at the front of some words say of one thing: its words alone are read. Of too few words, what no terms say.
 #[tactic(auto, unfolding(crate::specs::Terms::terms_of, crate::specs::Terms::terms_at))]
-pub fn identifier_at(row: &[u64]) -> Identifier
+pub fn identifier_at(row: &[u64]) -> Option<Words>
     ensures { result ≡ (terms_at row.now).identifier }
 {
     if WIDTH <= row.len() {
         if row[0] == 1 {
-            let words = Words {
+            return Some(Words {
                 low: row[1],
                 high: row[2],
-            };
-            return Identifier::Is(words);
+            });
         }
-        return Identifier::Absent;
+        return None;
     }
-    Identifier::Absent
+    None
 }
 
 #[tactic(auto, unfolding(crate::specs::Terms::terms_of, crate::specs::Terms::terms_at))]
@@ -130,21 +125,14 @@ pub fn terms_of(row: &[u64]) -> Terms
     ensures { result ≡ terms_at row.now }
 {
     if WIDTH <= row.len() {
-        let identifier = identifier_at(row);
-        let numberA = number_a_at(row);
-        let numberB = number_b_at(row);
-        let service = service_at(row);
-        let kind = kind_at(row);
-        let keep = keep_of(row[8]);
-        let connection = connection_of(row[9]);
         return Terms {
-            identifier,
-            numberA,
-            numberB,
-            service,
-            kind,
-            keep,
-            connection,
+            identifier: identifier_at(row),
+            numberA: number_a_at(row),
+            numberB: number_b_at(row),
+            service: service_at(row),
+            kind: kind_at(row),
+            keep: keep_of(row[8]),
+            connection: connection_of(row[9]),
         };
     }
     no_terms()
@@ -156,24 +144,18 @@ pub fn put_terms(row: &mut [u64], terms: Terms)
     ensures { row.new ≡ terms_put terms row.old }
 {
     if WIDTH <= row.len() {
-        let identifier = terms.identifier;
-        let numberA = terms.numberA;
-        let numberB = terms.numberB;
-        let kind = terms.kind;
-        let keep = terms.keep;
-        let connection = terms.connection;
-        let words = identifier_words(identifier);
-        row[0] = flag_code(is_identified(identifier));
+        let words = identifier_words(terms.identifier);
+        row[0] = flag_code(terms.identifier.is_some());
         row[1] = words.low;
         row[2] = words.high;
-        row[3] = numberA.low;
-        row[4] = numberA.high;
-        row[5] = numberB.low;
-        row[6] = numberB.high;
+        row[3] = terms.numberA.low;
+        row[4] = terms.numberA.high;
+        row[5] = terms.numberB.low;
+        row[6] = terms.numberB.high;
         row[7] = terms.service;
-        row[8] = keep_code(keep);
-        row[9] = connection_code(connection);
-        row[10] = kind_code(kind);
+        row[8] = keep_code(terms.keep);
+        row[9] = connection_code(terms.connection);
+        row[10] = kind_code(terms.kind);
     }
 }
 
@@ -181,42 +163,37 @@ pub fn put_terms(row: &mut [u64], terms: Terms)
 pub fn with_choices(terms: Terms, keep: Keep, connection: Connection) -> Terms
     ensures { result ≡ with_choices terms keep connection }
 {
-    let identifier = terms.identifier;
-    let numberA = terms.numberA;
-    let numberB = terms.numberB;
-    let kind = terms.kind;
     Terms {
-        identifier,
-        numberA,
-        numberB,
-        service: terms.service,
-        kind,
         keep,
         connection,
+        ..terms
     }
 }
 
 // The kind as a row of a table leaves it.
-pub fn kind_after(becomes: Becomes, kind: Kind) -> Kind
+pub fn kind_after(becomes: Option<Kind>, kind: Kind) -> Kind
     ensures { result ≡ kind_after becomes kind }
 {
-    match becomes {
-        Becomes::Nothing => kind,
-        Becomes::One(new) => new,
-    }
+    becomes.unwrap_or(kind)
 }
 
 // What a record with these terms gives the messages that it sends.
 pub fn elements_of(terms: Terms) -> Elements
     ensures { result ≡ elements_of terms }
 {
-    let identifier = terms.identifier;
-    let numberA = terms.numberA;
-    let numberB = terms.numberB;
     Elements {
-        identifier,
-        numberA,
-        numberB,
+        identifier: terms.identifier,
+        numberA: terms.numberA,
+        numberB: terms.numberB,
         service: terms.service,
     }
+}
+
+// What is sent on a record's terms, or nothing: by its connection choice, and once its retained connection fell, as for RLS.
+pub fn sent_on(terms: Terms, down: bool, sends: Option<Body>) -> Option<Letter>
+    ensures { result ≡ sent sends (elements_of terms) (sends_as terms.connection down) }
+{
+    let elements = elements_of(terms);
+    let connection = terms.connection;
+    sent_for(sends, elements, sends_as(connection, down))
 }

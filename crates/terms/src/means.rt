@@ -5,10 +5,7 @@ ghost use Rattle.terms.specs.Means.{given, agree, service_agrees, not_both, fits
 
 use crate::request::Names;
 use crate::{identifier_at, number_a_at, number_b_at, service_at};
-use desk::letter::Identifier;
-use lists::Found;
-use lists::words::{Words, same_words};
-use message::Service;
+use lists::words::Words;
 
 // Which record is meant: none; the one at a place; or none now: some fit, and none is in a state that the message is for.
 #[derive(Clone, Copy)]
@@ -19,47 +16,37 @@ pub enum Means {
 }
 
 // A number that is not withheld.
+#[tactic(auto, unfolding(lists::specs::Words::same_words))]
 pub fn is_given(number: Words) -> bool
     ensures { result ≡ given number }
 {
-    let none = Words { low: 0, high: 0 };
-    !same_words(number, none)
+    number != Words { low: 0, high: 0 }
 }
 
 // Whether two numbers are equal where both are given.
+#[tactic(auto, unfolding(lists::specs::Words::same_words))]
 fn numbers_agree(a: Words, b: Words) -> bool
     ensures { result ≡ agree a b }
 {
-    if is_given(a) {
-        if is_given(b) {
-            return same_words(a, b);
-        }
-        return true;
+    if is_given(a) && is_given(b) {
+        a == b
+    } else {
+        true
     }
-    true
 }
 
 // Whether a service, where it is there, is the record's.
-fn service_agrees(service: Service, own: u64) -> bool
+fn service_agrees(service: Option<u64>, own: u64) -> bool
     ensures { result ≡ service_agrees service own }
 {
-    match service {
-        Service::Absent => true,
-        Service::Is(value) => value == own,
-    }
+    service.is_none_or(|value| value == own)
 }
 
 // Whether not both have an identifier.
-fn not_both(a: Identifier, b: Identifier) -> bool
+fn not_both(a: Option<Words>, b: Option<Words>) -> bool
     ensures { result ≡ not_both a b }
 {
-    match a {
-        Identifier::Absent => true,
-        Identifier::Is(own) => match b {
-            Identifier::Absent => true,
-            Identifier::Is(other) => false,
-        },
-    }
+    a.is_none() || b.is_none()
 }
 
 // Whether the terms at the front of some words fit whom a message names. No more words are read than it takes to tell.
@@ -67,28 +54,18 @@ fn not_both(a: Identifier, b: Identifier) -> bool
 pub fn fits_at(row: &[u64], names: Names) -> bool
     ensures { result ≡ fits names (terms_at row.now) }
 {
-    let identifier = names.identifier;
-    let numberA = names.numberA;
-    let numberB = names.numberB;
-    let service = names.service;
-    if not_both(identifier, identifier_at(row)) {
-        if numbers_agree(numberB, number_b_at(row)) {
-            if service_agrees(service, service_at(row)) {
-                return numbers_agree(numberA, number_a_at(row));
-            }
-            return false;
-        }
-        return false;
-    }
-    false
+    not_both(names.identifier, identifier_at(row))
+        && numbers_agree(names.numberB, number_b_at(row))
+        && service_agrees(names.service, service_at(row))
+        && numbers_agree(names.numberA, number_a_at(row))
 }
 
 // What was found is meant.
-pub fn found_means(found: Found) -> Means
+pub fn found_means(found: Option<usize>) -> Means
     ensures { result ≡ found_means found }
 {
     match found {
-        Found::At(i) => Means::At(i),
-        Found::Nothing => Means::Nothing,
+        Some(i) => Means::At(i),
+        None => Means::Nothing,
     }
 }

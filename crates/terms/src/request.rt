@@ -3,25 +3,32 @@ ghost use Rattle.std.specs.Prelude.{◌≡◌};
 ghost use Rattle.terms.specs.Request.{letter_names, only_identifier, only_line, can_keep_sent, request_terms, request_letter};
 
 use crate::Terms;
-use desk::letter::{Identifier, Letter};
+use desk::letter::Letter;
 use desk::{Connection, Keep};
 use lists::words::Words;
-use message::{Carrier, Kind, Service, request_body};
+use message::{Carrier, Kind, request_body};
 
 // Whom an input names: the request's identifier, User A's number, the line's and the service. What it does not name is absent: a number is then 0. A request
 // has its service behind its numbers.
 #[derive(Clone, Copy)]
 pub struct Names {
-    pub identifier: Identifier,
+    pub identifier: Option<Words>,
     pub numberA: Words,
     pub numberB: Words,
-    pub service: Service,
+    pub service: Option<u64>,
 }
+
+const NOBODY: Names = Names {
+    identifier: None,
+    numberA: Words { low: 0, high: 0 },
+    numberB: Words { low: 0, high: 0 },
+    service: None,
+};
 
 // How a host names a request of its own desk: by the identifier, or where it has none by its record's place.
 #[derive(Clone, Copy)]
 pub struct Name {
-    pub identifier: Identifier,
+    pub identifier: Option<Words>,
     pub place: usize,
 }
 
@@ -37,28 +44,21 @@ pub struct Request {
 pub fn letter_names(l: Letter) -> Names
     ensures { result ≡ letter_names l }
 {
-    let identifier = l.identifier;
-    let numberA = l.numberA;
-    let numberB = l.numberB;
-    let service = l.service;
     Names {
-        identifier,
-        numberA,
-        numberB,
-        service,
+        identifier: l.identifier,
+        numberA: l.numberA,
+        numberB: l.numberB,
+        service: l.service,
     }
 }
 
 // An input that names a request by its identifier alone, or by none.
-pub fn only_identifier(identifier: Identifier) -> Names
+pub fn only_identifier(identifier: Option<Words>) -> Names
     ensures { result ≡ only_identifier identifier }
 {
-    let none = Words { low: 0, high: 0 };
     Names {
         identifier,
-        numberA: none,
-        numberB: none,
-        service: Service::Absent,
+        ..NOBODY
     }
 }
 
@@ -66,12 +66,9 @@ pub fn only_identifier(identifier: Identifier) -> Names
 pub fn only_line(number: Words) -> Names
     ensures { result ≡ only_line number }
 {
-    let none = Words { low: 0, high: 0 };
     Names {
-        identifier: Identifier::Absent,
-        numberA: none,
         numberB: number,
-        service: Service::Absent,
+        ..NOBODY
     }
 }
 
@@ -86,16 +83,12 @@ pub fn can_keep_sent(flags: u8) -> bool
 pub fn request_terms(names: Names, q: Request, keep: Keep, connection: Connection) -> Terms
     ensures { result ≡ request_terms names q keep connection }
 {
-    let identifier = names.identifier;
-    let numberA = names.numberA;
-    let numberB = names.numberB;
-    let kind = q.kind;
     Terms {
-        identifier,
-        numberA,
-        numberB,
-        service: q.service as u64,
-        kind,
+        identifier: names.identifier,
+        numberA: names.numberA,
+        numberB: names.numberB,
+        service: u64::from(q.service),
+        kind: q.kind,
         keep,
         connection,
     }
@@ -105,17 +98,12 @@ pub fn request_terms(names: Names, q: Request, keep: Keep, connection: Connectio
 pub fn request_letter(names: Names, q: Request) -> Letter
     ensures { result ≡ request_letter names q }
 {
-    let identifier = names.identifier;
-    let numberA = names.numberA;
-    let numberB = names.numberB;
-    let kind = q.kind;
-    let body = request_body(kind, q.service, q.flags);
     Letter {
         carrier: Carrier::Setup,
-        identifier,
-        numberA,
-        numberB,
-        service: Service::Absent,
-        body,
+        identifier: names.identifier,
+        numberA: names.numberA,
+        numberB: names.numberB,
+        service: None,
+        body: request_body(q.kind, q.service, q.flags),
     }
 }

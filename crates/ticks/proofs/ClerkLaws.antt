@@ -1,71 +1,101 @@
--- A tick of the clerk's desk, place by place: what its reports send, and what a turn leaves of it. By the definition's own cases.
-use Prim.Native.Nat.{ℕ, suc, ◌-◌, ◌≤◌, ◌<◌}
-use mathlib.Core.Path.{◌≡◌, refl, sym}
-use mathlib.Core.List.{List, [], ◌∷◌, ◌++◌}
-use native.Mathlib.Omega.{arith}
-use Rattle.desk.specs.Ticked.{expired_at}
+-- A tick of the clerk's desk is the one tick of both desks, at the reports of its timers. Place by place, by the timer that runs out there.
+use Rattle.desk.specs.declared.letter.Letter.{Letter}
+use Rattle.desk.specs.Ticked.{Ticked, expired_at, noted}
+use Rattle.std.specs.Prelude.{Option, Some, None, is_some}
+use Prim.Native.Nat.{ℕ, zero, suc}
+use mathlib.Core.Path.{◌≡◌, refl, sym, ap, ◌∙◌}
+use mathlib.Core.List.{List, ◌∷◌}
+use lib.ListN.{get_or}
+use Rattle.lists.proofs.Choice.{no_true}
 use Rattle.desk.specs.declared.outcome.Outcome.{Outcome}
-use Rattle.desk.specs.declared.outcome.Sending.{Sending}
-use Rattle.told.specs.Ticking.{Lent, lent_after, lent_by, tick_done}
+use Rattle.clerk_table.specs.Inputs.{row_of_timer}
+use Rattle.clerk_table.specs.Step.{row_taken}
 use Rattle.clerk_table.specs.declared.table.Timer.{Timer}
 use Rattle.clerk_records.specs.Layout.{places}
+use Rattle.clerk_records.specs.Records.{blank, records}
 use Rattle.clerk_records.specs.Deadlines.{expiring_at}
-use Rattle.clerk_records.specs.declared.deadlines.Expiring.{Expiring}
-use Rattle.clerk_records.specs.declared.deadlines.Expiring.TheVariants.{Nothing, One}
-use Rattle.clerk.specs.Steps.{desk_of, answered, step}
-use Rattle.clerk.specs.Ticks.{report, by_timer, ticking, sendings_from, sendings}
+use Rattle.desk.specs.Steps.{answered}
+use Rattle.clerk.specs.Steps.{desk_of, made, step}
+use Rattle.clerk.specs.Ticks.{report, by_timer, ticking, ticked, sendings_from, sendings}
 use Rattle.clerk.specs.declared.Desk.{Desk}
-use Rattle.ticks.specs.Clerk.{clerk_onwards}
-use Rattle.ticks.proofs.Places.{begin-at}
+use Rattle.clerk.proofs.TickLaws.{due-step}
+use Rattle.ticks.specs.Clerk.{stepped, clerk_reported, clerk_ticked}
+use Rattle.ticks.specs.Tick as Tick
+use Rattle.desk.specs.declared.outcome.Stepped.{Stepped}
 
--- what the reports send from a place on: that of the place, and then the others
-split : (x : Timer → Sending) (rest : List Sending) (e : Expiring) → by_timer e (λ timer. x timer ∷ rest) rest ≡ by_timer e (λ timer. x timer ∷ []) [] ++ rest
-split x rest Nothing = refl
-split x rest (One timer) = refl
+-- ---- the report at a place
+-- there is one if a timer runs out there
+pub is_due_lem : (count : ℕ) (words : List ℕ) (i : ℕ) → is_some (expiring_at count words i) ≡ is_some (clerk_reported count words i)
+unfolding clerk_reported
+is_due_lem count words i = go (expiring_at count words i)
+  where
+    go : (e : Option Timer) → is_some e ≡ is_some (by_timer e (λ timer. Some (stepped (step (desk_of words) count (report i timer)))) None)
+    go None = refl
+    go (Some timer) = refl
 
-pub sendings-next : (n i count : ℕ) (d : Desk) → sendings_from (suc n) i count d ≡ sendings_from 1 i count d ++ sendings_from n (suc i) count d
-unfolding sendings_from
-sendings-next n i count d = split (λ timer. (step d count (report i timer)).outcome.sending) (sendings_from n (suc i) count d) (expiring_at count d.words i)
+module _ (count : ℕ) (words : List ℕ) (i : ℕ) (r : Stepped (List ℕ)) where
+  -- what the row of that timer does
+  taken : Timer → Stepped (List ℕ)
+  taken timer = stepped (made (desk_of words) count (row_taken i (get_or (records words) i blank) (row_of_timer timer)))
 
--- nothing is due: the others
-sendings-none : (n i count : ℕ) (d : Desk) → expiring_at count d.words i ≡ Nothing → sendings_from (suc n) i count d ≡ sendings_from n (suc i) count d
-unfolding sendings_from
-sendings-none n i count d e = rw e
+  is-taken : clerk_reported count words i ≡ Some r → (timer : Timer) × (r ≡ taken timer)
+  unfolding clerk_reported taken
+  is-taken = go (expiring_at count words i) refl
+    where
+      go :
+          (e : Option Timer) → expiring_at count words i ≡ e → by_timer e (λ timer. Some (stepped (step (desk_of words) count (report i timer)))) None ≡ Some r →
+          (timer : Timer) × (r ≡ taken timer)
+      go None e h = absurd (no_true (ap is_some h))
+      go (Some timer) e h =
+          let same : r ≡ stepped (step (desk_of words) count (report i timer)) = cc in
+          (timer, same ∙ ap stepped (due-step (desk_of words) count i timer e))
 
--- nothing is due: the next record stands behind
-pub turn-none :
-    (n i count : ℕ) (words : List ℕ) (l : Lent) → l.expired ≤ i → expiring_at count words (i - l.expired) ≡ Nothing →
-    clerk_onwards n (suc i) count words l ≡ clerk_onwards (suc n) i count words l
-unfolding clerk_onwards ticking
-turn-none n i count words l h e =
-    let k : suc i - l.expired ≡ suc (i - l.expired) = omega arith in
-    rw (e, k)
+  pub sends_lem :
+      (s : Option Letter) → ((timer : Timer) → s ≡ (row_taken i (get_or (records words) i blank) (row_of_timer timer)).outcome.sending) →
+      clerk_reported count words i ≡ Some r → s ≡ r.outcome.sending
+  unfolding taken
+  sends_lem s sends h =
+      let t = is-taken h in
+      sends t.0 ∙ ap (λ (q : Stepped (List ℕ)). q.outcome.sending) (sym t.1)
 
--- a record expires: the next has moved up to its place
-pub turn_one :
-    (n i count : ℕ) (words after : List ℕ) (l m : Lent) (timer : Timer) (o : Outcome) → expiring_at count words (i - l.expired) ≡ One timer →
-    answered (desk_of after) o ≡ step (desk_of words) count (report (i - l.expired) timer) → m ≡ lent_after l (expired_at i o) →
-    clerk_onwards n (suc i) count after m ≡ clerk_onwards (suc n) i count words l
-unfolding clerk_onwards ticking lent_by
-turn_one n i count words after l m timer o e stepped told =
-    let k : suc i - suc l.expired ≡ i - l.expired = omega arith in
-    rw (told, e, ← stepped, k)
+  pub does_lem :
+      (after : List ℕ) (o : Outcome) →
+      ((timer : Timer) → answered (desk_of after) o ≡ made (desk_of words) count (row_taken i (get_or (records words) i blank) (row_of_timer timer))) →
+      clerk_reported count words i ≡ Some r → r ≡ record { desk = after; outcome = o }
+  unfolding taken
+  does_lem after o does h =
+      let t = is-taken h in
+      t.1 ∙ ap stepped (sym (does t.0))
 
--- no place is left: the tick is done
-pub turns-end : (i count : ℕ) (words : List ℕ) (l : Lent) → clerk_onwards 0 i count words l ≡ tick_done words l
-unfolding clerk_onwards ticking lent_by
-turns-end i count words l = refl
+-- ---- the whole tick
 
--- ---- a tick may begin at a place before which nothing is due
-module _ (words : List ℕ) (count first : ℕ) (within : first ≤ places) (none : (j : ℕ) → j < first → expiring_at count words j ≡ Nothing) where
-  pub sendings-first : sendings (desk_of words) count ≡ sendings_from (places - first) first count (desk_of words)
-  unfolding sendings
-  sendings-first =
-      begin-at places (λ n i. sendings_from n i count (desk_of words)) (λ i. expiring_at count words i ≡ Nothing) (λ n i e. sendings-none n i count (desk_of words) e)
-      first within none
+-- the same with the desk's words for the desk
+abbrev in_words : Ticked Desk → Ticked (List ℕ)
+in_words t = record { desk = t.desk.words; expired = t.expired }
 
-  pub turns-first : (l : Lent) → l.expired ≡ 0 → clerk_onwards places 0 count words l ≡ clerk_onwards (places - first) first count words l
-  turns-first l z =
-      begin-at places (λ n i. clerk_onwards n i count words l) (λ i. expiring_at count words i ≡ Nothing)
-      (λ n i e. let k : i - l.expired ≡ i = omega (arith, z) in sym (turn-none n i count words l (omega (arith, z)) (rw k e)))
-      first within none
+same-run : (n i at count : ℕ) (d : Desk) → Tick.ticking clerk_reported n i at count d.words ≡ in_words (ticking n i at count d)
+unfolding Tick.ticking ticking clerk_reported
+same-run zero i at count d = refl
+same-run (suc n) i at count d = go (expiring_at count d.words at) refl (λ to q. same-run n (suc i) to count q)
+  where
+    go :
+        (e : Option Timer) → expiring_at count d.words at ≡ e →
+        ((to : ℕ) (q : Desk) → Tick.ticking clerk_reported n (suc i) to count q.words ≡ in_words (ticking n (suc i) to count q)) →
+        Tick.ticking clerk_reported (suc n) i at count d.words ≡ in_words (ticking (suc n) i at count d)
+    go None e others = rw e (others (suc at) d)
+    go (Some timer) e others = let after = step d count (report at timer) in rw e (ap (noted (expired_at i after.outcome)) (others at after.desk))
+
+same-sends : (n i count : ℕ) (d : Desk) → Tick.sendings_from clerk_reported n i count d.words ≡ sendings_from n i count d
+unfolding Tick.sendings_from sendings_from clerk_reported
+same-sends zero i count d = refl
+same-sends (suc n) i count d = go (expiring_at count d.words i) refl (same-sends n (suc i) count d)
+  where
+    go :
+        (e : Option Timer) → expiring_at count d.words i ≡ e → Tick.sendings_from clerk_reported n (suc i) count d.words ≡ sendings_from n (suc i) count d →
+        Tick.sendings_from clerk_reported (suc n) i count d.words ≡ sendings_from (suc n) i count d
+    go None e others = rw e others
+    go (Some timer) e others = rw e (ap (λ (rest : List (Option Letter)). (step d count (report i timer)).outcome.sending ∷ rest) others)
+
+pub same_tick : (count : ℕ) (words out : List ℕ) → Tick.tick_of (λ (w : List ℕ). w) clerk_reported places count words out ≡ clerk_ticked words count out
+unfolding Tick.tick_of clerk_ticked ticked sendings
+same_tick count words out = rw (same-run places 0 0 count (desk_of words), same-sends places 0 count (desk_of words))

@@ -1,3 +1,3 @@
-pub mod Places
+pub mod TickLaws
 pub mod ClerkLaws
 pub mod LineLaws

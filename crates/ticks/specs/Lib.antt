@@ -1,3 +1,4 @@
 pub mod Turn
+pub mod Tick
 pub mod Clerk
 pub mod Line

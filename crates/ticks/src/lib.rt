@@ -4,18 +4,20 @@
 
 pub mod clerk_tick;
 pub mod line_tick;
+pub mod ticking;
 
-ghost use Rattle.std.specs.Prelude.{◌≡◌, [], ◌∷◌, ◌+◌, length, leb};
+ghost use Rattle.std.specs.Prelude.{◌≡◌, [], ◌∷◌, ◌+◌, length, leb, Ok, Err};
 ghost use Rattle.lists.specs.Choice.{pick};
-ghost use Rattle.writer.specs.declared.Written.TheVariants.{Wrote, Refused};
+ghost use Rattle.message.specs.declared.refusal.Refusal.TheVariants.{NoRoom};
 ghost use Rattle.desk.specs.Ticked.{expired_at};
 ghost use Rattle.told.specs.Ticking.{end_of, wrote, lent_after};
 ghost use Rattle.ticks.specs.Turn.{lent_of};
 
-use desk::outcome::{Outcome, Sending};
+use desk::letter::Letter;
+use desk::outcome::Outcome;
+use message::refusal::Refusal;
 use told::send;
 use told::ticking::{TOLD, tell_expiry};
-use writer::Written;
 
 // How far a tick has come: how many bytes are written, and how many records expired.
 #[derive(Clone, Copy)]
@@ -28,43 +30,38 @@ pub struct Counted {
 const LONGEST: usize = 54;
 
 // Where so many bytes behind a place of the buffer end; 12 where there is no room for them.
-fn end_within(out: &[u8], end: usize, n: usize) -> Written
-    ensures { result ≡ pick (leb (end + n) (length out.now)) (Wrote (end + n)) (Refused 12) }
+fn end_within(out: &[u8], end: usize, n: usize) -> Result<usize, Refusal>
+    ensures { result ≡ pick (leb (end + n) (length out.now)) (Ok (end + n)) (Err NoRoom) }
 {
     if out.len() < end {
-        return Written::Refused(12);
+        return Err(Refusal::NoRoom);
     }
     if out.len() - end < n {
-        return Written::Refused(12);
+        return Err(Refusal::NoRoom);
     }
-    Written::Wrote(end + n)
+    Ok(end + n)
 }
 
 // Where something that is sent would end, behind what ends at a place of the buffer; or the writer's refusal. It is written aside to learn its size: were the writer's test of
 // room a function that is called here too, LLVM would inline it into neither caller, and every message written would cost 30 instructions more.
 #[tactic(auto, unfolding(told::specs::Ticking::end_of, told::specs::Told::sent_written))]
-pub fn end_behind(out: &[u8], end: usize, sending: Sending) -> Written
+pub fn end_behind(out: &[u8], end: usize, sending: Option<Letter>) -> Result<usize, Refusal>
     ensures { result ≡ end_of out.now end (sending ∷ []) }
 {
     match sending {
-        Sending::Nothing => Written::Wrote(end),
-        Sending::Send(_) => {
+        None => Ok(end),
+        Some(_) => {
             let mut aside = [0u8; LONGEST];
-            match send(&mut aside, 0, sending) {
-                Written::Refused(number) => Written::Refused(number),
-                Written::Wrote(n) => end_within(out, end, n),
-            }
+            let n = send(&mut aside, 0, sending)?;
+            end_within(out, end, n)
         }
     }
 }
 
-fn bytes_of(written: Written) -> usize
+fn bytes_of(written: Result<usize, Refusal>) -> usize
     ensures { result ≡ wrote written }
 {
-    match written {
-        Written::Refused(_) => 0,
-        Written::Wrote(n) => n,
-    }
+    written.unwrap_or(0)
 }
 
 // The next record that expired: its message behind those that are written, and its numbers; how many bytes its message has.

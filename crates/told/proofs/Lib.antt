@@ -1,1 +1,2 @@
 pub mod TickingLaws
+pub mod RefusalLaws

@@ -1,21 +1,21 @@
 -- What a host is told of a tick (document 02, Ask 6): the messages of the records that expired, one behind the other at the front of a lent buffer, and the rest as plain numbers.
-use Rattle.std.specs.Prelude.{ℕ, suc, ◌+◌, ◌*◌, List, [], ◌∷◌, set, replicate}
+use Rattle.desk.specs.declared.letter.Letter.{Letter}
+use Rattle.std.specs.Prelude.{ℕ, suc, ◌+◌, ◌*◌, List, [], ◌∷◌, set, replicate, Option, Result, Ok, Err}
 use Rattle.terms.specs.Codes.{flag_code}
 use Rattle.desk.specs.Ticked.{Expiry}
-use Rattle.desk.specs.declared.outcome.Sending.{Sending}
-use Rattle.writer.specs.declared.Written.{Written}
-use Rattle.writer.specs.declared.Written.TheVariants.{Wrote, Refused}
+use Rattle.message.specs.Refusals.{refusal_number}
+use Rattle.message.specs.declared.refusal.Refusal.{Refusal}
 use Rattle.told.specs.Face.{Face, face}
 use Rattle.told.specs.Told.{notice_number, sent_written, sent_buffer}
 
 -- ---- the room, which is known before the first record goes
-abbrev pub onwards : Written → (ℕ → Written) → Written
-onwards (Wrote n) on = on n
-onwards (Refused number) on = Refused number
+abbrev pub onwards : Result ℕ Refusal → (ℕ → Result ℕ Refusal) → Result ℕ Refusal
+onwards (Ok n) on = on n
+onwards (Err refusal) on = Err refusal
 
 -- where some sendings end that are written one behind the other from a place on, or the writer's first refusal
-unfoldable pub end_of : List ℕ → ℕ → List Sending → Written
-end_of out place [] = Wrote place
+unfoldable pub end_of : List ℕ → ℕ → List (Option Letter) → Result ℕ Refusal
+end_of out place [] = Ok place
 end_of out place (s ∷ rest) = onwards (sent_written out place s) (λ n. end_of out (place + n) rest)
 
 -- ---- what is lent, as records expire: the buffer with so many bytes written, and the numbers with so many records told
@@ -25,9 +25,9 @@ pub record Lent : Type 0 where
   pub told : List ℕ
   pub expired : ℕ
 
-abbrev pub wrote : Written → ℕ
-wrote (Wrote n) = n
-wrote (Refused number) = 0
+abbrev pub wrote : Result ℕ Refusal → ℕ
+wrote (Ok n) = n
+wrote (Err refusal) = 0
 
 -- four numbers of an expired record: its place before the tick, its notice, whether to clear its call, and how many bytes its message has
 abbrev pub expiry_told : List ℕ → ℕ → Expiry → ℕ → List ℕ
@@ -54,10 +54,10 @@ no_numbers = replicate (3 + 4 * 32) 0
 abbrev pub tick_done : List ℕ → Lent → Face
 tick_done after l = face after l.out (set (set l.told 1 l.length) 2 l.expired) 0
 
-abbrev pub tick_refused : List ℕ → List ℕ → ℕ → Face
-tick_refused words out number = face words out (set no_numbers 0 number) number
+abbrev pub tick_refused : List ℕ → List ℕ → Refusal → Face
+tick_refused words out refusal = face words out (set no_numbers 0 (refusal_number refusal)) (refusal_number refusal)
 
 -- a tick that makes of `words` the words `after`: done if all that it sends has room, and else nothing changes
-abbrev pub tick_face : Written → List ℕ → List ℕ → List ℕ → List Expiry → Face
-tick_face (Wrote end) words out after expired = tick_done after (lent_by (record { out = out; length = 0; told = no_numbers; expired = 0 }) expired)
-tick_face (Refused number) words out after expired = tick_refused words out number
+abbrev pub tick_face : Result ℕ Refusal → List ℕ → List ℕ → List ℕ → List Expiry → Face
+tick_face (Ok end) words out after expired = tick_done after (lent_by (record { out = out; length = 0; told = no_numbers; expired = 0 }) expired)
+tick_face (Err refusal) words out after expired = tick_refused words out refusal

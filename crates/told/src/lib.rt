@@ -8,40 +8,28 @@ pub mod ticking;
 
 ghost use Rattle.std.specs.Prelude.{◌≡◌, ◌≤◌};
 ghost use Rattle.lists.specs.Choice.{pick};
-ghost use Rattle.told.specs.Told.{timers_number, notice_number, is_place, place_number, sent_written, sent_buffer, told_of, told_refused};
+ghost use Rattle.message.specs.Refusals.{refusal_number};
+ghost use Rattle.told.specs.Told.{timers_number, notice_number, is_place, place_number, refusal_told, sent_written, sent_buffer, told_of, told_refused};
 
-use desk::letter::message_of;
-use desk::outcome::{Notice, Outcome, Sending, Timers};
-use lists::Found;
+use desk::letter::{Letter, message_of};
+use desk::outcome::{Notice, Outcome, Timers};
+use message::refusal::Refusal;
 use terms::codes::flag_code;
-use writer::Written;
 
-// How many numbers a host is told of an outcome.
+// How many numbers a host is told of an outcome: by position, as they stand in C's struct tollherring_outcome.
 pub const TOLD: usize = 11;
-
-// A bit of a sum.
-fn bit(choice: bool, value: u64) -> u64
-    requires { value ≤ 8 }
-    ensures { (result ≡ pick choice value 0) × (result ≤ 8) }
-{
-    if choice {
-        return value;
-    }
-    0
-}
 
 // Timers as a sum: T1 1, T2 2, T3 4, guard 8.
 pub fn timers_number(timers: Timers) -> u64
     ensures { result ≡ timers_number timers }
 {
-    let t1 = bit(timers.t1, 1);
-    let t2 = bit(timers.t2, 2);
-    let t3 = bit(timers.t3, 4);
-    let guard = bit(timers.guard, 8);
-    t1 + t2 + t3 + guard
+    u64::from(timers.t1)
+        + 2 * u64::from(timers.t2)
+        + 4 * u64::from(timers.t3)
+        + 8 * u64::from(timers.guard)
 }
 
-// A notice by its number, 0 for none.
+// A notice by its number, 0 for none. By a match and not by `as`: C has these numbers, whatever the order in which the desk's enum has its names.
 pub fn notice_number(notice: Notice) -> u64
     ensures { result ≡ notice_number notice }
 {
@@ -61,32 +49,36 @@ pub fn notice_number(notice: Notice) -> u64
 }
 
 // A place as two numbers: 1 and the place, or 0 and 0 where there is none.
-pub fn is_place(found: Found) -> u64
+pub fn is_place(found: Option<usize>) -> u64
     ensures { result ≡ is_place found }
 {
-    match found {
-        Found::At(place) => 1,
-        Found::Nothing => 0,
-    }
+    u64::from(found.is_some())
 }
 
-pub fn place_number(found: Found) -> u64
+pub fn place_number(found: Option<usize>) -> u64
     ensures { result ≡ place_number found }
 {
-    match found {
-        Found::At(place) => place as u64,
-        Found::Nothing => 0,
+    found.unwrap_or(0) as u64
+}
+
+// A refusal by its number, 0 for none.
+pub fn refusal_told(refusal: Option<Refusal>) -> u64
+    ensures { result ≡ refusal_told refusal }
+{
+    match refusal {
+        None => 0,
+        Some(refusal) => u8::from(refusal) as u64,
     }
 }
 
 // What is sent, at a place of a buffer: how many bytes, 0 where nothing is sent; or the writer's refusal, and the buffer stays as it was.
 #[tactic(auto, unfolding(crate::specs::Told::sent_written, crate::specs::Told::sent_buffer))]
-pub fn send(out: &mut [u8], place: usize, sending: Sending) -> Written
+pub fn send(out: &mut [u8], place: usize, sending: Option<Letter>) -> Result<usize, Refusal>
     ensures { (result ≡ sent_written out.old place sending) × (out.new ≡ sent_buffer out.old place sending) }
 {
     match sending {
-        Sending::Nothing => Written::Wrote(0),
-        Sending::Send(l) => {
+        None => Ok(0),
+        Some(l) => {
             let m = message_of(l);
             writer::write(out, place, m)
         }
@@ -108,7 +100,7 @@ pub fn tell(told: &mut [u64; TOLD], outcome: Outcome, length: usize, next: usize
     let about = is_place(at);
     let place = place_number(at);
     *told = [
-        outcome.refusal as u64,
+        refusal_told(outcome.refusal),
         length as u64,
         next as u64,
         started,
@@ -123,12 +115,12 @@ pub fn tell(told: &mut [u64; TOLD], outcome: Outcome, length: usize, next: usize
 }
 
 // A refusal that is the face's own: nothing was done, nothing is sent and nothing is read. Of bytes that cannot be read, the place of the fault is told.
-pub fn refuse(told: &mut [u64; TOLD], number: u8, fault: Found) -> u64
-    ensures { (result ≡ number) × (told.new ≡ told_refused number fault) }
+pub fn refuse(told: &mut [u64; TOLD], refusal: Refusal, fault: Option<usize>) -> u64
+    ensures { (result ≡ refusal_number refusal) × (told.new ≡ told_refused refusal fault) }
 {
-    let refusal = number as u64;
+    let number = refusal_told(Some(refusal));
     let unread = is_place(fault);
     let place = place_number(fault);
-    *told = [refusal, 0, 0, 0, 0, 0, 0, unread, place, 0, 0];
-    refusal
+    *told = [number, 0, 0, 0, 0, 0, 0, unread, place, 0, 0];
+    number
 }

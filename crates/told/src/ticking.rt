@@ -11,7 +11,7 @@ use terms::codes::flag_code;
 // No desk has more records.
 const MOST: usize = 32;
 
-// How many numbers a host is told of a tick.
+// How many numbers a host is told of a tick: by position, as they stand in C's struct tollherring_ticked.
 pub const TOLD: usize = 3 + 4 * MOST;
 
 // How many numbers there are; of a lent array nothing but its slice says it.

@@ -5,14 +5,12 @@ ghost use Rattle.ticks.specs.Clerk.{clerk_ticked};
 ghost use Rattle.tollherring.specs.Clerk.{clerk_started_words, clerk_started_answer, clerk_entered, clerk_asked, clerk_received, clerk_acted, clerk_reported};
 
 use crate::clerk_step::step_in;
-use clerk::entry::Entry;
 use clerk::start::{Lengths, start};
 use clerk_records::WORDS;
 use host_numbers::given::{ask_given, clerk_act_given, clerk_bytes_given, timer_given};
 use host_numbers::identifiers::BYTES;
-use lists::Found;
 use ticks::clerk_tick::clerk_tick;
-use told::{TOLD, refuse, ticking};
+use told::{TOLD, refusal_told, refuse, ticking};
 
 // An empty desk, with the lengths of its timers in seconds: 2, and then the words stay as they were.
 #[tactic(auto, unfolding(crate::specs::Clerk::clerk_started_words, crate::specs::Clerk::clerk_started_answer))]
@@ -32,13 +30,15 @@ pub fn tollherring_clerk_start(
         t3,
     });
     let outcome = step.outcome;
-    if outcome.refusal == 0 {
-        let d = step.desk;
-        let made = d.words;
-        *words = made;
-        return 0;
+    match outcome.refusal {
+        None => {
+            let d = step.desk;
+            let made = d.words;
+            *words = made;
+            0
+        }
+        Some(_) => refusal_told(outcome.refusal),
     }
-    outcome.refusal as u64
 }
 
 // User A asks to be rung back: 2, 4, 5, 12.
@@ -68,8 +68,8 @@ pub fn tollherring_clerk_ask(
         preference,
     );
     match entry {
-        Entry::Refused(number) => refuse(told, number, Found::Nothing),
-        Entry::Given(input) => step_in(words, count, input, 0, out, told),
+        Err(refusal) => refuse(told, refusal, None),
+        Ok(input) => step_in(words, count, input, 0, out, told),
     }
 }
 
@@ -90,8 +90,8 @@ pub fn tollherring_clerk_receive(
     let entry = read.entry;
     let fault = read.fault;
     match entry {
-        Entry::Refused(number) => refuse(told, number, fault),
-        Entry::Given(input) => step_in(words, count, input, read.next, out, told),
+        Err(refusal) => refuse(told, refusal, fault),
+        Ok(input) => step_in(words, count, input, read.next, out, told),
     }
 }
 
@@ -110,8 +110,8 @@ pub fn tollherring_clerk_act(
 {
     let entry = clerk_act_given(*identifier, place, act);
     match entry {
-        Entry::Refused(number) => refuse(told, number, Found::Nothing),
-        Entry::Given(input) => step_in(words, count, input, 0, out, told),
+        Err(refusal) => refuse(told, refusal, None),
+        Ok(input) => step_in(words, count, input, 0, out, told),
     }
 }
 
@@ -130,8 +130,8 @@ pub fn tollherring_clerk_report(
 {
     let entry = timer_given(*identifier, place, timer);
     match entry {
-        Entry::Refused(number) => refuse(told, number, Found::Nothing),
-        Entry::Given(input) => step_in(words, count, input, 0, out, told),
+        Err(refusal) => refuse(told, refusal, None),
+        Ok(input) => step_in(words, count, input, 0, out, told),
     }
 }
 

@@ -18,18 +18,17 @@ use clerk_records::places::{apply, put};
 use clerk_table::inputs::{Input, names_of};
 use clerk_table::record::Decision;
 use clerk_table::table::Row;
-use desk::sends::Sends;
-use lists::Found;
+use message::Body;
+use message::refusal::Refusal;
 use terms::request::Request;
-use told::{TOLD, refuse, send, tell};
-use writer::Written;
+use told::{TOLD, refusal_told, refuse, send, tell};
 
 // A refusal, with its reply: whatever the desk's words are, they stay.
 #[tactic(auto, unfolding(crate::specs::Face::faced))]
 fn refuse_in(
     input: Input,
-    refusal: u8,
-    reply: Sends,
+    refusal: Refusal,
+    reply: Option<Body>,
     next: usize,
     out: &mut [u8],
     told: &mut [u64; TOLD],
@@ -40,11 +39,11 @@ fn refuse_in(
     let outcome = plan.outcome;
     let sending = outcome.sending;
     match send(out, 0, sending) {
-        Written::Wrote(length) => {
+        Ok(length) => {
             tell(told, outcome, length, next);
-            outcome.refusal as u64
+            refusal_told(outcome.refusal)
         }
-        Written::Refused(number) => refuse(told, number, Found::Nothing),
+        Err(refusal) => refuse(told, refusal, None),
     }
 }
 
@@ -66,16 +65,16 @@ fn take_in(
     let outcome = plan.outcome;
     let sending = outcome.sending;
     match send(out, 0, sending) {
-        Written::Wrote(length) => {
+        Ok(length) => {
             let change = plan.change;
             let at = outcome.at;
             let starts = outcome.starts;
             apply(words, change);
             start_timers(words, count, at, starts);
             tell(told, outcome, length, next);
-            outcome.refusal as u64
+            refusal_told(outcome.refusal)
         }
-        Written::Refused(number) => refuse(told, number, Found::Nothing),
+        Err(refusal) => refuse(told, refusal, None),
     }
 }
 
@@ -98,15 +97,15 @@ fn store_in(
     let outcome = plan.outcome;
     let sending = outcome.sending;
     match send(out, 0, sending) {
-        Written::Wrote(length) => {
+        Ok(length) => {
             let at = outcome.at;
             let starts = outcome.starts;
             put(words, place, new_record(names, q));
             start_timers(words, count, at, starts);
             tell(told, outcome, length, next);
-            outcome.refusal as u64
+            refusal_told(outcome.refusal)
         }
-        Written::Refused(number) => refuse(told, number, Found::Nothing),
+        Err(refusal) => refuse(told, refusal, None),
     }
 }
 

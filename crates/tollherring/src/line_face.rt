@@ -2,31 +2,34 @@
 ghost use Rattle.std.specs.Prelude.{◌≡◌};
 ghost use Rattle.line.specs.Start.{started};
 ghost use Rattle.told.specs.Face.{face};
+ghost use Rattle.told.specs.Told.{refusal_told};
 ghost use Rattle.ticks.specs.Line.{line_ticked};
 ghost use Rattle.tollherring.specs.Line.{line_start_words, line_started_words, line_started_answer, line_entered, line_received, line_status_reported, line_looked, line_acted, line_guarded};
 
 use crate::line_step::step_in;
 use host_numbers::given::{guard_given, line_act_given, report_given};
 use host_numbers::identifiers::BYTES;
-use line::entry::{Entry, bytes_entry, look_entry};
+use line::entry::{bytes_entry, look_entry};
 use line::start::start;
 use line_records::WORDS;
-use lists::Found;
+use message::refusal::Refusal;
 use ticks::line_tick::line_tick;
-use told::{TOLD, refuse, ticking};
+use told::{TOLD, refusal_told, refuse, ticking};
 
 fn start_in(words: &mut [u64; WORDS], given: &[u8], keep: bool, retain: bool) -> u64
-    ensures { (result ≡ (started given.now keep retain).outcome.refusal) × (words.new ≡ line_start_words words.old given.now keep retain) }
+    ensures { (result ≡ refusal_told (started given.now keep retain).outcome.refusal) × (words.new ≡ line_start_words words.old given.now keep retain) }
 {
     let step = start(given, keep, retain);
     let outcome = step.outcome;
-    if outcome.refusal == 0 {
-        let d = step.desk;
-        let made = d.words;
-        *words = made;
-        return 0;
+    match outcome.refusal {
+        None => {
+            let d = step.desk;
+            let made = d.words;
+            *words = made;
+            0
+        }
+        Some(_) => refusal_told(outcome.refusal),
     }
-    outcome.refusal as u64
 }
 
 // A desk with its lines, all free, and its settings: 2, and then the words stay as they were.
@@ -38,9 +41,9 @@ pub fn tollherring_line_start(words: &mut [u64; WORDS], given: &[u8], keep: u64,
         if retain <= 1 {
             return start_in(words, given, keep == 1, retain == 1);
         }
-        return 2;
+        return refusal_told(Some(Refusal::OutOfRange));
     }
-    2
+    refusal_told(Some(Refusal::OutOfRange))
 }
 
 // Bytes reach the line's end: 1, 2, 3, 6, 7, 8, 12. Bytes that cannot be read have the place of the fault.
@@ -59,8 +62,8 @@ pub fn tollherring_line_receive(
     let entry = read.entry;
     let fault = read.fault;
     match entry {
-        Entry::Refused(number) => refuse(told, number, fault),
-        Entry::Given(input) => step_in(words, count, input, read.next, out, told),
+        Err(refusal) => refuse(told, refusal, fault),
+        Ok(input) => step_in(words, count, input, read.next, out, told),
     }
 }
 
@@ -78,8 +81,8 @@ pub fn tollherring_line_report(
 {
     let entry = report_given(*digits, busy);
     match entry {
-        Entry::Refused(number) => refuse(told, number, Found::Nothing),
-        Entry::Given(input) => step_in(words, count, input, 0, out, told),
+        Err(refusal) => refuse(told, refusal, None),
+        Ok(input) => step_in(words, count, input, 0, out, told),
     }
 }
 
@@ -96,8 +99,8 @@ pub fn tollherring_line_look(
 {
     let entry = look_entry(*digits);
     match entry {
-        Entry::Refused(number) => refuse(told, number, Found::Nothing),
-        Entry::Given(input) => step_in(words, count, input, 0, out, told),
+        Err(refusal) => refuse(told, refusal, None),
+        Ok(input) => step_in(words, count, input, 0, out, told),
     }
 }
 
@@ -116,8 +119,8 @@ pub fn tollherring_line_act(
 {
     let entry = line_act_given(*identifier, place, act);
     match entry {
-        Entry::Refused(number) => refuse(told, number, Found::Nothing),
-        Entry::Given(input) => step_in(words, count, input, 0, out, told),
+        Err(refusal) => refuse(told, refusal, None),
+        Ok(input) => step_in(words, count, input, 0, out, told),
     }
 }
 
@@ -135,8 +138,8 @@ pub fn tollherring_line_guard(
 {
     let entry = guard_given(*identifier, place);
     match entry {
-        Entry::Refused(number) => refuse(told, number, Found::Nothing),
-        Entry::Given(input) => step_in(words, count, input, 0, out, told),
+        Err(refusal) => refuse(told, refusal, None),
+        Ok(input) => step_in(words, count, input, 0, out, told),
     }
 }
 

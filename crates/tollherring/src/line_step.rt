@@ -13,7 +13,7 @@ ghost use Rattle.line.specs.Steps.{desk_of, made, step};
 ghost use Rattle.told.specs.Face.{face};
 ghost use Rattle.tollherring.specs.Face.{faced, WordsStay, OutStays};
 
-use desk::sends::{Sends, answer_with};
+use desk::sends::answer_with;
 use line_plan::decide::decide;
 use line_plan::{denied_plan, new_record, reported_plan, stored_plan};
 use line_records::WORDS;
@@ -24,17 +24,17 @@ use line_table::inputs::{Input, names_of};
 use line_table::record::{Decision, refused_plan};
 use line_table::step::take_row;
 use line_table::table::Row;
-use lists::Found;
+use message::Body;
+use message::refusal::Refusal;
 use terms::request::Request;
-use told::{TOLD, refuse, send, tell};
-use writer::Written;
+use told::{TOLD, refusal_told, refuse, send, tell};
 
 // A refusal, with its reply: whatever the desk's words are, they stay.
 #[tactic(auto, unfolding(crate::specs::Face::faced))]
 fn refuse_in(
     input: Input,
-    refusal: u8,
-    reply: Sends,
+    refusal: Refusal,
+    reply: Option<Body>,
     next: usize,
     out: &mut [u8],
     told: &mut [u64; TOLD],
@@ -47,11 +47,11 @@ fn refuse_in(
     let outcome = plan.outcome;
     let sending = outcome.sending;
     match send(out, 0, sending) {
-        Written::Wrote(length) => {
+        Ok(length) => {
             tell(told, outcome, length, next);
-            outcome.refusal as u64
+            refusal_told(outcome.refusal)
         }
-        Written::Refused(number) => refuse(told, number, Found::Nothing),
+        Err(refusal) => refuse(told, refusal, None),
     }
 }
 
@@ -66,11 +66,11 @@ fn deny_in(input: Input, error: u8, next: usize, out: &mut [u8], told: &mut [u64
     let outcome = plan.outcome;
     let sending = outcome.sending;
     match send(out, 0, sending) {
-        Written::Wrote(length) => {
+        Ok(length) => {
             tell(told, outcome, length, next);
-            outcome.refusal as u64
+            refusal_told(outcome.refusal)
         }
-        Written::Refused(number) => refuse(told, number, Found::Nothing),
+        Err(refusal) => refuse(told, refusal, None),
     }
 }
 
@@ -90,13 +90,13 @@ fn take_in(
     let outcome = plan.outcome;
     let sending = outcome.sending;
     match send(out, 0, sending) {
-        Written::Wrote(length) => {
+        Ok(length) => {
             let change = plan.change;
             apply(words, change);
             tell(told, outcome, length, next);
-            outcome.refusal as u64
+            refusal_told(outcome.refusal)
         }
-        Written::Refused(number) => refuse(told, number, Found::Nothing),
+        Err(refusal) => refuse(told, refusal, None),
     }
 }
 
@@ -120,15 +120,15 @@ fn store_in(
     let outcome = plan.outcome;
     let sending = outcome.sending;
     match send(out, 0, sending) {
-        Written::Wrote(length) => {
+        Ok(length) => {
             let at = outcome.at;
             let starts = outcome.starts;
             put_record(words, place, record);
             start_timers(words, count, at, starts);
             tell(told, outcome, length, next);
-            outcome.refusal as u64
+            refusal_told(outcome.refusal)
         }
-        Written::Refused(number) => refuse(told, number, Found::Nothing),
+        Err(refusal) => refuse(told, refusal, None),
     }
 }
 
@@ -150,7 +150,7 @@ fn report_in(
     let outcome = plan.outcome;
     report_line(words, place, number, busy);
     tell(told, outcome, 0, next);
-    outcome.refusal as u64
+    refusal_told(outcome.refusal)
 }
 
 // The step of an input; what was refused at the entry is told at once, without it.

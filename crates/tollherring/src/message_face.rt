@@ -6,11 +6,10 @@ ghost use Rattle.tollherring.specs.Messages.{read_face, message_read, numbers_fa
 
 use host_numbers::identifiers::{BYTES, bytes_given, identifier_told, is_given, is_identifier};
 use host_numbers::messages::{
-    BodyGiven, CarrierGiven, body_given, carrier_given, field_given, message_numbers,
-    service_given, write_message,
+    body_given, carrier_given, field_given, message_numbers, service_given, write_message,
 };
-use message::digits::PlaceRead;
-use message::{Message, Service};
+use message::Message;
+use told::refusal_told;
 
 // One message from the front of some bytes, and how many it takes: 1, 2, and then the place of the fault is written and nothing else.
 #[tactic(auto, unfolding(crate::specs::Messages::message_read))]
@@ -28,11 +27,11 @@ pub fn tollherring_message_read(
     let answer = reader::read(bytes);
     let verdict = answer.verdict;
     match verdict {
-        PlaceRead::Refused(fault) => {
+        Err(fault) => {
             *place = fault.place as u64;
-            fault.number as u64
+            refusal_told(Some(fault.refusal))
         }
-        PlaceRead::Taken(next) => {
+        Ok(next) => {
             let m = answer.message;
             let i = m.identifier;
             let a = m.numberA;
@@ -65,26 +64,22 @@ fn write_numbers(
 {
     let service = service_given(numbers[2]);
     let field = field_given(numbers[3]);
-    match body_given(numbers[0], service, field) {
-        BodyGiven::Unknown => 2,
-        BodyGiven::Body(body) => match carrier_given(numbers[1]) {
-            CarrierGiven::Unknown => 2,
-            CarrierGiven::Carrier(carrier) => {
-                let identified = is_given(identifier);
-                let bytes = bytes_given(identifier);
-                let m = Message {
-                    carrier,
-                    identified,
-                    identifier: bytes,
-                    numberA,
-                    numberB,
-                    service: Service::Is(numbers[2]),
-                    body,
-                };
-                write_message(out, place, m, written)
-            }
-        },
-    }
+    let Some(body) = body_given(numbers[0], service, field) else {
+        return 2;
+    };
+    let Some(carrier) = carrier_given(numbers[1]) else {
+        return 2;
+    };
+    let m = Message {
+        carrier,
+        identified: is_given(identifier),
+        identifier: bytes_given(identifier),
+        numberA,
+        numberB,
+        service: Some(numbers[2]),
+        body,
+    };
+    write_message(out, place, m, written)
 }
 
 // A message at a place of a buffer, and how many bytes it takes: 2, 12, and then nothing is written.

@@ -11,7 +11,7 @@ use line_records::codes::state_code as line_state_code;
 use line_records::deadlines::guard_of;
 use line_records::lines::load_line;
 use line_records::places::load as load_record;
-use lists::words::{Words, bytes_of, same_words};
+use lists::words::Words;
 use terms::codes::flag_code;
 
 // The record at a place of the clerk's desk: 6 if there is none.
@@ -65,7 +65,7 @@ pub fn tollherring_line_record(
 }
 
 // The line at a place, its kinds and whether it is busy: 10 if there is none.
-#[tactic(auto, unfolding(crate::specs::Shown::line_at_shown))]
+#[tactic(auto, unfolding(crate::specs::Shown::line_at_shown, lists::specs::Words::same_words))]
 pub fn tollherring_line_at(
     words: &[u64; line_records::WORDS],
     place: u64,
@@ -75,11 +75,10 @@ pub fn tollherring_line_at(
     ensures { shown_line number.new status.new result ≡ line_at_shown words.now place number.old status.old }
 {
     let line = load_line(words, place as usize);
-    let own = line.number;
-    if same_words(own, Words { low: 0, high: 0 }) {
+    if line.number == (Words { low: 0, high: 0 }) {
         return 10;
     }
-    *number = bytes_of(own);
+    *number = <[u8; 16]>::from(line.number);
     let kinds = kinds_number(line);
     let busy = flag_code(line.busy);
     *status = [kinds, busy];

@@ -1,4 +1,5 @@
 -- Whatever the reader takes is exactly the bytes that the writer makes of the message: each field's bytes, put together along a cursor.
+use Rattle.std.specs.Prelude.{Some, None}
 use Prim.Native.Nat.{ℕ, ◌+◌, ◌≤◌, ◌<◌}
 use mathlib.Core.Path.{◌≡◌, refl, sym, ◌∙◌, ap}
 use mathlib.Core.Bool.{Bool, true, false}
@@ -21,10 +22,9 @@ use Rattle.message.specs.declared.Kind.{Kind}
 use Rattle.message.specs.declared.Kind.TheVariants.{Ccbs, Ccnr}
 use Rattle.message.specs.declared.Body.{Body}
 use Rattle.message.specs.declared.Body.TheVariants.{RequestResult, RequestError, CcExecPossible, CcRingout, RingoutError, CcSuspend, CcResume, CcCancel, CallAlerts, CallFailed}
-use Rattle.message.specs.declared.Service.TheVariants.{Absent, Is}
 use Rattle.message.specs.declared.Fault.{Fault}
 use Rattle.message.specs.declared.Message.{Message}
-use Rattle.message.proofs.Reading.{never-took, then_elim}
+use Rattle.message.proofs.Reading.{never-took, took_same, then_elim}
 use Rattle.message.proofs.NumberLaws.{field-read}
 use Rattle.message.proofs.NumberBack.{number-canonical, field-canonical, byte-canonical, digits-canonical}
 use Rattle.message.proofs.IdentifierLaws.{identified-read}
@@ -47,7 +47,7 @@ not_well type carrier s at x f n e = absurd (never-took e)
 
 well_moved :
     (type : ℕ) (carrier : Carrier) (s : List ℕ) (at : ℕ) (f g : Fields) (n m : ℕ) → took f n ≡ took g m → Read-well type carrier s at f n → Read-well type carrier s at g m
-well_moved type carrier s at f g n m e w = let qf : f ≡ g = cc in let qn : n ≡ m = cc in rw (← qf, ← qn) w
+well_moved type carrier s at f g n m e w = let q = took_same e in rw (← q.0, ← q.1) w
 
 -- a body without elements whose fields are the bytes between two places, whatever numbers of digits stand beside it
 plain_well :
@@ -107,7 +107,7 @@ request_well type carrier kind s at byte typed =
     let ranged : request_in_range a b service flags ≡ true = rw (ca.1.0, cb.1.0, lt-ltb service 16384 cs.0, lt-ltb flags 6 (omega (arith, rf.most))) in
     let g : request_bytes a b service flags ++ drop nf s ≡ A ++ (B ++ (N ++ (F ++ drop nf s))) = append_assoc A (B ++ (N ++ F)) (drop nf s) ∙ ap (λ (t : List ℕ). A ++ t) (append_assoc B (N ++ F) (drop nf s) ∙ ap (λ (t : List ℕ). B ++ t) (append_assoc N F (drop nf s))) in
     let whole : drop at s ≡ request_bytes a b service flags ++ drop nf s = rw g (ca.1.1 ∙ ap (λ (t : List ℕ). A ++ t) (cb.1.1 ∙ ap (λ (t : List ℕ). B ++ t) (cs.1 ∙ ap (λ (t : List ℕ). N ++ t) cf.1))) in
-    well_moved type carrier s at (record { behindA = na; behindB = nb; service = Absent; body = request_body kind service flags }) f nf n e
+    well_moved type carrier s at (record { behindA = na; behindB = nb; service = None; body = request_body kind service flags }) f nf n e
     (record {
       typed = typed service flags;
       sixteen_a = ca.0;
@@ -135,11 +135,11 @@ elements_well type carrier body s at byte has typed =
     let B = digits_bytes b in
     let N = number_bytes service in
     let few = (digits-few b 1 cb.1.0).0 in
-    let ranged : elements_in_range a b (Is service) ≡ true = rw (ca.1.0, digits-other b 1 0 cb.1.0 (omega arith), lt-ltb service 16384 cs.0) in
-    let full : elements_complete b (Is service) ≡ true = rw (lt-ltb 0 _ few) in
+    let ranged : elements_in_range a b (Some service) ≡ true = rw (ca.1.0, digits-other b 1 0 cb.1.0 (omega arith), lt-ltb service 16384 cs.0) in
+    let full : elements_complete b (Some service) ≡ true = rw (lt-ltb 0 _ few) in
     let g : (A ++ (B ++ N)) ++ drop ns s ≡ A ++ (B ++ (N ++ drop ns s)) = append_assoc A (B ++ N) (drop ns s) ∙ ap (λ (t : List ℕ). A ++ t) (append_assoc B N (drop ns s)) in
     let whole : drop at s ≡ (A ++ (B ++ N)) ++ drop ns s = rw g (ca.1.1 ∙ ap (λ (t : List ℕ). A ++ t) (cb.1.1 ∙ ap (λ (t : List ℕ). B ++ t) cs.1)) in
-    well_moved type carrier s at (record { behindA = na; behindB = nb; service = Is service; body = body }) f ns n e
+    well_moved type carrier s at (record { behindA = na; behindB = nb; service = Some service; body = body }) f ns n e
     (record {
       typed = typed;
       sixteen_a = ca.0;
@@ -206,15 +206,14 @@ identifier_shape :
 unfolding identifier_at
 identifier_shape true s from identifier next e =
     let p = pick-else (ltb (length s) (from + 16)) (ended_in s) _ _ never-took e in
-    let q = p.1 in
+    let q = took_same p.1 in
     let room = ltb-false (length s) (from + 16) p.0 in
-    let is : take 16 (drop from s) ≡ identifier = cc in
-    let at : from + 16 ≡ next = cc in
+    let is = q.0 in
+    let at = q.1 in
     (rw (← is) (length-take-le 16 (drop from s) (omega (arith, length-drop from s))), rw (← is, ← at, ← drop-drop 16 from s, take-append-drop 16 (drop from s)))
 identifier_shape false s from identifier next e =
-    let is : replicate 16 0 ≡ identifier = cc in
-    let at : from ≡ next = cc in
-    (rw (← is), rw (← at))
+    let q = took_same e in
+    (rw (← q.0), rw (← q.1))
 
 head-canonical :
     (s : List ℕ) (at type number : ℕ) (carrier : Carrier) → Bytes s → s ≡ type ∷ number ∷ drop at s → carrier_number carrier ≡ number → 1 ≤ type → type ≤ 12 →
@@ -230,15 +229,14 @@ head-canonical s at type number carrier byte head is lo hi =
     let M = message_with carrier identified identifier s next f in
     let I = identifier_bytes identified identifier in
     let F = fields_of M in
-    let qm : M ≡ m = cc in
-    let qn : behind ≡ n = cc in
+    let q = took_same e in
     let shape = identifier_shape identified s from identifier next ei in
     let long = number-canonical s at (pick identified 16 0) from byte (identified-read s at identified from ed) in
     let w = fields_well type carrier s next byte lo hi f behind ef in
     let rest : drop at s ≡ (I ++ F) ++ drop behind s =
     long.1.1 ∙ shape.1 ∙ ap (λ (t : List ℕ). I ++ t) (w.bytes identified identifier) ∙ sym (append_assoc I F (drop behind s)) in
     let bytes : message_bytes M ≡ type ∷ number ∷ (I ++ F) = rw (message-bytes M, w.typed, is) in
-    rw (← qm, ← qn)
+    rw (← q.0, ← q.1)
     (record {
       formed = record { identifier = shape.0; numberA = w.sixteen_a; numberB = w.sixteen_b };
       ranged = w.ranged identified identifier;

@@ -15,6 +15,7 @@ use Rattle.message.specs.Wire.{message_at}
 use Rattle.message.specs.declared.Body.{Body}
 use Rattle.message.specs.declared.Body.TheVariants.{CcbsRequest, CcnrRequest, RequestResult, RequestError, CcExecPossible, CcRingout, RingoutError, CcSuspend, CcResume, CcCancel, CallAlerts, CallFailed}
 use Rattle.message.specs.declared.Message.{Message}
+use Rattle.message.proofs.Reading.{took_same}
 use Rattle.message.proofs.RangeLaws.{request-ranged, elements-few, writable-elements, writable-fields, identifier-few, message-length}
 use Rattle.writer.specs.Write.{put_at, message_buffer}
 use Rattle.writer.specs.Claims.{WrittenReadsBack, ReadIsWritten, SameByBytes, BytesOfSame}
@@ -98,13 +99,10 @@ same_by m n p q e =
           sym (p.service h') ∙ ap (λ (x : Message). x.service) e ∙ q.service (sym has ∙ h');
     }
 
-took-first : {A : Type 0} {v w : A} {n k : ℕ} → took v n ≡ took w k → v ≡ w
-took-first e = cc
-
 pub same-by-bytes : SameByBytes
 same-by-bytes m n fm fn om on e =
     same_by m n (same-normal m fm om) (same-normal n fn on)
-    (took-first (sym (round_trip m [] fm om) ∙ ap (λ (t : List ℕ). message_at (t ++ [])) e ∙ round_trip n [] fn on))
+    (took_same (sym (round_trip m [] fm om) ∙ ap (λ (t : List ℕ). message_at (t ++ [])) e ∙ round_trip n [] fn on)).0
 
 digits_same : (a b : List ℕ) → length a ≡ 16 → length b ≡ 16 → get_or a 0 0 ≤ 15 → get_or b 0 0 ≤ 15 → digits_of a ≡ digits_of b → digits_bytes a ≡ digits_bytes b
 digits_same a b la lb ha hb e =
@@ -212,13 +210,14 @@ read-is-written s m n byte e =
     let w = canonical s byte m n e in
     let bytes = message_bytes m in
     let again : took m n ≡ took (normal m) (length bytes) = sym e ∙ ap message_at w.whole ∙ round_trip m (drop n s) w.formed w.ranged in
-    let size : n ≡ length bytes = cc in
+    let same = took_same again in
+    let size = same.1 in
     let whole = w.whole in
     let total : length s ≡ length bytes + length (drop n s) = ap length whole ∙ length-append bytes (drop n s) in
     record {
       formed = w.formed;
       ranged = w.ranged;
-      normalised = sym (took-first again);
+      normalised = sym same.0;
       bytes = ap (λ (t : List ℕ). take n t) whole ∙ take_at bytes (drop n s) n (sym size);
       ends = omega (arith, total, size);
     }

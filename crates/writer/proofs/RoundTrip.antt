@@ -1,4 +1,5 @@
 -- The reader gives back what the writer made of a message in range, in its normal form, and stops where the message ends: field by field along a cursor.
+use Rattle.std.specs.Prelude.{Option, Some, None}
 use Prim.Native.Nat.{ℕ, ◌+◌, ◌-◌, ◌≤◌}
 use mathlib.Core.Path.{◌≡◌, refl, ◌∙◌, ap}
 use mathlib.Core.Bool.{Bool, true, false}
@@ -22,8 +23,6 @@ use Rattle.message.specs.declared.Kind.{Kind}
 use Rattle.message.specs.declared.Kind.TheVariants.{Ccbs, Ccnr}
 use Rattle.message.specs.declared.Body.{Body}
 use Rattle.message.specs.declared.Body.TheVariants.{CcbsRequest, CcnrRequest, RequestResult, RequestError, CcExecPossible, CcRingout, RingoutError, CcSuspend, CcResume, CcCancel, CallAlerts, CallFailed}
-use Rattle.message.specs.declared.Service.{Service}
-use Rattle.message.specs.declared.Service.TheVariants.{Absent, Is}
 use Rattle.message.specs.declared.Message.{Message}
 use Rattle.message.proofs.NumberBack.{number-back, field_back, byte-back, digits-back}
 use Rattle.message.proofs.RangeLaws.{request-ranged, error-ranged, small_bytes, type-range, carrier-range, numbers-ranged, never-absent, writable-elements, writable-fields, identifier-length, message-bytes, message-length}
@@ -43,7 +42,7 @@ between_none s at = let k : at - at ≡ 0 = omega arith in rw k
 
 module _ (carrier : Carrier) (identified : Bool) (identifier s rest : List ℕ) (at : ℕ) where
   -- a message with numbers of digits, and one without
-  abbrev numbered : List ℕ → List ℕ → Service → Body → Message
+  abbrev numbered : List ℕ → List ℕ → Option ℕ → Body → Message
   numbered a b service body =
       record {
         carrier = carrier;
@@ -59,7 +58,7 @@ module _ (carrier : Carrier) (identified : Bool) (identifier s rest : List ℕ) 
   request-back :
       (kind : Kind) (a b : List ℕ) (service flags : ℕ) → length a ≡ 16 → length b ≡ 16 → request_in_range a b service flags ≡ true →
       drop at s ≡ request_bytes a b service flags ++ rest →
-      made carrier identified identifier s at (request_at kind s at) ≡ took (numbered a b Absent (request_body kind service flags)) (at + length (request_bytes a b service flags))
+      made carrier identified identifier s at (request_at kind s at) ≡ took (numbered a b None (request_body kind service flags)) (at + length (request_bytes a b service flags))
   unfolding request_at request_tail
   request-back kind a b service flags la lb ok e =
       let r = request-ranged a b service flags ok in
@@ -86,12 +85,12 @@ module _ (carrier : Carrier) (identified : Bool) (identifier s rest : List ℕ) 
 
   -- elements
   elements-back :
-      (body : Body) (a b : List ℕ) (service : Service) → length a ≡ 16 → length b ≡ 16 → elements_in_range a b service ≡ true → elements_complete b service ≡ true →
+      (body : Body) (a b : List ℕ) (service : Option ℕ) → length a ≡ 16 → length b ≡ 16 → elements_in_range a b service ≡ true → elements_complete b service ≡ true →
       drop at s ≡ element_bytes a b service ++ rest →
       made carrier identified identifier s at (elements_at body s at) ≡ took (numbered a b service body) (at + length (element_bytes a b service))
   unfolding elements_at elements_tail
-  elements-back body a b Absent la lb ok full e = absurd (never-absent b full)
-  elements-back body a b (Is service) la lb ok full e =
+  elements-back body a b None la lb ok full e = absurd (never-absent b full)
+  elements-back body a b (Some service) la lb ok full e =
       let r = numbers-ranged a b service ok full in
       let A = digits_bytes a in
       let B = digits_bytes b in
@@ -137,7 +136,7 @@ module _ (carrier : Carrier) (identified : Bool) (identifier s rest : List ℕ) 
         identifier = identifier;
         numberA = for_request body (sixteen (digits_bytes a)) (replicate 16 0);
         numberB = for_request body (sixteen (digits_bytes b)) (replicate 16 0);
-        service = Absent;
+        service = None;
         body = body;
       })
       (at + length (field_bytes a b body))

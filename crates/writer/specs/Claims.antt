@@ -1,5 +1,5 @@
 -- Demand 2 for the wire: "A written message reads back equal; bytes that are read are those the writer makes." Each claim is a type; its proof has its name.
-use Rattle.std.specs.Prelude.{ℕ, ◌+◌, ◌≤◌, ◌≡◌, true, List, length, take, drop}
+use Rattle.std.specs.Prelude.{ℕ, ◌+◌, ◌≤◌, ◌≡◌, true, List, length, take, drop, Ok}
 use Rattle.lists.specs.Words.{Bytes}
 use Rattle.message.specs.Reading.{took}
 use Rattle.message.specs.Format.{writable, message_bytes}
@@ -7,7 +7,6 @@ use Rattle.message.specs.Equality.{Same, Formed, normal}
 use Rattle.message.specs.Wire.{message_at}
 use Rattle.message.specs.declared.Message.{Message}
 use Rattle.writer.specs.Write.{message_written, message_buffer}
-use Rattle.writer.specs.declared.Written.TheVariants.{Wrote}
 
 -- a message that was written into a buffer, wherever it stands there and whatever follows it
 pub record Back (buffer : List ℕ) (place : ℕ) (m : Message) (n : ℕ) : Type 0 where
@@ -22,7 +21,7 @@ pub record Back (buffer : List ℕ) (place : ℕ) (m : Message) (n : ℕ) : Type
   pub behind : drop (place + n) (message_buffer buffer place m) ≡ drop (place + n) buffer
 
 abbrev pub WrittenReadsBack : Type 0
-WrittenReadsBack = (buffer : List ℕ) (place : ℕ) (m : Message) (n : ℕ) → Formed m → message_written buffer place m ≡ Wrote n → Back buffer place m n
+WrittenReadsBack = (buffer : List ℕ) (place : ℕ) (m : Message) (n : ℕ) → Formed m → message_written buffer place m ≡ Ok n → Back buffer place m n
 
 -- a message that was read from some bytes
 pub record Canonical (s : List ℕ) (m : Message) (n : ℕ) : Type 0 where

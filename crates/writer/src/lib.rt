@@ -9,26 +9,12 @@ ghost use Rattle.lists.specs.Choice.{pick};
 ghost use Rattle.lists.specs.Parts.{over};
 ghost use Rattle.message.specs.Number.{number_bytes, digits_bytes};
 ghost use Rattle.message.specs.Format.{request_in_range, error_in_range, fields_in_range, elements_in_range, elements_complete, writable, identifier_bytes, request_bytes, element_bytes, field_bytes, fields_of, message_bytes};
-ghost use Rattle.message.specs.declared.Service.TheVariants.{Is};
 ghost use Rattle.writer.specs.Write.{bytes_sized, elements_writable, number_written, number_buffer, message_written, message_buffer};
 
 use crate::numbers::{carrier_number, type_number};
 use message::range::{elements_in_range, request_in_range};
-use message::{Body, Message, Service, has_elements};
-
-// How many bytes were written, or a refusal by its number in document 01.
-#[derive(Clone, Copy)]
-pub enum Written {
-    Wrote(usize),
-    Refused(u8),
-}
-
-// How many bytes some fields take, or that they can't be written. Range and size are found together, so that a message is taken apart once for both.
-#[derive(Clone, Copy)]
-enum Sized {
-    Wrong,
-    Takes(usize),
-}
+use message::refusal::Refusal;
+use message::{Body, Message, has_elements};
 
 // The first bytes of a run, at the front of a buffer that has room for them.
 fn put_bytes(d: &mut [u8], bytes: &[u8], count: usize)
@@ -66,19 +52,19 @@ fn number_size(v: u16) -> usize
     2
 }
 
-// A number in groups of seven bits, at the front of a buffer.
+// A number in groups of seven bits, at the front of a buffer: how many bytes were written, or a refusal.
 #[tactic(auto, unfolding(crate::specs::Write::number_written, crate::specs::Write::number_buffer))]
-pub fn write_number(d: &mut [u8], v: u16) -> Written
+pub fn write_number(d: &mut [u8], v: u16) -> Result<usize, Refusal>
     ensures { (result ≡ number_written d.old v) × (d.new ≡ number_buffer d.old v) }
 {
     if v < 16384 {
         if d.len() < number_size(v) {
-            return Written::Refused(12);
+            return Err(Refusal::NoRoom);
         }
         let size = put_number(d, v);
-        return Written::Wrote(size);
+        return Ok(size);
     }
-    Written::Refused(2)
+    Err(Refusal::OutOfRange)
 }
 
 // A number of digits at the front of a buffer that has room for it; its length.
@@ -94,8 +80,8 @@ fn put_digits(d: &mut [u8], number: [u8; 16]) -> usize
 // Two numbers of digits and a service at the front of a buffer that has room for them; their length.
 #[tactic(auto, using(lists::proofs::Parts::tail_of_lem))]
 fn put_numbers(d: &mut [u8], a: [u8; 16], b: [u8; 16], service: u16) -> usize
-    requires { ((get_or a 0 0 ≤ 15) × ((get_or b 0 0 ≤ 15) × (service < 16384))) × (length (element_bytes a b (Is service)) ≤ length d.old) }
-    ensures { (result ≡ length (element_bytes a b (Is service))) × (d.new ≡ over (element_bytes a b (Is service)) d.old) }
+    requires { ((get_or a 0 0 ≤ 15) × ((get_or b 0 0 ≤ 15) × (service < 16384))) × (length (element_bytes a b (Some service)) ≤ length d.old) }
+    ensures { (result ≡ length (element_bytes a b (Some service))) × (d.new ≡ over (element_bytes a b (Some service)) d.old) }
 {
     let behindA = put_digits(d, a);
     let behindB = behindA + put_digits(&mut d[behindA..], b);
@@ -112,13 +98,13 @@ fn put_request(d: &mut [u8], a: [u8; 16], b: [u8; 16], service: u16, flags: u8)
 }
 
 // Elements at the front of a buffer that has room for them.
-fn put_elements(d: &mut [u8], a: [u8; 16], b: [u8; 16], service: Service)
+fn put_elements(d: &mut [u8], a: [u8; 16], b: [u8; 16], service: Option<u64>)
     requires { ((elements_in_range a b service ≡ true) × (elements_complete b service ≡ true)) × (length (element_bytes a b service) ≤ length d.old) }
     ensures { d.new ≡ over (element_bytes a b service) d.old }
 {
     match service {
-        Service::Absent => {}
-        Service::Is(n) => {
+        None => {}
+        Some(n) => {
             put_numbers(d, a, b, n as u16);
         }
     }
@@ -207,64 +193,56 @@ fn put_message(d: &mut [u8], m: Message)
 // How many bytes two numbers of digits and a service take.
 fn numbers_size(a: [u8; 16], b: [u8; 16], service: u16) -> usize
     requires { (get_or a 0 0 ≤ 15) × (get_or b 0 0 ≤ 15) }
-    ensures { result ≡ length (element_bytes a b (Is service)) }
+    ensures { result ≡ length (element_bytes a b (Some service)) }
 {
     let digits = a[0] as usize + b[0] as usize;
     digits + number_size(service) + 2
 }
 
-// How many bytes the fields of a request take.
-fn request_sized(a: [u8; 16], b: [u8; 16], service: u16, flags: u8) -> Sized
+// How many bytes the fields of a request take; None where they can't be written. Range and size are found together, so that a message is taken apart once for both.
+fn request_sized(a: [u8; 16], b: [u8; 16], service: u16, flags: u8) -> Option<usize>
     ensures { result ≡ bytes_sized (request_in_range a b service flags) (request_bytes a b service flags) }
 {
     if request_in_range(a, b, service, flags) {
         let size = numbers_size(a, b, service) + 1;
-        return Sized::Takes(size);
+        return Some(size);
     }
-    Sized::Wrong
+    None
 }
 
 // How many bytes elements take. The bytes can't say that numberB or the service is absent.
-fn elements_sized(a: [u8; 16], b: [u8; 16], service: Service) -> Sized
+fn elements_sized(a: [u8; 16], b: [u8; 16], service: Option<u64>) -> Option<usize>
     ensures { result ≡ bytes_sized (elements_writable a b service) (element_bytes a b service) }
 {
-    if elements_in_range(a, b, service) {
-        if 0 < b[0] {
-            return match service {
-                Service::Absent => Sized::Wrong,
-                Service::Is(n) => Sized::Takes(numbers_size(a, b, n as u16)),
-            };
-        }
-        return Sized::Wrong;
+    if elements_in_range(a, b, service) && 0 < b[0] {
+        let n = service?;
+        return Some(numbers_size(a, b, n as u16));
     }
-    Sized::Wrong
+    None
 }
 
 // How many bytes a keep takes.
-fn keep_sized(keep: u8) -> Sized
+fn keep_sized(keep: u8) -> Option<usize>
     ensures { result ≡ bytes_sized (ltb keep 2) (number_bytes keep) }
 {
     if keep < 2 {
-        return Sized::Takes(1);
+        return Some(1);
     }
-    Sized::Wrong
+    None
 }
 
 // How many bytes an error takes.
-fn error_sized(error: u8) -> Sized
+fn error_sized(error: u8) -> Option<usize>
     ensures { result ≡ bytes_sized (error_in_range error) (number_bytes error) }
 {
-    if 0 < error {
-        if error < 3 {
-            return Sized::Takes(1);
-        }
-        return Sized::Wrong;
+    if 0 < error && error < 3 {
+        return Some(1);
     }
-    Sized::Wrong
+    None
 }
 
 // How many bytes the fields of a body take.
-fn fields_sized(a: [u8; 16], b: [u8; 16], body: Body) -> Sized
+fn fields_sized(a: [u8; 16], b: [u8; 16], body: Body) -> Option<usize>
     ensures { result ≡ bytes_sized (fields_in_range a b body) (field_bytes a b body) }
 {
     match body {
@@ -272,20 +250,20 @@ fn fields_sized(a: [u8; 16], b: [u8; 16], body: Body) -> Sized
         Body::CcnrRequest { service, flags } => request_sized(a, b, service, flags),
         Body::RequestResult { keep } => keep_sized(keep),
         Body::RequestError { error } => error_sized(error),
-        Body::CcExecPossible => Sized::Takes(0),
-        Body::CcRingout => Sized::Takes(0),
+        Body::CcExecPossible => Some(0),
+        Body::CcRingout => Some(0),
         Body::RingoutError { error } => error_sized(error),
-        Body::CcSuspend => Sized::Takes(0),
-        Body::CcResume => Sized::Takes(0),
-        Body::CcCancel => Sized::Takes(0),
-        Body::CallAlerts => Sized::Takes(0),
-        Body::CallFailed => Sized::Takes(0),
+        Body::CcSuspend => Some(0),
+        Body::CcResume => Some(0),
+        Body::CcCancel => Some(0),
+        Body::CallAlerts => Some(0),
+        Body::CallFailed => Some(0),
     }
 }
 
 // How many bytes stand behind the identifier.
 #[tactic(auto, unfolding(message::specs::Format::writable, message::specs::Format::in_range, message::specs::Format::complete))]
-fn behind_sized(m: Message) -> Sized
+fn behind_sized(m: Message) -> Option<usize>
     ensures { result ≡ bytes_sized (writable m) (fields_of m) }
 {
     let carrier = m.carrier;
@@ -311,20 +289,18 @@ fn head_size(identified: bool) -> usize
 
 // A message at a place of a longer buffer: its length, or refusal 2 or 12. Every other byte stays.
 #[tactic(auto, using(lists::proofs::Parts::tail_of_lem, lists::proofs::Parts::mid_tail), unfolding(crate::specs::Write::message_written, crate::specs::Write::message_buffer))]
-pub fn write(d: &mut [u8], place: usize, m: Message) -> Written
+pub fn write(d: &mut [u8], place: usize, m: Message) -> Result<usize, Refusal>
     ensures { (result ≡ message_written d.old place m) × (d.new ≡ message_buffer d.old place m) }
 {
-    let Sized::Takes(behind) = behind_sized(m) else {
-        return Written::Refused(2);
-    };
+    let behind = behind_sized(m).ok_or(Refusal::OutOfRange)?;
     if d.len() < place {
-        return Written::Refused(12);
+        return Err(Refusal::NoRoom);
     }
     let identified = m.identified;
     let size = head_size(identified) + behind;
     if d.len() - place < size {
-        return Written::Refused(12);
+        return Err(Refusal::NoRoom);
     }
     put_message(&mut d[place..], m);
-    Written::Wrote(size)
+    Ok(size)
 }

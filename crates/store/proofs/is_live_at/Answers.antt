@@ -1,23 +1,16 @@
--- Where the rows fit it is the row of the place; past the last place no words are live.
-use Prim.Native.Nat.{◌*◌}
-use mathlib.Core.List.{[]}
-use mathlib.Core.Path.{sym, ◌∙◌}
-use native.Mathlib.Omega.{arith}
-use lib.ListN.{drop}
-use Rattle.store.specs.Rows.{live, rows, live_at}
-use Rattle.store.proofs.RowsLaws.{fit_parts, rows-length, rows_at, live-take, get_d_past}
+-- The row of the place; past the last place there is none.
+use Rattle.std.proofs.Common.{sym, ◌∙◌}
+use borrow.Author.Tests.{le-ltb}
+use Rattle.store.proofs.Searches.{live_row, live_past}
 use Rattle.store.proofs.is_live_at.Goals as goal
 
-pub returns-then-i-count : goal.returns-then-i-count
-unfolding live_at
-returns-then-i-count c =
+pub returns-then-i : goal.returns-then-i
+returns-then-i g c =
     let a = c.args in
-    let fits = sym c.rows_fit.ensures ∙ c.if-rows_fit.true in
-    rw (fits, rows_at a.width a.count a.ws.now a.i [] c.if-i-count.true, live-take a.width (fit_parts _ _ _ fits).0 a.top (drop (a.i * a.width) a.ws.now))
-    c.is_live.ensures
+    let all = c.in-Some.ensures.there in
+    c.is_live.ensures ∙ sym (live_row a.top g.row.WIDTH g.row.PLACES a.ws.now c.in-Some.all.now a.i all.0 all.1 c.if-i.true)
 
-pub returns-then-rows_fit : goal.returns-then-rows_fit
-unfolding live_at live
-returns-then-rows_fit c =
+pub returns-else-i : goal.returns-else-i
+returns-else-i g c =
     let a = c.args in
-    rw (sym c.rows_fit.ensures ∙ c.if-rows_fit.true, get_d_past (rows a.width a.count a.ws.now) a.i [] (omega (arith, rows-length a.width a.count a.ws.now, c.if-i-count.false)))
+    le-ltb a.i g.row.PLACES c.if-i.false ∙ sym (live_past a.top g.row.WIDTH g.row.PLACES a.ws.now a.i c.if-i.false)

@@ -10,5 +10,5 @@ returns-then-row-ge-WIDTH c =
     let start = c.before in
     let terms = start.args.terms in
     let row = start.args.row.now in
-    rw (terms-put terms row c.if-row-ge-WIDTH.true, c.flag_code.ensures, c.is_identified.ensures, c.identifier_words-words.ensures, c.keep_code.ensures, c.connection_code.ensures, c.kind_code.ensures)
+    rw (terms-put terms row c.if-row-ge-WIDTH.true, c.flag_code.ensures, c.is_some.ensures, c.identifier_words-words.ensures, c.keep_code.ensures, c.connection_code.ensures, c.kind_code.ensures)
     (sets-eq (terms_words terms) row 0 (omega arith))

@@ -1,4 +1,5 @@
 -- The flags behind the numbers and the service.
+use Rattle.std.specs.Prelude.{Some}
 use Prim.Native.Nat.{ℕ, ◌≤◌, ◌<◌}
 use mathlib.Core.Path.{◌≡◌, ◌∙◌, ap}
 use mathlib.Core.Bool.{true}
@@ -9,7 +10,6 @@ use Rattle.lists.specs.Parts.{over}
 use Rattle.lists.proofs.Parts.{over-set}
 use Rattle.message.specs.Number.{number_bytes, digits_bytes}
 use Rattle.message.specs.Format.{request_in_range, request_bytes, element_bytes}
-use Rattle.message.specs.declared.Service.TheVariants.{Is}
 use Rattle.message.proofs.RangeLaws.{request-ranged, request-length, numbers-length, small_bytes}
 use Rattle.std.proofs.Common.{rules}
 use Rattle.writer.proofs.put_request.Goals as goal
@@ -17,7 +17,7 @@ use Rattle.writer.proofs.put_request.Goals as goal
 -- what the requires says of the room: one byte behind the numbers
 room :
     (a b : List ℕ) (service flags : ℕ) (d : List ℕ) → length a ≡ 16 → length b ≡ 16 → request_in_range a b service flags ≡ true → length (request_bytes a b service flags) ≤ length d →
-    length (element_bytes a b (Is service)) < length d
+    length (element_bytes a b (Some service)) < length d
 room a b service flags d la lb ranged whole_room =
     let r = request-ranged a b service flags ranged in
     let whole = request-length a b service flags la lb ranged in

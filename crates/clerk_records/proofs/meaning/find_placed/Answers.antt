@@ -12,11 +12,11 @@ returns-then-is_live_at c =
     let a = c.args in
     let e : used (get_or (records a.words.now) a.place blank) ≡ true =
     sym (c.is_live_at.ensures ∙ used-found a.place a.words.now (omega arith)) ∙ c.if-is_live_at.true in
-    rw (c.in-Absent.is, e)
+    rw (c.in-None.is, e)
 
 pub returns-else-is_live_at : goal.returns-else-is_live_at
 returns-else-is_live_at c =
     let a = c.args in
     let e : used (get_or (records a.words.now) a.place blank) ≡ false =
     sym (c.is_live_at.ensures ∙ used-found a.place a.words.now (omega arith)) ∙ c.if-is_live_at.false in
-    rw (c.in-Absent.is, e)
+    rw (c.in-None.is, e)

@@ -6,9 +6,9 @@ use native.Mathlib.Omega.{arith}
 use Rattle.line.proofs.EntryLaws.{read-entry}
 use Rattle.line.proofs.entry.bytes_entry.Goals as goal
 
-pub returns-in-Taken : goal.returns-in-Taken
+pub returns-in-Ok : goal.returns-in-Ok
 unfolding bytes_entry
-returns-in-Taken c =
+returns-in-Ok c =
     let s = c.args.s.now in
-    let read = answer-taken c.read-answer.result (message_at s) _ c.read-answer.ensures c.in-Taken.is in
+    let read = answer-taken c.read-answer.result (message_at s) _ c.read-answer.ensures c.in-Ok.is in
     rw (read, read-entry s _ _ _ (λ i. omega (arith, c.shared_slice_known-1.given i)) read, c.read_letter-l.ensures)

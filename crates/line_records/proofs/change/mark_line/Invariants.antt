@@ -7,6 +7,3 @@ use Rattle.line_records.proofs.change.mark_line.Given as goal
 
 abbrev pub invariant-loop-i : goal.invariant-loop-i
 invariant-loop-i l = (l.i ≤ places) × (l.words ≡ marked l.number l.i l.initial.words)
-
-abbrev pub decreases-loop-i : goal.decreases-loop-i
-decreases-loop-i l = places - l.i

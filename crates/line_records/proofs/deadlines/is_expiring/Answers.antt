@@ -11,8 +11,8 @@ returns-then-is_live_at c =
     let a = c.args in
     rw (sym (live-rows a.words.now a.i (omega arith)) ∙ sym c.is_live_at.ensures ∙ c.if-is_live_at.true, ← c.guard_of.ensures) c.is_due.ensures
 
-pub returns : goal.returns
+pub returns-else-is_live_at : goal.returns-else-is_live_at
 unfolding expiring_at
-returns c =
+returns-else-is_live_at c =
     let a = c.args in
-    rw (sym (live-rows a.words.now a.i (omega arith)) ∙ sym c.is_live_at.ensures ∙ c.if-is_live_at.false)
+    c.if-is_live_at.false ∙ rw (sym (live-rows a.words.now a.i (omega arith)) ∙ sym c.is_live_at.ensures ∙ c.if-is_live_at.false)

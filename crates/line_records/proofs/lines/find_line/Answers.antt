@@ -11,14 +11,14 @@ returns-then-has_number c =
     let a = c.args in
     let ls = lines a.words.now in
     let k = lines-length a.words.now in
-    sym (c.loop-i.invariant.1 ∙ first_hit (has_number a.number) ls c.loop-i.i no_line (omega arith) (rw c.load_line-line.ensures at (sym c.has_number.ensures ∙ c.if-has_number.true)))
+    sym (c.loop-i.invariant.1 ∙ first_hit (has_number a.number) ls c.loop-i.i no_line (omega arith) (rw c.load_line.ensures at (sym c.has_number.ensures ∙ c.if-has_number.true)))
 
 pub loop-i-preserved : goal.loop-i-preserved
 loop-i-preserved c =
     let a = c.args in
     let ls = lines a.words.now in
     let k = lines-length a.words.now in
-    (omega arith, c.loop-i.invariant.1 ∙ first_miss (has_number a.number) ls c.loop-i.i no_line (omega arith) (rw c.load_line-line.ensures at (sym c.has_number.ensures ∙ c.if-has_number.false)))
+    (omega arith, c.loop-i.invariant.1 ∙ first_miss (has_number a.number) ls c.loop-i.i no_line (omega arith) (rw c.load_line.ensures at (sym c.has_number.ensures ∙ c.if-has_number.false)))
 
 pub returns : goal.returns
 returns c =

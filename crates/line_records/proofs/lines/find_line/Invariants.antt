@@ -9,6 +9,3 @@ use Rattle.line_records.proofs.lines.find_line.Given as goal
 
 abbrev pub invariant-loop-i : goal.invariant-loop-i
 invariant-loop-i l = (l.i ≤ line_places) × (line_at l.number (lines l.words) ≡ first_from (has_number l.number) l.i (drop l.i (lines l.words)))
-
-abbrev pub decreases-loop-i : goal.decreases-loop-i
-decreases-loop-i l = line_places - l.i

@@ -17,7 +17,7 @@ loop-i-preserved c =
     let k = records-length a.words.now in
     let p = of_line a.number in
     let l = c.loop-i in
-    let told = row_told a.words.now _ l.i c.loop-i-test.true c.row_of-row.ensures.0 p c.is_of_line.ensures in
+    let told = row_told a.words.now _ l.i (omega arith) c.row_of.ensures.0 p c.is_of_line.ensures in
     elim c.if-is_of_line.branch [
       | then-is_of_line w ↦ let e = count_hit p rs l.i l.found blank (omega arith) (told true w.if-is_of_line.true) l.invariant.1.1 in
           let f = w.found-is in (omega arith, (omega arith, rw f e))

@@ -10,6 +10,3 @@ use Rattle.line_records.proofs.search.count_line.Given as goal
 
 abbrev pub invariant-loop-i : goal.invariant-loop-i
 invariant-loop-i l = (l.i ≤ places) × ((l.found ≤ l.i) × (count (of_line l.number) (records l.words) ≡ l.found + count (of_line l.number) (drop l.i (records l.words))))
-
-abbrev pub decreases-loop-i : goal.decreases-loop-i
-decreases-loop-i l = places - l.i

@@ -15,7 +15,7 @@ returns-then-is_sought c =
     let l = c.loop-i in
     let rs = records a.words.now in
     let k = records-length a.words.now in
-    sym (l.invariant.1 ∙ first_hit (passes a.sought) rs l.i blank (omega arith) (row_told a.words.now _ l.i c.loop-i-test.true c.row_of-row.ensures.0 (passes a.sought) c.is_sought.ensures true c.if-is_sought.true))
+    sym (l.invariant.1 ∙ first_hit (passes a.sought) rs l.i blank (omega arith) (row_told a.words.now _ l.i (omega arith) c.row_of.ensures.0 (passes a.sought) c.is_sought.ensures true c.if-is_sought.true))
 
 pub loop-i-preserved : goal.loop-i-preserved
 loop-i-preserved c =
@@ -23,7 +23,7 @@ loop-i-preserved c =
     let l = c.loop-i in
     let rs = records a.words.now in
     let k = records-length a.words.now in
-    (omega arith, l.invariant.1 ∙ first_miss (passes a.sought) rs l.i blank (omega arith) (row_told a.words.now _ l.i c.loop-i-test.true c.row_of-row.ensures.0 (passes a.sought) c.is_sought.ensures false c.if-is_sought.false))
+    (omega arith, l.invariant.1 ∙ first_miss (passes a.sought) rs l.i blank (omega arith) (row_told a.words.now _ l.i (omega arith) c.row_of.ensures.0 (passes a.sought) c.is_sought.ensures false c.if-is_sought.false))
 
 pub returns : goal.returns
 returns c =

@@ -10,6 +10,3 @@ use Rattle.line_records.proofs.search.find_record.Given as goal
 
 abbrev pub invariant-loop-i : goal.invariant-loop-i
 invariant-loop-i l = (l.i ≤ places) × (first (passes l.sought) (records l.words) ≡ first_from (passes l.sought) l.i (drop l.i (records l.words)))
-
-abbrev pub decreases-loop-i : goal.decreases-loop-i
-decreases-loop-i l = places - l.i

@@ -6,4 +6,4 @@ use Rattle.line_records.proofs.search.is_fitting.Goals as goal
 
 pub returns-then-is_invoked_on : goal.returns-then-is_invoked_on
 unfolding record_of
-returns-then-is_invoked_on c = rw (← c.is_invoked_on.ensures, c.if-is_invoked_on.true, c.fits_kind.ensures, c.kind_at-kind.ensures, terms-at c.args.row.now (omega arith))
+returns-then-is_invoked_on c = rw (← c.is_invoked_on.ensures, c.if-is_invoked_on.true, c.fits_kind.ensures, c.kind_at.ensures, terms-at c.args.row.now (omega arith))

@@ -20,11 +20,12 @@ returns-then-own-number c =
     (ap (λ (w : Words). eqb w.low a.number.low) own)
     (ap (λ (w : Words). eqb w.high a.number.high) (sym own) ∙ eq-eqb _ _ c.if-own-number.true)
 
-pub returns : goal.returns
+pub returns-else-own-number : goal.returns-else-own-number
 unfolding record_of same_words
-returns c =
+returns-else-own-number c =
     let a = c.args in
     let own = c.number_b_at-own.ensures ∙ ap (λ (t : Terms). t.numberB) (terms-at a.row.now (omega arith)) in
-    second-fails
+    ne_eqb _ _ c.if-own-number.false
+    ∙ second-fails
     (eqb (record_of a.row.now).terms.numberB.low a.number.low)
     (ap (λ (w : Words). eqb w.high a.number.high) (sym own) ∙ ne_eqb _ _ c.if-own-number.false)

@@ -1,9 +1,0 @@
--- The index stays within the records.
-use Rattle.std.proofs.Common.{◌≤◌, ◌-◌}
-use Rattle.replay.proofs.line_lines.print_records.Given as goal
-
-abbrev pub invariant-loop-i : goal.invariant-loop-i
-invariant-loop-i g l = l.i ≤ l.count
-
-abbrev pub decreases-loop-i : goal.decreases-loop-i
-decreases-loop-i g l = l.count - l.i

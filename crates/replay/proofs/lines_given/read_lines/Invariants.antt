@@ -1,9 +1,0 @@
--- There are no more turns than lines.
-use Rattle.std.proofs.Common.{◌≤◌, ◌-◌}
-use Rattle.replay.proofs.lines_given.read_lines.Given as goal
-
-abbrev pub invariant-loop-k : goal.invariant-loop-k
-invariant-loop-k l = l.k ≤ l.count
-
-abbrev pub decreases-loop-k : goal.decreases-loop-k
-decreases-loop-k l = l.count - l.k

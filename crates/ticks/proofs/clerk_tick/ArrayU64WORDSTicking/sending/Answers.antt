@@ -1,0 +1,6 @@
+-- What the row of that timer sends.
+use Rattle.ticks.proofs.ClerkLaws.{sends_lem}
+use Rattle.ticks.proofs.clerk_tick.ArrayU64WORDSTicking.sending.Goals as goal
+
+pub returns : goal.returns
+returns c = let a = c.args in λ count r h. sends_lem count a.self.now a.i r _ c.sending_of.ensures h
