@@ -37,7 +37,7 @@ use Rattle.clerk.specs.declared.entry.Asking.{Asking}
 abbrev pub clerk_view : View Record
 clerk_view = record { used = used; name = λ r. r.terms.identifier; blank = blank }
 
--- ---- a refusal leaves the desk as it was, and tells its number and perhaps a reply: no timer, no notice, no word to clear the call, no place
+-- ---- a refusal leaves the desk as it was, and tells which it is and perhaps a reply: no timer, no notice, no word to clear the call, no place
 abbrev pub Same : Desk → Desk → Outcome → Type 0
 Same before after outcome = (refusal : Refusal) → outcome.refusal ≡ Some refusal → (after ≡ before) × (outcome ≡ refused_with refusal outcome.sending)
 

@@ -1,5 +1,5 @@
-// What a host gives as plain numbers, made an entry of the desk: a number that stands for nothing is refused with 2, before anything else is looked at. Acts, timers and
-// choices are numbers here alone, since C's interface gives them so: each is matched once, and is an enum of the desk's tables from there on.
+// What a host gives as plain numbers, made an entry of the desk: a number that stands for nothing is refused with 2, before anything else is looked at. Acts and
+// timers are numbers here, since C's interface and a script (docs/REPLAY.md) give them so: each is matched once, and is an enum of the desk's tables from there on.
 ghost use Rattle.std.specs.Prelude.{◌≡◌};
 ghost use Rattle.host_numbers.specs.Given.{clerk_act_named, clerk_act_given, timer_named, timer_given, line_act_named, line_act_given, guard_given, report_given, ask_words, asking_of, ask_given, clerk_bytes_given};
 

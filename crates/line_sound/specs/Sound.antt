@@ -48,7 +48,7 @@ line_view = record { used = used; name = λ r. r.terms.identifier; blank = blank
 abbrev pub record_at : Desk → ℕ → Record
 record_at d i = get_or (records d.words) i blank
 
--- ---- a refusal leaves everything as it was: lines, status, settings, every place; and tells its number and perhaps a reply: no timer, no place
+-- ---- a refusal leaves everything as it was: lines, status, settings, every place; and tells which it is and perhaps a reply: no timer, no place
 abbrev pub Same : Desk → Desk → Outcome → Type 0
 Same before after outcome = (refusal : Refusal) → outcome.refusal ≡ Some refusal → (after ≡ before) × (outcome ≡ refused_with refusal outcome.sending)
 

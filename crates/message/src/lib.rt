@@ -47,7 +47,7 @@ pub enum Body {
 }
 
 // An enum can't hold an array, so the identifier and the two numbers of digits stand beside the body. A number of digits is its length, then its digits; one of no
-// digits is absent. What doesn't count is 0, or Absent, in what the reader makes: the identifier's bytes where the message has none, the places behind a
+// digits is absent. What doesn't count is 0, or None, in what the reader makes: the identifier's bytes where the message has none, the places behind a
 // number's last digit, the numbers and the service of a type that lacks them. Numbers stand in requests, and with the service in 5, 6, 9 and 10 in Setup.
 #[derive(Clone, Copy)]
 pub struct Message {
@@ -61,11 +61,12 @@ pub struct Message {
 }
 
 // What is wrong with some bytes: document 01's refusal, and the place in the slice that was given. The first byte of a number that is faulty or out of range;
-// a digit that is over 9; the length of the slice where the bytes end too early.
+// a digit that is over 9; the length of the slice where the bytes end too early. The place stands first: fields lie in the order of the source, and so no
+// number that was read (`Ok`) shares its two bytes with the one of a refusal (`Err`), which would split it.
 #[derive(Clone, Copy)]
 pub struct Fault {
-    pub refusal: Refusal,
     pub place: usize,
+    pub refusal: Refusal,
 }
 
 // The body of a request of a kind.

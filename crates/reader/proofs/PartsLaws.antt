@@ -20,9 +20,10 @@ use Rattle.message.specs.declared.Message.{Message}
 use Rattle.message.specs.declared.refusal.Refusal.TheVariants.{OutOfRange}
 use Rattle.message.proofs.CopiedLaws.{copied-whole}
 use Rattle.reader.specs.Parts.{carrier_at, head_behind, head_at, numbers_at, bare_body, has_numbers, tail_of, own_at}
-use Rattle.reader.specs.Answers.{fields_told, whole_read, identifier_copied}
+use Rattle.reader.specs.Answers.{bare_told, whole_told, whole_read, identifier_copied, bare_message}
 use Rattle.reader.specs.declared.Head.{Head}
-use Rattle.reader.specs.declared.FieldsRead.{FieldsRead}
+use Rattle.reader.specs.declared.Numbered.{Numbered}
+use Rattle.reader.specs.declared.Tail.{Tail}
 
 -- what holds of a number holds of any that is it
 by_number : (P : ℕ → Type 0) (t k : ℕ) → P k → (eqb t k ≡ false → P t) → P t
@@ -58,12 +59,21 @@ fields-numbers type carrier s at has = rw has at (fields-by type carrier s at)
 pub fields-own : (type : ℕ) (carrier : Carrier) (s : List ℕ) (at : ℕ) → has_numbers type carrier ≡ false → own_at type s at ≡ fields_at type carrier s at
 fields-own type carrier s at has = rw has at (fields-by type carrier s at)
 
-pub whole-told : (at : ℕ) (r : Read Fields) → fields_told at (whole_read r) ≡ r
-whole-told at (Ok (fields, next)) = refl
-whole-told at (Err fault) = refl
+pub whole-told : (r : Read Fields) → whole_told (whole_read r) ≡ r
+whole-told (Ok (fields, next)) = refl
+whole-told (Err fault) = refl
 
-pub fields_told_lem : (at : ℕ) (r known : Result (FieldsRead × ℕ) Fault) (definition : Read Fields) → fields_told at r ≡ definition → r ≡ known → definition ≡ fields_told at known
-fields_told_lem at r known definition told is = sym told ∙ ap (fields_told at) is
+-- what the answer for the fields tells of a message that has numbers, and of one that has none
+pub numbers_told_lem :
+    (type : ℕ) (carrier : Carrier) (s : List ℕ) (at : ℕ) (has : Tail) (r known : Result (Numbered × ℕ) Fault) →
+    has_numbers type carrier ≡ true → has ≡ tail_of type → r ≡ whole_read (numbers_at has s at) → r ≡ known → fields_at type carrier s at ≡ whole_told known
+numbers_told_lem type carrier s at has r known numbered tail e is =
+    sym (fields-numbers type carrier s at numbered) ∙ sym (whole-told _) ∙ ap whole_told (rw (← tail) (sym e ∙ is))
+
+pub own_told_lem :
+    (type : ℕ) (carrier : Carrier) (s : List ℕ) (at : ℕ) (r known : Result (Body × ℕ) Fault) →
+    has_numbers type carrier ≡ false → bare_told at r ≡ own_at type s at → r ≡ known → fields_at type carrier s at ≡ bare_told at known
+own_told_lem type carrier s at r known bare e is = sym (fields-own type carrier s at bare) ∙ sym e ∙ ap (bare_told at) is
 
 -- ---- the message behind its head
 abbrev pub behind_fields : Head → List ℕ → ℕ → Read Fields → Read Message
@@ -112,15 +122,7 @@ message-told s h from r e f = message-head s ∙ rw (e, f)
 pub message-bare :
     (s : List ℕ) (h : Head) (from : ℕ) (body : Body) (next : ℕ) → head_at s ≡ took h from → fields_at h.typeNumber h.carrier s from ≡ plain_at from body next →
     message_at s ≡
-    took (record {
-      carrier = h.carrier;
-      identified = h.identified;
-      identifier = identifier_copied h.identified s h.at;
-      numberA = replicate 16 0;
-      numberB = replicate 16 0;
-      service = None;
-      body = body;
-    }) next
+    took (bare_message h.carrier h.identified (identifier_copied h.identified s h.at) body) next
 message-bare s h from body next e f =
     let none : from - from ≡ 0 = omega arith in
     rw (message-told s h from _ e f, none)

@@ -5,9 +5,9 @@
 ghost use Rattle.std.specs.Prelude.{◌≡◌, ◌≤◌, ◌+◌, length};
 ghost use Rattle.lists.specs.Choice.{pick};
 ghost use Rattle.message.specs.Reading.{took, refused as refused_with};
-ghost use Rattle.message.specs.Wire.{identified_at, request_tail, elements_tail, fields_at, message_with, message_at};
+ghost use Rattle.message.specs.Wire.{identified_at, request_tail, elements_tail, message_with, message_at};
 ghost use Rattle.reader.specs.Parts.{carrier_at, tail_at, numbers_at, bare_body, has_numbers, tail_of, own_at, head_behind, head_at};
-ghost use Rattle.reader.specs.Answers.{numbered_fields, fields_told, whole_read, identifier_copied, read_answer};
+ghost use Rattle.reader.specs.Answers.{numbered_fields, bare_told, whole_read, identifier_copied, bare_message, read_answer};
 
 use message::copied::copy_between;
 use message::digits::read_digits;
@@ -18,10 +18,10 @@ use message::{Body, Carrier, Fault, Kind, Message, has_elements, request_body};
 // What every message begins with; its identifier, where it has one, stands at the place.
 #[derive(Clone, Copy)]
 struct Head {
+    at: usize,
     typeNumber: u16,
     carrier: Carrier,
     identified: bool,
-    at: usize,
 }
 
 // The fields of a message with numbers of digits: the places behind numberA and numberB, the service and the body.
@@ -31,13 +31,6 @@ struct Numbered {
     behindB: usize,
     service: Option<u64>,
     body: Body,
-}
-
-// A body without numbers, or fields with them. A body alone has a case of its own, so that nothing is copied for it.
-#[derive(Clone, Copy)]
-enum FieldsRead {
-    Bare(Body),
-    Whole(Numbered),
 }
 
 // What follows the two numbers: service and flags of a request, or the service of a body with elements.
@@ -79,7 +72,7 @@ fn request_tail(
     s: &[u8],
     behindA: usize,
     behindB: usize,
-) -> Result<(FieldsRead, usize), Fault>
+) -> Result<(Numbered, usize), Fault>
     ensures { result ≡ whole_read (request_tail kind s.now behindA behindB) }
 {
     let (service, after) = read_field(s, behindB, 0, 16383)?;
@@ -92,7 +85,7 @@ fn request_tail(
         service: None,
         body,
     };
-    Ok((FieldsRead::Whole(read), next))
+    Ok((read, next))
 }
 
 // The service, behind the two numbers.
@@ -102,7 +95,7 @@ fn elements_tail(
     s: &[u8],
     behindA: usize,
     behindB: usize,
-) -> Result<(FieldsRead, usize), Fault>
+) -> Result<(Numbered, usize), Fault>
     ensures { result ≡ whole_read (elements_tail body s.now behindA behindB) }
 {
     let (v, next) = read_field(s, behindB, 0, 16383)?;
@@ -112,7 +105,7 @@ fn elements_tail(
         service: Some(v as u64),
         body,
     };
-    Ok((FieldsRead::Whole(read), next))
+    Ok((read, next))
 }
 
 fn behind_numbers(
@@ -120,7 +113,7 @@ fn behind_numbers(
     s: &[u8],
     behindA: usize,
     behindB: usize,
-) -> Result<(FieldsRead, usize), Fault>
+) -> Result<(Numbered, usize), Fault>
     ensures { result ≡ whole_read (tail_at has s.now behindA behindB) }
 {
     match has {
@@ -131,7 +124,7 @@ fn behind_numbers(
 
 // numberA and numberB, and what follows them.
 #[tactic(auto, unfolding(crate::specs::Parts::numbers_at))]
-fn numbers(has: Tail, s: &[u8], at: usize) -> Result<(FieldsRead, usize), Fault>
+fn numbers(has: Tail, s: &[u8], at: usize) -> Result<(Numbered, usize), Fault>
     ensures { result ≡ whole_read (numbers_at has s.now at) }
 {
     let behindA = read_digits(s, at, 0)?;
@@ -187,52 +180,27 @@ fn tail_of(typeNumber: u16) -> Tail
 
 // The one field of a message without numbers, or nothing.
 #[tactic(auto, unfolding(crate::specs::Parts::own_at))]
-fn own_field(typeNumber: u16, s: &[u8], at: usize) -> Result<(FieldsRead, usize), Fault>
-    ensures { fields_told at result ≡ own_at typeNumber s.now at }
+fn own_field(typeNumber: u16, s: &[u8], at: usize) -> Result<(Body, usize), Fault>
+    ensures { bare_told at result ≡ own_at typeNumber s.now at }
 {
     match typeNumber {
         3 => {
             let (v, next) = read_field(s, at, 0, 1)?;
-            Ok((
-                FieldsRead::Bare(Body::RequestResult { keep: v as u8 }),
-                next,
-            ))
+            Ok((Body::RequestResult { keep: v as u8 }, next))
         }
         4 => {
             let (v, next) = read_field(s, at, 1, 2)?;
-            Ok((
-                FieldsRead::Bare(Body::RequestError { error: v as u8 }),
-                next,
-            ))
+            Ok((Body::RequestError { error: v as u8 }, next))
         }
         7 => {
             let (v, next) = read_field(s, at, 1, 2)?;
-            Ok((
-                FieldsRead::Bare(Body::RingoutError { error: v as u8 }),
-                next,
-            ))
+            Ok((Body::RingoutError { error: v as u8 }, next))
         }
         _ => {
             let body = bare_body(typeNumber);
-            Ok((FieldsRead::Bare(body), at))
+            Ok((body, at))
         }
     }
-}
-
-// What stands behind the identifier. It is asked first whether there are numbers, so that they are read in one place.
-fn fields(
-    typeNumber: u16,
-    carrier: Carrier,
-    s: &[u8],
-    at: usize,
-) -> Result<(FieldsRead, usize), Fault>
-    ensures { fields_told at result ≡ fields_at typeNumber carrier s.now at }
-{
-    if has_numbers(typeNumber, carrier) {
-        let has = tail_of(typeNumber);
-        return numbers(has, s, at);
-    }
-    own_field(typeNumber, s, at)
 }
 
 fn refused(fault: Fault) -> Answer
@@ -280,32 +248,22 @@ fn copy_identifier(s: &[u8], identified: bool, at: usize) -> [u8; 16]
 }
 
 // A message with numbers: they are copied, each in sixteen places.
-fn with_numbers(
-    carrier: Carrier,
-    identified: bool,
-    s: &[u8],
-    at: usize,
-    from: usize,
-    read: Numbered,
-    next: usize,
-) -> Answer
-    requires identified_in_bounds { at + pick identified 16 0 ≤ length s.now }
+fn with_numbers(h: Head, s: &[u8], from: usize, read: Numbered, next: usize) -> Answer
+    requires identified_in_bounds { h.at + pick h.identified 16 0 ≤ length s.now }
     requires behind_a_bound { (read.behindA ≤ from + 16) × (read.behindB ≤ read.behindA + 16) }
-    ensures { result ≡ read_answer (took (message_with carrier identified (identifier_copied identified s.now at) s.now from (numbered_fields read)) next) }
+    ensures { result ≡ read_answer (took (message_with h.carrier h.identified (identifier_copied h.identified s.now h.at) s.now from (numbered_fields read)) next) }
 {
-    let identifier = copy_identifier(s, identified, at);
+    let identifier = copy_identifier(s, h.identified, h.at);
     let numberA = copy_between(s, from, read.behindA);
     let numberB = copy_between(s, read.behindA, read.behindB);
-    let service = read.service;
-    let body = read.body;
     let message = Message {
-        carrier,
-        identified,
+        carrier: h.carrier,
+        identified: h.identified,
         identifier,
         numberA,
         numberB,
-        service,
-        body,
+        service: read.service,
+        body: read.body,
     };
     Answer {
         verdict: Ok(next),
@@ -353,26 +311,29 @@ fn read_head(s: &[u8]) -> Result<(Head, usize), Fault>
     head_behind(typeNumber, carrier, s, behind)
 }
 
-// One message from the front: total on every slice. Each answer is made and returned here, in a place of its own: where two come together before they are returned,
-// both are copied.
-#[tactic(auto, using(crate::proofs::PartsLaws::fields_told_lem))]
+// One message from the front: total on every slice. It is asked first whether there are numbers, so that they are read in one place. Each answer is made and returned here,
+// in a place of its own: where two come together before they are returned, both are copied.
 pub fn read(s: &[u8]) -> Answer
     ensures { result ≡ read_answer (message_at s.now) }
 {
     match read_head(s) {
         Err(fault) => return refused(fault),
         Ok((h, from)) => {
-            let carrier = h.carrier;
-            let identified = h.identified;
-            let at = h.at;
-            match fields(h.typeNumber, carrier, s, from) {
+            if has_numbers(h.typeNumber, h.carrier) {
+                let has = tail_of(h.typeNumber);
+                match numbers(has, s, from) {
+                    Err(fault) => return refused(fault),
+                    Ok((read, next)) => return with_numbers(h, s, from, read, next),
+                }
+            }
+            match own_field(h.typeNumber, s, from) {
                 Err(fault) => return refused(fault),
-                Ok((FieldsRead::Bare(body), next)) => {
-                    let identifier = copy_identifier(s, identified, at);
+                Ok((body, next)) => {
+                    let identifier = copy_identifier(s, h.identified, h.at);
                     let blank = [0u8; 16];
                     let message = Message {
-                        carrier,
-                        identified,
+                        carrier: h.carrier,
+                        identified: h.identified,
                         identifier,
                         numberA: blank,
                         numberB: blank,
@@ -383,9 +344,6 @@ pub fn read(s: &[u8]) -> Answer
                         verdict: Ok(next),
                         message,
                     };
-                }
-                Ok((FieldsRead::Whole(read), next)) => {
-                    return with_numbers(carrier, identified, s, at, from, read, next);
                 }
             }
         }

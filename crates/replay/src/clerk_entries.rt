@@ -1,22 +1,29 @@
 // The clerk's codes: an entry of the script is read as what the desk's door takes, and that is played on the desk and printed.
+ghost use Rattle.std.specs.Prelude.{◌≡◌};
+ghost use Rattle.replay.specs.Named.{clerk_named};
+
 use crate::clerk_lines::print_clerk;
-use crate::desk_entries::{play_bytes, play_start, play_step, play_tick};
-use crate::script::Script;
+use crate::desk_entries::{listed, play_bytes, play_start, play_step};
+use crate::script::{Named, Script};
 use crate::stop::{Stop, Unplayable};
+use crate::tick_line::{MOST_ROOM, UNTOUCHED, print_tick};
 use clerk::Desk;
-use clerk::entry::{Asking, Entry, act_entry, ask_entry, bytes_entry, timer_entry};
+use clerk::entry::{Asking, Entry, ask_entry, bytes_entry};
 use clerk::start::start;
-use clerk_table::inputs::Act;
-use clerk_table::table::Timer;
+use host_numbers::given::{clerk_act_given, timer_given};
+use host_numbers::identifiers::{bytes_given, is_given};
 use message::Kind;
+use message::refusal::Refusal;
 use std::io::Write;
+use ticks::clerk_tick::clerk_tick;
+use told::ticking::TOLD;
 
 // Code 16: its kind is 1 or 2.
 fn asking(script: &mut Script) -> Result<Asking, Unplayable> {
     let identifier = script.identifier()?;
     Ok(Asking {
-        identified: identifier.is_some(),
-        identifier: identifier.unwrap_or([0; 16]),
+        identified: is_given(identifier),
+        identifier: bytes_given(identifier),
         kind: match script.byte()? {
             1 => Kind::Ccbs,
             2 => Kind::Ccnr,
@@ -30,28 +37,23 @@ fn asking(script: &mut Script) -> Result<Asking, Unplayable> {
     })
 }
 
-// Codes 18 to 22: an act at this end, or a timer that ran out, on the request that is named.
-fn named(code: u8, script: &mut Script) -> Result<Entry, Unplayable> {
-    let name = script.name()?;
-    let act = match code {
-        18 => Act::Accept,
-        19 => match script.flag()? {
-            false => Act::Resume,
-            true => Act::GoOn,
+// Codes 18 to 22: an act at this end, or a timer that ran out, on the request that is named, by the numbers that hosts have for them. User A free is two acts, by the entry's choice.
+#[tactic(auto, unfolding(crate::specs::Named::clerk_named))]
+fn named_entry(code: u8, named: Named) -> Entry
+    ensures { result ≡ clerk_named code named.choice named.identifier named.place }
+{
+    let identifier = named.identifier;
+    let place = named.place;
+    match code {
+        18 => clerk_act_given(identifier, place, 1),
+        19 => match named.choice {
+            0 => clerk_act_given(identifier, place, 2),
+            1 => clerk_act_given(identifier, place, 3),
+            _ => Err(Refusal::OutOfRange),
         },
-        20 => Act::Cancel,
-        21 => return Ok(timer_entry(name, timer(script)?)),
-        _ => Act::Fell,
-    };
-    Ok(act_entry(name, act))
-}
-
-fn timer(script: &mut Script) -> Result<Timer, Unplayable> {
-    match script.byte()? {
-        1 => Ok(Timer::T1),
-        2 => Ok(Timer::T2),
-        3 => Ok(Timer::T3),
-        _ => Err(Unplayable),
+        20 => clerk_act_given(identifier, place, 4),
+        21 => timer_given(identifier, place, named.choice as u64),
+        _ => clerk_act_given(identifier, place, 5),
     }
 }
 
@@ -77,8 +79,17 @@ pub fn play_clerk<W: Write>(
             let read = bytes_entry(bytes, busy, place);
             play_bytes(out, number, desk, count, read, bytes.len())
         }
-        18..=22 => play_step(out, number, desk, count, named(code, script)?),
-        23 => play_tick(out, number, &mut desk.words, count, script),
+        18..=22 => {
+            let named = script.named(code == 19 || code == 21)?;
+            play_step(out, number, desk, count, listed(named_entry(code, named))?)
+        }
+        23 => {
+            let mut buffer = [UNTOUCHED; MOST_ROOM];
+            let lent = script.room(&mut buffer)?;
+            let mut told = [0; TOLD];
+            clerk_tick(&mut desk.words, count, lent, &mut told);
+            Ok(print_tick(out, number, &told, lent)?)
+        }
         64 => Ok(print_clerk(out, number, &desk.words)?),
         _ => Err(Stop::Unplayable),
     }

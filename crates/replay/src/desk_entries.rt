@@ -1,14 +1,11 @@
-// What the entries of both desks have in common: a start, a step and a tick.
+// What the entries of both desks have in common: a start, and a step.
 use crate::outcome_line::print_outcome;
-use crate::script::Script;
 use crate::stop::{Stop, Unplayable};
-use crate::tick_line::{MOST_ROOM, UNTOUCHED, print_tick};
 use desk::entry::BytesEntry;
 use desk::outcome::Stepped;
 use desk::steps::{Steps, step_read};
+use message::refusal::Refusal;
 use std::io::Write;
-use ticks::ticking::{Ticking, tick};
-use told::ticking::TOLD;
 
 // A refused start leaves the desk as it was.
 pub fn play_start<W: Write, D: Copy>(
@@ -22,6 +19,14 @@ pub fn play_start<W: Write, D: Copy>(
         *desk = started.desk;
     }
     Ok(())
+}
+
+// An entry of numbers that stand for something; others aren't listed.
+pub fn listed<I: Copy>(entry: Result<I, Refusal>) -> Result<Result<I, Refusal>, Unplayable> {
+    if entry.is_err() {
+        return Err(Unplayable);
+    }
+    Ok(entry)
 }
 
 // What the desk is given.
@@ -48,20 +53,4 @@ pub fn play_bytes<W: Write, D: Steps>(
     let answer = step_read(desk, count, read);
     let left = length.saturating_sub(answer.next);
     Ok(print_outcome(out, number, answer.outcome, left, answer.fault)?)
-}
-
-// A tick that is lent the last bytes of a buffer, as many as its room says, and what is told of it.
-pub fn play_tick<W: Write, T: Ticking>(
-    out: &mut W,
-    number: usize,
-    words: &mut T,
-    count: u32,
-    script: &mut Script,
-) -> Result<(), Stop> {
-    let room = usize::from(script.two()?);
-    let from = MOST_ROOM.checked_sub(room).ok_or(Unplayable)?;
-    let mut buffer = [UNTOUCHED; MOST_ROOM];
-    let mut told = [0; TOLD];
-    tick(words, count, &mut buffer[from..], &mut told);
-    Ok(print_tick(out, number, &told, &buffer[from..])?)
 }

@@ -55,15 +55,17 @@ impl Fields {
         }
     }
 
-    // Bytes in hexadecimal, `-` for none.
+    // Bytes in hexadecimal, `-` for none. A field has at most 255 bytes, those of a write's buffer; they are put at once, since a page looks for room each time.
     pub fn put_hex(&mut self, bytes: &[u8]) {
         if bytes.is_empty() {
             return self.put_text(b" -");
         }
-        self.put_text(b" ");
-        for byte in bytes {
-            self.put_text(&[hex_digit(*byte / 16), hex_digit(*byte)]);
+        let mut text = [b' '; 511];
+        let (pairs, _) = text[1..].as_chunks_mut::<2>();
+        for (pair, byte) in pairs.iter_mut().zip(bytes) {
+            *pair = [hex_digit(*byte / 16), hex_digit(*byte)];
         }
+        self.put_text(part(&text, 0, 1 + 2 * bytes.len().min(255)));
     }
 
     // A number of digits, its length in front: the digits as themselves, `-` for none.

@@ -2,8 +2,15 @@
 // stands there is not listed, the entry can't be played.
 use crate::stop::Unplayable;
 use clerk::start::Lengths;
-use lists::words::Words;
-use terms::request::Name;
+use host_numbers::identifiers::BYTES;
+
+// How an entry names a request, by its identifier and by a place, which is always there; and what is chosen for it.
+#[derive(Clone, Copy)]
+pub struct Named {
+    pub identifier: [u8; BYTES],
+    pub place: u64,
+    pub choice: u8,
+}
 
 #[derive(Drop)]
 pub struct Script<'a> {
@@ -75,33 +82,44 @@ impl<'a> Script<'a> {
         self.bytes(usize::from(count))
     }
 
+    // A length, and as many of so many bytes as have places behind it; the others are 0.
+    fn behind_length<const N: usize>(&mut self, length: u8) -> Result<[u8; N], Unplayable> {
+        let given = self.bytes(usize::from(length))?;
+        let mut filled = [0; N];
+        for (place, byte) in filled.iter_mut().zip([length].iter().chain(given)) {
+            *place = *byte;
+        }
+        Ok(filled)
+    }
+
     // A number of digits: its length, in range or not, and the first fifteen of its digits.
     pub fn digits(&mut self) -> Result<[u8; 16], Unplayable> {
         let length = self.byte()?;
-        let given = self.bytes(usize::from(length))?;
-        let mut digits = [0; 16];
-        digits[0] = length;
-        for (digit, byte) in digits[1..].iter_mut().zip(given) {
-            *digit = *byte;
-        }
-        Ok(digits)
+        self.behind_length(length)
     }
 
-    // An identifier, a byte 0 or 16 and so many bytes, or none.
-    pub fn identifier(&mut self) -> Result<Option<[u8; 16]>, Unplayable> {
-        match self.byte()? {
-            0 => Ok(None),
-            16 => Ok(Some(self.array()?)),
-            _ => Err(Unplayable),
+    // An identifier as hosts give it: a byte 0 or 16 and so many bytes.
+    pub fn identifier(&mut self) -> Result<[u8; BYTES], Unplayable> {
+        let length = self.byte()?;
+        if length != 0 && length != 16 {
+            return Err(Unplayable);
         }
+        self.behind_length(length)
     }
 
-    // How a host names a request: by its identifier, and by a place, which is always there.
-    pub fn name(&mut self) -> Result<Name, Unplayable> {
-        let identifier = self.identifier()?;
-        Ok(Name {
-            identifier: identifier.map(|bytes| Words::from(bytes)),
-            place: self.place()?,
+    // A name, and behind it the choice of an entry that has one, 0 else.
+    pub fn named(&mut self, isChosen: bool) -> Result<Named, Unplayable> {
+        Ok(Named {
+            identifier: self.identifier()?,
+            place: u64::from(self.byte()?),
+            choice: if isChosen { self.byte()? } else { 0 },
         })
+    }
+
+    // The last bytes of a buffer, as many as are said to be lent of it.
+    pub fn room<'b>(&mut self, buffer: &'b mut [u8]) -> Result<&'b mut [u8], Unplayable> {
+        let room = usize::from(self.two()?);
+        let from = buffer.len().checked_sub(room).ok_or(Unplayable)?;
+        Ok(&mut buffer[from..])
     }
 }

@@ -8,5 +8,5 @@ pub returns : goal.returns
 returns c =
     let a = c.args in
     λ count timer.
-    rw (c.remove.ensures, c.timers_running-stops.ensures, c.sent_on-sending.ensures, c.load-r.ensures)
+    rw (c.remove.ensures, c.timers_running-stops.ensures, c.cancel_of-sending.ensures, c.load-r.ensures)
     (ends-made a.words.now count a.at (get_or (records a.words.now) a.at blank) timer)
